@@ -1,0 +1,2 @@
+pub mod RightSets
+pub mod Words
