@@ -23,6 +23,16 @@ letter List = codes "l"
 letter Create = codes "c"
 letter Delete = codes "d"
 
+-- the right whose long word this is, exactly
+unfoldable pub right_named : std.List ℕ → Option Right
+right_named word =
+    if bytes_eq word (long_word Read) then Some Read
+    else if bytes_eq word (long_word Write) then Some Write
+    else if bytes_eq word (long_word List) then Some List
+    else if bytes_eq word (long_word Create) then Some Create
+    else if bytes_eq word (long_word Delete) then Some Delete
+    else None
+
 -- whether a word in lower case is the right's long word or its letter
 abbrev pub is_word_for : std.List ℕ → Right → Bool
 is_word_for word right = bytes_eq word (long_word right) || bytes_eq word (letter right)

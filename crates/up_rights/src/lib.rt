@@ -3,7 +3,7 @@
 
 ghost use Rattle.std.specs.Prelude.{◌≡◌, ◌||◌, not};
 ghost use Rattle.up_rights.specs.RightSets.{has_any, has_right, with_right, no_rights, all_rights};
-ghost use Rattle.up_rights.specs.Words.{long_word, rights_of};
+ghost use Rattle.up_rights.specs.Words.{long_word, right_named, rights_of};
 ghost use Rattle.std.specs.Str.{bytes_eq, str_to_ascii_lowercase};
 
 use std::marker::Model;
@@ -29,6 +29,26 @@ impl Right {
             Right::List => "list",
             Right::Create => "create",
             Right::Delete => "delete",
+        }
+    }
+
+    /// The right whose long word this is, exactly: in lower case, and no letter. `None` for any other word.
+    #[tactic(auto, unfolding(crate::specs::Words::right_named))]
+    pub fn from_word(word: &[u8]) -> Option<Right>
+        ensures { result ≡ right_named word.now }
+    {
+        if word == b"read".as_slice() {
+            Some(Right::Read)
+        } else if word == b"write".as_slice() {
+            Some(Right::Write)
+        } else if word == b"list".as_slice() {
+            Some(Right::List)
+        } else if word == b"create".as_slice() {
+            Some(Right::Create)
+        } else if word == b"delete".as_slice() {
+            Some(Right::Delete)
+        } else {
+            None
         }
     }
 }
