@@ -1,0 +1,97 @@
+-- Laws of the definitions alone: a path that some text names is named by its canonical text.
+use Rattle.std.proofs.Common.{◌≡◌, ℕ, ◌+◌, ◌-◌, ◌<◌, ◌≤◌, Bool, true, false, cond, not, nat_lt, ◌++◌, inl, inr, List, [], ◌∷◌, length, refl, sym, ap, subst, ◌∙◌, arith, Option, Some, None, Result, Ok, Err}
+use Rattle.std.specs.List.{list_all, list_any, before_first, after_first, slice_split}
+use Rattle.std.proofs.lemmas.Bool.{ltb-false, not-false, cases_lt}
+use Rattle.std.proofs.lemmas.List.{length-append, nil_from_length}
+use Rattle.up_names.specs.declared.faults.NameFault.{NameFault}
+use Rattle.up_names.specs.declared.faults.NameFault.TheVariants.{TooLong, Element}
+use Rattle.up_names.specs.PathNames.{PathName, is_slash, is_element, is_name, cleaned, pieces_of, first_bad, path_from, path_of, canonical, cut, extended, joined}
+use Rattle.up_names.specs.PathParts.{IsCanonical, after_piece}
+use Rattle.up_names.specs.UserNames.{user_of}
+use Rattle.up_names.proofs.Owners.{peel, at_most_254, no_longer}
+use Rattle.up_names.proofs.UserLemmas.{user_of-again}
+use Rattle.up_names.proofs.Firsts.{length-parts}
+use Rattle.up_names.proofs.PathLaws.{IsProper, IsReadFrom, read_from, cleaned-names, first_bad-all, proper-canonical, canonical-proper, canonical-injective}
+use Rattle.up_names.proofs.PathEdits.{cut_proper, extended_proper}
+use Rattle.up_names.proofs.PathPieces.{Going, going_begins, going_on, going_short}
+
+-- all pieces taken, none of them bad
+module _ {owner : List ℕ} {start : ℕ} {all : List (List ℕ)} where
+  taken_all : (path : PathName) (place : ℕ) (rest : List (List ℕ)) → Going owner start all path place rest → first_bad place rest ≡ None → (last : PathName) × (end : ℕ) × Going owner start all last end []
+  taken_all path place [] g none = (path, place, g)
+  taken_all path place (piece ∷ rest) g none =
+      elim (is_element piece) as (λ b. is_element piece ≡ b → cond b (first_bad (place + length piece + 1) rest) (Some place) ≡ None → (last : PathName) × (end : ℕ) × Going owner start all last end []) [
+        | true ↦ λ good none.
+            taken_all (after_piece path piece) (place + (length piece + 1)) rest (going_on g good (after_piece path piece) refl (place + (length piece + 1)) refl)
+            (ap (λ n. first_bad n rest) (let n : place + (length piece + 1) ≡ place + length piece + 1 = omega arith in n) ∙ none)
+        | false ↦ λ _ none. absurd (some-none place none)
+      ] refl none
+    where
+      some-none : (n : ℕ) → Some n ≡ None → ⊥
+      some-none n e = cc
+
+root_short : (path : PathName) → length path.owner ≤ 254 → length path.elements ≡ 0 → length (canonical path) ≤ 4096
+root_short path short none =
+    subst (λ es. length (canonical (record { owner = path.owner; elements = es })) ≤ 4096) (sym (nil_from_length path.elements none)) (omega (arith, length-append path.owner (47 ∷ [])))
+
+-- what the pieces of a text of at most 4,096 bytes make is short enough to be a text itself
+pieces_short : (before behind : List ℕ) (path : PathName) → length before + 1 + length behind ≤ 4096
+    → IsReadFrom (length before + 1) (slice_split is_slash behind) (user_of before) path → 0 < length path.elements → length (canonical path) ≤ 4096
+pieces_short before behind path fits read some =
+    let begun = going_begins path.owner (length before + 1) behind (omega (arith, no_longer before path.owner read.owner)) fits in
+    let taken = taken_all (record { owner = path.owner; elements = [] }) (length before + 1) (slice_split is_slash behind) begun read.good in
+    let last = taken.0 in
+    let same : last ≡ path = ap (λ o. record { owner = o; elements = last.elements }) taken.2.owned
+    ∙ ap (λ es. record { owner = path.owner; elements = es }) (taken.2.kept ∙ sym read.elements) in
+    subst (λ p. length (canonical p) ≤ 4096) same (going_short taken.2 (omega (arith, ap (λ (p : PathName). length p.elements) same)))
+
+short_again : (text : List ℕ) (path : PathName) → length text ≤ 4096
+    → IsReadFrom (length (before_first is_slash text) + 1) (pieces_of text) (user_of (before_first is_slash text)) path → length (canonical path) ≤ 4096
+unfolding pieces_of cleaned
+short_again text path fits read =
+    let before = before_first is_slash text in
+    let behind = after_first is_slash text in
+    let Read : Bool → Type 0 = λ b. IsReadFrom (length before + 1) (cond b (slice_split is_slash behind) []) (user_of before) path in
+    elim (cases_lt 0 (length path.elements)) [
+      | inr none ↦ root_short path (at_most_254 before path.owner read.owner) (omega arith)
+      | inl some ↦ elim (list_any is_slash text) as (λ b. list_any is_slash text ≡ b → Read b → length (canonical path) ≤ 4096) [
+        | true ↦ λ slash read.
+            let parts = length-parts is_slash text behind (ap (λ b. cond b (Some behind) None) slash) in
+            pieces_short before behind path (omega (arith, parts)) read some
+        | false ↦ λ _ read. absurd (omega (arith, ap length read.elements))
+      ] refl read
+    ]
+
+-- A path that some text names is named by its canonical text.
+pub path_of-again : (text : List ℕ) (path : PathName) → path_of text ≡ Ok path → IsCanonical path
+unfolding path_of
+path_of-again text path e =
+    let fits = peel _ _ _ _ e in
+    let read = read_from _ _ _ path fits.1 in
+    proper-canonical path (record {
+      owner = user_of-again (before_first is_slash text) path.owner read.owner;
+      names = ap (list_all is_name) read.elements ∙ cleaned-names (pieces_of text) (first_bad-all _ (pieces_of text) read.good);
+      short = short_again text path (ltb-false 4096 (length text) fits.0) read;
+    })
+
+-- Canonical paths of one text are one path.
+pub canonical-apart : (p q : PathName) → IsCanonical p → IsCanonical q → canonical p ≡ canonical q → p ≡ q
+canonical-apart p q of_p of_q = canonical-injective p q (canonical-proper p of_p) (canonical-proper q of_q)
+
+-- The first elements of a canonical path make a canonical path, and so does a further one where it may be joined.
+pub cut-canonical : (n : ℕ) (path : PathName) → IsCanonical path → IsCanonical (cut n path)
+cut-canonical n path of_path = proper-canonical (cut n path) (cut_proper n path (canonical-proper path of_path))
+
+pub joined-canonical : (path longer : PathName) (element : List ℕ) → IsCanonical path → joined path element ≡ Ok longer → IsCanonical longer
+unfolding joined
+joined-canonical path longer element of_path e =
+    let named = joined_peel (not (is_name element)) (Element 0) _ longer e in
+    let fits = joined_peel (nat_lt 4096 (length (canonical (extended path element)))) (TooLong (length (canonical (extended path element)))) (Ok (extended path element)) longer named.1 in
+    subst IsCanonical (ok_same (extended path element) longer fits.1)
+    (proper-canonical (extended path element) (extended_proper path element (canonical-proper path of_path) (not-false _ named.0) (ltb-false 4096 _ fits.0)))
+  where
+    joined_peel : (refuses : Bool) (fault : NameFault) (rest : Result PathName NameFault) (path : PathName) → cond refuses (Err fault) rest ≡ Ok path → (refuses ≡ false) × (rest ≡ Ok path)
+    joined_peel refuses fault rest path e = peel refuses fault rest path e
+
+    ok_same : (p q : PathName) → ◌≡◌ {A = Result PathName NameFault} (Ok p) (Ok q) → p ≡ q
+    ok_same p q e = cc

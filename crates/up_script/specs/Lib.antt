@@ -1,0 +1,3 @@
+pub mod CanLines
+pub mod CanRuns
+pub mod Statuses

@@ -1,0 +1,162 @@
+//! `upspin can`: a script in, verdicts out.
+ghost use Rattle.std.specs.Prelude.{◌≡◌, ◌+◌, ◌-◌, ◌<◌, ◌≤◌, ◌^◌, ◌↔◌, ◌∷◌, [], ◌==◌, ◌++◌, map, false, OnOk, IfSome, IfOk, IsErrOf, IsTrue, string_bytes};
+ghost use Rattle.std.specs.List.{list_any};
+ghost use Rattle.std.specs.Io.KnownBytes.{Appends};
+ghost use Rattle.up_ends.specs.Counts.{Rose};
+ghost use Rattle.up_ends.specs.Writing.{WritesPart};
+ghost use Rattle.up_script.specs.CanRuns.{bad_line, run_of};
+ghost use Rattle.up_script.specs.Statuses.{Answers, IsOneOf, answer_of, can_answer, code_of, input_limit, is_can, usage_line};
+
+use crate::can_lines::CanTree;
+use crate::output::{Stop, finish, print};
+use crate::status::Status;
+use std::alloc::{AllocError, Global};
+use up_ends::{ReadFault, Sink, Source, read_all, write_all};
+use up_text::next_line;
+
+/// The most bytes that a script may have.
+const INPUT_LIMIT: u64 = 67_108_864;
+
+/// What is printed where the words are not those of a command.
+const USAGE: &str =
+    "usage: upspin can | script HELPER | storm SEED SESSIONS REQUESTS [--full] | serve OPTIONS\n";
+
+/// Runs `upspin can`, whose words begin with the command's own: reads a script to its end, and then prints for each
+/// question in it, in order, whether that user has that right on that path.
+///
+/// It answers a status: 0 at the end of the input, 1 at the first malformed line, with `bad line N` printed last, 2 and
+/// 3 where the source or the sink failed, 4 for want of memory, 7 for an input of over 67,108,864 bytes, and 64 where
+/// the words are not `can` alone, with the usage line printed. After 2 and 7 nothing was written, after 3 and 4 a front
+/// of the text.
+pub fn can_run<S: Source, K: Sink>(
+    alloc: Global,
+    words: &[String],
+    source: &mut S,
+    sink: &mut K,
+) -> u8
+    // Where the source tells its bytes and the sink what it holds, what is written is the meaning of these bytes.
+    ensures meaning { IfSome (S.left source.old) (λ input.
+        Answers (K.held sink.old) (K.held sink.new) (can_answer (map string_bytes words.now) input) result) }
+
+    // For every source and sink: the statuses that come, and the cause of each.
+    ensures statuses { IsOneOf (0 ∷ 1 ∷ 2 ∷ 3 ∷ 4 ∷ 7 ∷ 64 ∷ []) result }
+    ensures usage { is_can (map string_bytes words.now) ≡ false → IsOneOf (3 ∷ 64 ∷ []) result × (source.new ≡ source.old) }
+    ensures usage_only { result ≡ 64 → is_can (map string_bytes words.now) ≡ false }
+    ensures read_fault { result ≡ 2 → Rose (S.faults source.old) (S.faults source.new) }
+    ensures write_fault { result ≡ 3 → Rose (K.faults sink.old) (K.faults sink.new) }
+    ensures too_long { result ≡ 7 → S.given source.old + input_limit < 2 ^ 64 - 1 → S.given source.old + input_limit < S.given source.new }
+    ensures too_long_always { S.given source.old + input_limit < 2 ^ 64 - 1 → S.given source.old + input_limit < S.given source.new → result ≡ 7 }
+    ensures unread { result ≡ 2 → K.held sink.new ≡ K.held sink.old }
+    ensures unwritten { result ≡ 7 → K.held sink.new ≡ K.held sink.old }
+    ensures source_counts { S.faults source.old ≤ S.faults source.new }
+    ensures sink_counts { K.faults sink.old ≤ K.faults sink.new }
+{
+    can_status(alloc, words, source, sink).code()
+}
+
+fn can_status<S: Source, K: Sink>(
+    alloc: Global,
+    words: &[String],
+    source: &mut S,
+    sink: &mut K,
+) -> Status
+    ensures meaning { IfSome (S.left source.old) (λ input.
+        Answers (K.held sink.old) (K.held sink.new) (can_answer (map string_bytes words.now) input) (code_of result)) }
+    ensures usage { is_can (map string_bytes words.now) ≡ false → IsOneOf (3 ∷ 64 ∷ []) (code_of result) × (source.new ≡ source.old) }
+    ensures usage_only { code_of result ≡ 64 → is_can (map string_bytes words.now) ≡ false }
+    ensures read_fault { code_of result ≡ 2 → Rose (S.faults source.old) (S.faults source.new) }
+    ensures write_fault { code_of result ≡ 3 → Rose (K.faults sink.old) (K.faults sink.new) }
+    ensures too_long { code_of result ≡ 7 → S.given source.old + input_limit < 2 ^ 64 - 1 → S.given source.old + input_limit < S.given source.new }
+    ensures too_long_always { S.given source.old + input_limit < 2 ^ 64 - 1 → S.given source.old + input_limit < S.given source.new → code_of result ≡ 7 }
+    ensures unread { code_of result ≡ 2 → K.held sink.new ≡ K.held sink.old }
+    ensures unwritten { code_of result ≡ 7 → K.held sink.new ≡ K.held sink.old }
+    ensures source_counts { S.faults source.old ≤ S.faults source.new }
+    ensures sink_counts { K.faults sink.old ≤ K.faults sink.new }
+{
+    if !is_can(words) {
+        return usage(sink);
+    }
+    match read_all(alloc, source, INPUT_LIMIT) {
+        Ok(input) => script_status(alloc, &input, sink),
+        Err(ReadFault::TooLong) => Status::TooLong,
+        Err(ReadFault::Failed) => Status::ReadFault,
+        Err(ReadFault::OutOfMemory) => Status::OutOfMemory,
+    }
+}
+
+/// Whether the words are those of `upspin can`.
+fn is_can(words: &[String]) -> bool
+    ensures { result ≡ is_can (map string_bytes words.now) }
+{
+    match words {
+        [word] => word.as_str() == "can",
+        _ => false,
+    }
+}
+
+/// Prints the usage line.
+fn usage<K: Sink>(sink: &mut K) -> Status
+    ensures status { IsOneOf (3 ∷ 64 ∷ []) (code_of result) }
+    ensures whole { code_of result ≡ 64 → Appends (K.held sink.old) (K.held sink.new) usage_line }
+    ensures part { WritesPart (K.held sink.old) (K.held sink.new) usage_line }
+    ensures cause { code_of result ≡ 3 → Rose (K.faults sink.old) (K.faults sink.new) }
+    ensures later { K.faults sink.old ≤ K.faults sink.new }
+{
+    match write_all(sink, USAGE.as_bytes()) {
+        Ok(()) => Status::Usage,
+        Err(_) => Status::WriteFault,
+    }
+}
+
+/// Runs a script that was read whole, and answers how that ended.
+fn script_status<K: Sink>(alloc: Global, input: &[u8], sink: &mut K) -> Status
+    ensures answers { Answers (K.held sink.old) (K.held sink.new) (answer_of (run_of input.now)) (code_of result) }
+    ensures status { IsOneOf (0 ∷ 1 ∷ 3 ∷ 4 ∷ []) (code_of result) }
+    ensures cause { code_of result ≡ 3 → Rose (K.faults sink.old) (K.faults sink.new) }
+    ensures later { K.faults sink.old ≤ K.faults sink.new }
+{
+    match run(alloc, input, sink) {
+        Ok(status) => status,
+        Err(Stop::WriteFault) => Status::WriteFault,
+        Err(Stop::OutOfMemory) => Status::OutOfMemory,
+    }
+}
+
+/// Runs a script's lines, and prints what they say.
+#[tactic(auto, unfolding(crate::specs::CanRuns::run_of))]
+fn run<K: Sink>(alloc: Global, input: &[u8], sink: &mut K) -> Result<Status, Stop>
+    ensures whole { IfOk result (λ status. Appends (K.held sink.old) (K.held sink.new) (run_of input.now).text) }
+    ensures status { IfOk result (λ status. code_of status ≡ (run_of input.now).status) }
+    ensures kind { IfOk result (λ status. IsOneOf (0 ∷ 1 ∷ []) (code_of status)) }
+    ensures part { WritesPart (K.held sink.old) (K.held sink.new) (run_of input.now).text }
+    ensures cause { IsErrOf result Stop.WriteFault → Rose (K.faults sink.old) (K.faults sink.new) }
+    ensures later { K.faults sink.old ≤ K.faults sink.new }
+{
+    let mut tree = CanTree::new();
+    let mut gathered = Vec::new(alloc);
+    let mut number: u64 = 1;
+    let mut rest = input;
+    while let Some((line, after)) = next_line(rest) {
+        let Some(reply) = tree.turn(alloc, line)? else {
+            let last = bad_line(alloc, number)?;
+            finish(sink, &mut gathered, &last)?;
+            return Ok(Status::BadLine);
+        };
+        print(sink, &mut gathered, reply)?;
+        number += 1;
+        rest = after;
+    }
+    finish(sink, &mut gathered, b"")?;
+    Ok(Status::Done)
+}
+
+/// The line that names a malformed one.
+fn bad_line(alloc: Global, number: u64) -> Result<Vec<u8>, AllocError>
+    ensures { IfOk result (λ line. line.items ≡ bad_line number) }
+{
+    let digits = number.to_string(alloc)?;
+    let mut line = b"bad line ".to_vec(alloc)?;
+    line.extend_from_slice(digits.as_bytes())?;
+    line.extend_from_slice(b"\n")?;
+    Ok(line)
+}
