@@ -3,6 +3,8 @@
 #![tactic(auto)]
 
 mod cases;
+#[cfg(test)]
+mod tests;
 
 use std::io;
 
