@@ -1,7 +1,19 @@
-//! Bytes: a list of bytes, as names, texts, words and records are handed about.
+//! Bytes, and the fields that records and messages are spelled with: what a writer appends and a reader takes.
 #![tactic(auto)]
 
 use up_lists::Items;
+
+mod fault;
+mod laws;
+mod leb128;
+mod reader;
+mod writer;
+
+pub use fault::FieldFault;
+pub use laws::{fields_are_forms, num_has_one_spelling};
+pub use leb128::{int_len, num_len};
+pub use reader::Reader;
+pub use writer::Writer;
 
 /// A list of bytes.
 pub type Bytes = Items<u8>;

@@ -1,13 +1,12 @@
 -- Lines and words taken off the front of a text.
-use Rattle.std.proofs.Common.{◌≡◌, ◌∙◌, ℕ, ◌+◌, ◌-◌, ◌<◌, ◌≤◌, Bool, true, false, not, cond, ltb, eqb, List, [], ◌∷◌, ◌++◌, length, take, drop, map, filter, refl, ap, sym, Option, Some, None, rules, arith, subst, length-drop, one-add, suc, get_or}
+use Rattle.std.proofs.Common.{◌≡◌, ◌∙◌, ℕ, ◌+◌, ◌-◌, ◌<◌, Bool, true, false, not, cond, List, [], ◌∷◌, length, take, drop, refl, ap, sym, Option, Some, None, arith, subst, one-add, suc, get_or}
 use denote.Ref.{Bor}
-use Rattle.std.proofs.Math.Seq.{take-length, drop-length, drop-cons}
+use Rattle.std.proofs.Math.Seq.{drop-length, drop-cons}
 use Rattle.std.proofs.lemmas.Bool.{ltb-true, not-true}
-use Rattle.std.proofs.lemmas.Bool.Decides.{nat_tests}
 use Rattle.std.proofs.Math.Numerals.{suc-eq-add-one}
 use Rattle.std.proofs.lemmas.List.Sums.{passes_at_first}
 use Rattle.std.proofs.lemmas.Slice.{between_to_end}
-use Rattle.std.specs.List.{list_any, before_first, after_first, position_or_len, position, slice_split}
+use Rattle.std.specs.List.{list_any, before_first, after_first, position_or_len, position}
 use Rattle.std.specs.Option.{MatchOption, option_copied}
 use Rattle.up_names.specs.ControlTexts.{control_lines, words_in, line_of, is_gap, is_line_feed}
 use Rattle.up_names.proofs.CutLemmas.{before_first-all, list_any-placed, place_is, no_place, position_or_len-none, slice_split-whole, slice_split-cut}

@@ -1,5 +1,5 @@
 -- Lists cut at the first element that passes a test, and lists split at each.
-use Rattle.std.proofs.Common.{◌≡◌, ℕ, zero, suc, ◌+◌, ◌-◌, ◌<◌, ◌≤◌, Bool, true, false, cond, not, ◌&&◌, ◌||◌, List, [], ◌∷◌, ◌++◌, length, take, drop, refl, sym, ap, subst, ◌∙◌, arith, count_by, one-add, Some, None}
+use Rattle.std.proofs.Common.{◌≡◌, ℕ, suc, ◌+◌, ◌<◌, Bool, true, false, cond, not, ◌||◌, List, [], ◌∷◌, ◌++◌, length, take, drop, refl, sym, ap, subst, ◌∙◌, arith, count_by, one-add, Some, None}
 use Rattle.std.specs.List.{list_all, list_any, before_first, after_first, slice_split, position_or_len, onto_first}
 use Rattle.std.proofs.lemmas.Bool.{and_parts, and_from, or_from, or_parts, or_left, or_right, not_from_false, not-true, false≢true, ltb-true}
 use Rattle.std.proofs.lemmas.List.{length-take, length-drop}

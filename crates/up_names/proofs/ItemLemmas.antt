@@ -1,5 +1,5 @@
 -- The user `all@upspin.io`, who is everyone.
-use Rattle.std.proofs.Common.{◌≡◌, ◌≢◌, ◌∙◌, ℕ, Bool, true, false, not, ◌&&◌, cond, eqb, ltb, List, [], ◌∷◌, ◌++◌, length, map, refl, ap, sym, subst, Option, Some, None, Result, Ok, Err, rules, arith, codes, length-append}
+use Rattle.std.proofs.Common.{◌≡◌, ◌∙◌, ℕ, Bool, true, false, ◌&&◌, cond, List, [], ◌∷◌, ◌++◌, length, refl, ap, sym, Some, None, Result, Ok, Err, arith, codes, length-append}
 use Rattle.std.proofs.lemmas.Bool.{and_parts, false_from_ne_true, le-ltb}
 use Rattle.std.proofs.lemmas.Bool.Decides.{nat_tests, same_from_decides, Decides-and, Decides-like}
 use Rattle.std.proofs.lemmas.List.{length-map}
@@ -8,7 +8,7 @@ use Rattle.std.specs.Char.{to_ascii_lowercase}
 use Rattle.std.specs.List.{list_any, before_first, after_first, count_by}
 use Rattle.std.specs.Str.{bytes_eq, str_to_ascii_lowercase}
 use Rattle.up_names.specs.declared.faults.NameFault.{NameFault}
-use Rattle.up_names.specs.UserNames.{user_of, without_final_period, is_local_part, is_suffix, is_domain, is_label, is_at, is_plus, name_part, domain_part}
+use Rattle.up_names.specs.UserNames.{user_of, without_final_period, is_local_part, is_suffix, is_domain, is_label, is_at, name_part, domain_part}
 use Rattle.up_names.specs.ItemNames.{names_user}
 use Rattle.up_names.proofs.CutLemmas.{before_first-none, before_first-joined, after_first-joined, cut-joined, something_behind}
 use Rattle.up_names.proofs.UserLemmas.{IsUserText, user_of-any, user_of-passes, parts-of_text, count_by-joined}
@@ -26,19 +26,20 @@ parts_decide local domain none =
     parts : (local ≡ codes "all") × (domain ≡ codes "upspin.io") → local ++ 64 ∷ domain ≡ codes "all@upspin.io"
     parts e = ap (λ xs. xs ++ 64 ∷ domain) e.0 ∙ ap (λ xs. codes "all" ++ 64 ∷ xs) e.1
 
-list_any_at-lowercase : (xs : List ℕ) → list_any is_at (str_to_ascii_lowercase xs) ≡ list_any is_at xs
-list_any_at-lowercase [] = refl
-list_any_at-lowercase (x ∷ xs) = rw (at_lowercase x, list_any_at-lowercase xs) refl
-  where
-    at_lowercase : (c : ℕ) → is_at (to_ascii_lowercase c) ≡ is_at c
-    at_lowercase c = grind (arith, nat_tests)
+-- lowering makes and loses no byte that is no letter
+pub list_any-lowercase : (p : ℕ → Bool) → ((b : ℕ) → p (to_ascii_lowercase b) ≡ p b) → (xs : List ℕ) → list_any p (str_to_ascii_lowercase xs) ≡ list_any p xs
+list_any-lowercase p same [] = refl
+list_any-lowercase p same (x ∷ xs) = rw (same x, list_any-lowercase p same xs) refl
+
+pub at_lowercase : (b : ℕ) → is_at (to_ascii_lowercase b) ≡ is_at b
+at_lowercase b = grind (arith, nat_tests)
 
 -- a text of these parts passes all tests
 passes : (user : List ℕ) → list_any is_at user ≡ true → name_part user ≡ codes "all" → str_to_ascii_lowercase (domain_part user) ≡ codes "upspin.io" → IsUserText user
 unfolding is_local_part is_suffix is_domain is_label
 passes user any local domain =
     let joined : user ≡ name_part user ++ 64 ∷ domain_part user = cut-joined 64 user any in
-    let no_at : list_any is_at (domain_part user) ≡ false = sym (list_any_at-lowercase (domain_part user)) ∙ ap (list_any is_at) domain in
+    let no_at : list_any is_at (domain_part user) ≡ false = sym (list_any-lowercase is_at at_lowercase (domain_part user)) ∙ ap (list_any is_at) domain in
     let once : count_by is_at user ≡ 1 = ap (count_by is_at) joined ∙ count_by-joined (name_part user) (domain_part user) (before_first-none is_at user) no_at in
     record {
       fits = le-ltb _ _ (omega (arith, ap length joined, length-append (name_part user) (64 ∷ domain_part user), ap length local, ap length domain, length-map (domain_part user) to_ascii_lowercase));

@@ -16,5 +16,10 @@ mod ItemExamples
 mod ControlTextExamples
 pub mod PathComparisons
 pub mod PathPieces
+pub mod ItemLaws
 pub mod PathAgain
 mod PathExamples
+pub mod PathMaps
+pub mod ItemBytes
+pub mod TextMeaningLemmas
+pub mod ItemListLemmas

@@ -1,12 +1,11 @@
 -- What a canonical user name is, as the front of a path: without a slash, and short.
-use Rattle.std.proofs.Common.{◌≡◌, ℕ, zero, suc, ◌+◌, ◌-◌, ◌<◌, ◌≤◌, Bool, true, false, cond, not, ◌&&◌, ◌||◌, leb, eqb, List, [], ◌∷◌, ◌++◌, length, take, drop, refl, sym, ap, subst, inl, inr, ◌∙◌, arith, count_by, one-add, add-one, Result, Ok, Err}
-use Rattle.std.specs.List.{list_all, list_any, before_first, after_first, slice_split, position_or_len, onto_first}
+use Rattle.std.proofs.Common.{◌≡◌, ℕ, ◌+◌, ◌-◌, ◌≤◌, Bool, true, false, cond, not, ◌||◌, List, ◌∷◌, ◌++◌, length, take, refl, sym, ap, subst, inl, inr, ◌∙◌, arith, count_by, Result, Ok, Err}
+use Rattle.std.specs.List.{list_all, list_any, before_first, after_first, slice_split, position_or_len}
 use Rattle.std.specs.Str.{str_to_ascii_lowercase}
 use Rattle.std.specs.Char.{to_ascii_lowercase}
-use Rattle.std.proofs.lemmas.Bool.{and_parts, and_from, or_from, or_parts, not_from_false, not-false, and_cases, cond_both, eqb-true, leb-true, ltb-false, false≢true, not-true}
+use Rattle.std.proofs.lemmas.Bool.{and_parts, or_from, not_from_false, not-false, and_cases, cond_both, eqb-true, ltb-false, false≢true}
 use Rattle.std.proofs.lemmas.List.{length-append, length-map, length-drop, length-take}
 use Rattle.std.proofs.lemmas.List.Folds.{list_any-append}
-use Rattle.std.proofs.lemmas.List.Sums.{sum_by-cons}
 use Rattle.up_names.specs.UserNames.{user_of, without_final_period, is_local_part, is_suffix, is_domain, is_label, is_at, is_plus, is_period, is_name_byte, is_label_byte, has_bytes, name_part, domain_part}
 use Rattle.up_names.specs.PathNames.{is_slash}
 use Rattle.up_names.proofs.Firsts.{none_of_all, none_of_parts, none_of_split, list_all_weaker, place_found}

@@ -1,17 +1,17 @@
 -- Laws of the definitions alone: a path that some text names is named by its canonical text.
-use Rattle.std.proofs.Common.{◌≡◌, ℕ, ◌+◌, ◌-◌, ◌<◌, ◌≤◌, Bool, true, false, cond, not, nat_lt, ◌++◌, inl, inr, List, [], ◌∷◌, length, refl, sym, ap, subst, ◌∙◌, arith, Option, Some, None, Result, Ok, Err}
+use Rattle.std.proofs.Common.{◌≡◌, ℕ, ◌+◌, ◌<◌, ◌≤◌, Bool, true, false, cond, not, nat_lt, inl, inr, List, [], ◌∷◌, length, refl, sym, ap, subst, ◌∙◌, arith, Some, None, Result, Ok, Err}
 use Rattle.std.specs.List.{list_all, list_any, before_first, after_first, slice_split}
 use Rattle.std.proofs.lemmas.Bool.{ltb-false, not-false, cases_lt}
 use Rattle.std.proofs.lemmas.List.{length-append, nil_from_length}
 use Rattle.up_names.specs.declared.faults.NameFault.{NameFault}
 use Rattle.up_names.specs.declared.faults.NameFault.TheVariants.{TooLong, Element}
-use Rattle.up_names.specs.PathNames.{PathName, is_slash, is_element, is_name, cleaned, pieces_of, first_bad, path_from, path_of, canonical, cut, extended, joined}
-use Rattle.up_names.specs.PathParts.{IsCanonical, after_piece}
+use Rattle.up_names.specs.PathNames.{PathName, is_slash, is_element, is_name, cleaned, pieces_of, first_bad, path_of, canonical, cut, extended, joined, IsCanonical}
+use Rattle.up_names.specs.PathParts.{after_piece}
 use Rattle.up_names.specs.UserNames.{user_of}
 use Rattle.up_names.proofs.Owners.{peel, at_most_254, no_longer}
 use Rattle.up_names.proofs.UserLemmas.{user_of-again}
 use Rattle.up_names.proofs.Firsts.{length-parts}
-use Rattle.up_names.proofs.PathLaws.{IsProper, IsReadFrom, read_from, cleaned-names, first_bad-all, proper-canonical, canonical-proper, canonical-injective}
+use Rattle.up_names.proofs.PathLaws.{IsReadFrom, read_from, cleaned-names, first_bad-all, proper-canonical, canonical-proper, canonical-injective}
 use Rattle.up_names.proofs.PathEdits.{cut_proper, extended_proper}
 use Rattle.up_names.proofs.PathPieces.{Going, going_begins, going_on, going_short}
 

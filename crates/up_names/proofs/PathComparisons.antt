@@ -1,8 +1,8 @@
 -- Canonical paths are compared by their texts, and the tests of their elements.
-use Rattle.std.proofs.Common.{◌≡◌, ℕ, ◌-◌, ◌<◌, Bool, true, false, ◌&&◌, List, [], ◌∷◌, length, take, drop, suc, Some, refl, sym, ap, ◌∙◌, arith, bytes_eq, Decides, slice_get}
+use Rattle.std.proofs.Common.{◌≡◌, ℕ, ◌-◌, ◌<◌, Bool, true, false, ◌&&◌, leb, List, [], ◌∷◌, length, take, drop, suc, Some, refl, sym, ap, ◌∙◌, arith, bytes_eq, Decides, slice_get}
 use lib.Pointwise.{pointwise}
 use Rattle.std.specs.List.{ends_with}
-use Rattle.std.proofs.lemmas.Bool.{and_parts, and_from, false_from_ne_true}
+use Rattle.std.proofs.lemmas.Bool.{and_parts, and_from, false_from_ne_true, leb-false}
 use Rattle.std.proofs.lemmas.List.{length-take}
 use Rattle.std.proofs.lemmas.Option.{none-some, same_Some}
 use Rattle.std.specs.declared.cmp.Ordering.TheVariants.{Less, Equal, Greater}
@@ -13,10 +13,10 @@ use Rattle.std.proofs.lemmas.Cmp.{nat_list_eq_equiv}
 use Rattle.std.proofs.lemmas.Bool.Decides.{same_from_decides}
 use Rattle.std.proofs.lemmas.Map.Lookups.{exact_bytes}
 use Rattle.std.proofs.lemmas.Slice.Eq.{bytes_eq-Decides, slice_eq-Decides}
-use Rattle.up_names.specs.PathNames.{PathName, canonical, cut, is_under}
+use Rattle.up_names.specs.PathNames.{PathName, canonical, cut, is_under, IsCanonical}
 use Rattle.up_names.specs.PathOrder.{path_eq, parts_cmp, path_cmp}
 use Rattle.up_names.specs.PathOrderLaws.{path_eq-Decides, parts_total}
-use Rattle.up_names.proofs.PathLaws.{IsProper, canonical-injective}
+use Rattle.up_names.proofs.PathLaws.{IsProper, canonical-proper, canonical-injective}
 use Rattle.up_names.proofs.PathEdits.{cut_proper}
 
 -- of canonical paths the canonical texts decide
@@ -65,6 +65,14 @@ under-canonical p q of_p of_q =
     let texts = bytes_eq-Decides (canonical front) (canonical q) in
     same_from_decides (bytes_eq (canonical front) (canonical q)) (is_under p q)
     (λ same. canonical-injective front q (cut_proper (length q.elements) p of_p) of_q (texts.0 same), λ same. texts.1 (ap canonical same)) (under-Decides p q)
+
+-- both at once
+pub under_by_texts : (p q : PathName) → IsCanonical p → IsCanonical q → is_under p q ≡ (leb (length q.elements) (length p.elements) && bytes_eq (canonical (cut (length q.elements) p)) (canonical q))
+under_by_texts p q of_p of_q =
+    elim (leb (length q.elements) (length p.elements)) as (λ b. leb (length q.elements) (length p.elements) ≡ b → is_under p q ≡ (b && bytes_eq (canonical (cut (length q.elements) p)) (canonical q))) [
+      | true ↦ λ _. sym (under-canonical p q (canonical-proper p of_p) (canonical-proper q of_q))
+      | false ↦ λ more. not_under p q (leb-false _ _ more)
+    ] refl
 
 -- the last element alone is tested
 pub ends_in : (es : List (List ℕ)) (last name : List ℕ) → slice_get es (length es - 1) ≡ Some last → ends_with bytes_eq es (name ∷ []) ≡ bytes_eq last name

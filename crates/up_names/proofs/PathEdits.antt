@@ -1,12 +1,12 @@
 -- The fields of a path, kept through what is done to it.
-use Rattle.std.proofs.Common.{◌≡◌, ℕ, zero, suc, ◌+◌, ◌-◌, ◌<◌, ◌≤◌, Bool, true, false, cond, not, eqb, ◌&&◌, ◌||◌, List, [], ◌∷◌, ◌++◌, length, take, drop, get_or, refl, sym, ap, inl, inr, subst, ◌∙◌, arith, Ok, sub-one}
+use Rattle.std.proofs.Common.{◌≡◌, ℕ, zero, suc, ◌+◌, ◌-◌, ◌<◌, ◌≤◌, Bool, true, false, cond, not, eqb, List, [], ◌∷◌, ◌++◌, length, take, get_or, refl, sym, ap, inl, inr, subst, ◌∙◌, arith, Ok, sub-one}
 use Rattle.std.specs.List.{list_all}
 use Rattle.std.proofs.lemmas.Bool.{and_parts, and_from, cases_lt, eq-eqb, eqb-true, ne_eqb, false≢true}
 use mir.Val.{bool_byte}
 use Rattle.std.proofs.lemmas.List.{length-append, append_assoc, take_at, nil_from_length, get_or_read}
 use Rattle.std.proofs.lemmas.List.Folds.{list_all-append}
-use Rattle.up_names.specs.PathNames.{PathName, is_name, path_of, canonical, cut, extended}
-use Rattle.up_names.specs.PathParts.{IsCanonical, read_off, ends_from, IsKept}
+use Rattle.up_names.specs.PathNames.{PathName, is_name, canonical, cut, extended, IsCanonical}
+use Rattle.up_names.specs.PathParts.{read_off, ends_from, IsKept}
 use Rattle.up_names.specs.UserNames.{user_of}
 use Rattle.up_names.proofs.Joined.{joined_text, joined-front, joined-push, ends_from-at, ends_from-take, ends_from-push, length-ends_from}
 use Rattle.up_names.proofs.PathLaws.{IsProper, proper-canonical, canonical-proper, read_off-canonical}

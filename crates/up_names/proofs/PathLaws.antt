@@ -1,17 +1,17 @@
 -- Canonical paths: which they are, and that their texts tell them apart.
-use Rattle.std.proofs.Common.{◌≡◌, ℕ, zero, suc, ◌+◌, ◌-◌, ◌<◌, ◌≤◌, Bool, true, false, cond, not, ◌&&◌, ◌||◌, List, [], ◌∷◌, ◌++◌, length, take, drop, get_or, refl, sym, ap, subst, ◌∙◌, arith, Option, Some, None, Result, Ok, Err, filter, nat_le, ◌==◌, codes, IsUtf8}
-use Rattle.std.specs.List.{list_all, list_any, before_first, after_first, slice_split, position_or_len}
+use Rattle.std.proofs.Common.{◌≡◌, ℕ, ◌+◌, ◌≤◌, Bool, true, false, cond, not, ◌&&◌, List, [], ◌∷◌, ◌++◌, length, refl, sym, ap, ◌∙◌, Some, None, Result, Ok, Err, filter, codes, IsUtf8}
+use Rattle.std.specs.List.{list_all, list_any, before_first, after_first, slice_split}
 use Rattle.std.specs.Str.{bytes_eq, is_utf8, chars}
 use lib.Utf8.{encode}
-use Rattle.std.proofs.lemmas.Bool.{and_parts, and_from, or_parts, not-true, not-false, not_from_false, not_from_true, and_right, cond_both, or_from, false_from_ne_true, false≢true, ltb-false, le-ltb}
+use Rattle.std.proofs.lemmas.Bool.{and_parts, and_from, not_from_false, not_from_true, and_right, cond_both, or_from, false_from_ne_true, false≢true, ltb-false, le-ltb}
 use Rattle.std.proofs.lemmas.Str.{is_utf8-from_IsUtf8}
 use Rattle.std.proofs.lemmas.Slice.Eq.{bytes_eq-Decides}
-use Rattle.up_names.specs.PathNames.{PathName, is_slash, is_skipped, is_up, is_allowed_byte, is_element, is_name, cleaned, staying, pieces_of, first_bad, path_from, path_of, canonical, cut, extended, joined}
-use Rattle.up_names.specs.PathParts.{IsCanonical, elements_behind, read_off, IsKept}
+use Rattle.up_names.specs.PathNames.{PathName, is_slash, is_skipped, is_up, is_allowed_byte, is_element, is_name, cleaned, staying, pieces_of, first_bad, path_from, path_of, canonical, IsCanonical}
+use Rattle.up_names.specs.PathParts.{elements_behind, read_off}
 use Rattle.up_names.specs.UserNames.{user_of}
 use Rattle.up_names.specs.declared.faults.NameFault.{NameFault}
 use Rattle.up_names.specs.declared.faults.NameFault.TheVariants.{TooLong, Element}
-use Rattle.up_names.proofs.Cleaning.{walk, staying-all, staying-names, staying-only_names}
+use Rattle.up_names.proofs.Cleaning.{staying-all, staying-names, staying-only_names}
 use Rattle.up_names.proofs.Owners.{no_slash, peel}
 use Rattle.up_names.proofs.Firsts.{none_of_all, before_first-at, after_first-at, list_any-at, list_all_weaker}
 use Rattle.up_names.proofs.Joined.{joined_text, stands_alone, split-joined, elements_behind-joined}
@@ -199,9 +199,9 @@ canonical-injective p q of_p of_q same =
     sym (read_off-canonical p of_p) ∙ ap (λ o. read_off o (canonical p)) owner ∙ ap (read_off q.owner) same ∙ read_off-canonical q of_q
 
 -- text of allowed bytes is a name where it is neither skipped nor `..`
-pub is_name-text : (e : List ℕ) → IsUtf8 e → (e ≡ [] → ⊥) → (e ≡ codes "." → ⊥) → (e ≡ codes ".." → ⊥) → list_all is_allowed_byte e ≡ is_name e
+pub is_name_by_bytes : (e : List ℕ) → IsUtf8 e → (e ≡ [] → ⊥) → (e ≡ codes "." → ⊥) → (e ≡ codes ".." → ⊥) → list_all is_allowed_byte e ≡ is_name e
 unfolding is_element
-is_name-text e utf8 empty dot dots =
+is_name_by_bytes e utf8 empty dot dots =
     let skipped = or_from _ _ (false_from_ne_true (bytes_eq e []) (λ h. empty ((bytes_eq-Decides e []).0 h))) (false_from_ne_true (bytes_eq e (codes ".")) (λ h. dot ((bytes_eq-Decides e (codes ".")).0 h))) in
     let up = false_from_ne_true (is_up e) (λ h. dots ((bytes_eq-Decides e (codes "..")).0 h)) in
     sym (

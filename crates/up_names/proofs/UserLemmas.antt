@@ -1,10 +1,11 @@
 -- The parts of a canonical name, and that it parses to itself.
-use Rattle.std.proofs.Common.{◌≡◌, ◌∙◌, ℕ, ◌+◌, ◌-◌, ◌<◌, ◌≤◌, Bool, true, false, not, ◌&&◌, ◌||◌, cond, ltb, leb, eqb, List, [], ◌∷◌, ◌++◌, length, drop, refl, ap, sym, arith, subst, Ok, Err, length-append, length-take, get_or, lit<, suc}
+use Rattle.std.proofs.Common.{◌≡◌, ◌∙◌, ℕ, ◌+◌, ◌-◌, ◌<◌, ◌≤◌, Bool, true, false, not, ◌&&◌, ◌||◌, cond, ltb, leb, eqb, List, [], ◌∷◌, ◌++◌, length, drop, refl, ap, sym, arith, subst, Ok, Err, length-append, length-take, get_or, suc}
 use Rattle.std.proofs.lemmas.Bool.Decides.{nat_tests}
-use Rattle.std.proofs.lemmas.Bool.{and_parts, and_left, eqb-true, ltb-true, ltb-false, leb-true, le-ltb, not-false, false_from_ne_true, true_from_ne_false}
+use Rattle.std.proofs.lemmas.Bool.{and_parts, and_from, and_left, or_left, eqb-true, ltb-false, leb-true, le-ltb, not-false, false_from_ne_true, true_from_ne_false}
 use Rattle.std.proofs.lemmas.List.{length-map}
-use Rattle.std.proofs.lemmas.List.Sums.{AllPass-from_list_all, suffix_len-take_no, suffix_len-le-length, sum_by-append, sum_by-cons, split_at_first, passes_at_first}
-use Rattle.std.proofs.lemmas.List.Elements.{All-weaker, All-append, All-cons}
+use Rattle.std.proofs.lemmas.List.Sums.{AllPass-from_list_all, suffix_len-take_no, suffix_len-le-length, sum_by-append, sum_by-cons}
+use Rattle.std.proofs.lemmas.List.Folds.{list_all-append}
+use Rattle.std.proofs.lemmas.List.Elements.{All-weaker}
 use Rattle.std.proofs.lemmas.Str.Ascii.{IsAscii-from_all, lowercase-lowercase}
 use Rattle.std.proofs.Math.Seq.{take-length, drop-append-add, drop-cons}
 use Rattle.std.specs.List.{All, list_any, list_all, before_first, after_first, after_last, suffix_len, count_by, slice_split, position_or_len}
@@ -12,7 +13,7 @@ use Rattle.std.specs.Char.{to_ascii_lowercase}
 use Rattle.std.specs.Str.{IsAscii, str_to_ascii_lowercase}
 use lib.Pointwise.{pointwise}
 use Rattle.up_names.specs.UserNames.{user_of, without_final_period, is_local_part, is_suffix, is_label, is_domain, is_label_byte, is_name_byte, is_period, is_plus, is_at, name_part, domain_part, base_of}
-use Rattle.up_names.proofs.CutLemmas.{before_first-none, before_first-joined, after_first-joined, before_first-all, list_any-counted, list_any-placed, list_any-excluded, list_any-take, list_all-weaker, length-cut, list_all-parts}
+use Rattle.up_names.proofs.CutLemmas.{cut-joined, before_first-none, before_first-joined, after_first-joined, before_first-all, list_any-counted, list_any-excluded, list_any-take, list_all-weaker, length-cut, list_all-parts}
 use Rattle.up_names.proofs.DomainLemmas.{length-after_last}
 
 -- what a canonical name is made of
@@ -47,7 +48,7 @@ drop_last-joined xs y ys some =
     let n : length (xs ++ y ∷ ys) - 1 ≡ length xs + (suc (length ys - 1)) = omega (arith, length-append xs (y ∷ ys)) in
     rw n (drop-append-add xs (y ∷ ys) (suc (length ys - 1)))
 
-no_final_period : (name domain : List ℕ) → is_domain domain ≡ true → without_final_period (name ++ 64 ∷ domain) ≡ name ++ 64 ∷ domain
+pub no_final_period : (name domain : List ℕ) → is_domain domain ≡ true → without_final_period (name ++ 64 ∷ domain) ≡ name ++ 64 ∷ domain
 unfolding without_final_period
 no_final_period name domain good =
     let h = domain-has_last domain good in
@@ -57,7 +58,7 @@ is_label-bytes : (label : List ℕ) → is_label label ≡ true → list_all is_
 unfolding is_label
 is_label-bytes label good = (and_parts _ _ (and_parts _ _ (and_parts _ _ good).0).0).1
 
-domain-bytes : (domain : List ℕ) → is_domain domain ≡ true → list_all (λ b. is_label_byte b || is_period b) domain ≡ true
+pub domain-bytes : (domain : List ℕ) → is_domain domain ≡ true → list_all (λ b. is_label_byte b || is_period b) domain ≡ true
 unfolding is_domain
 domain-bytes domain good =
     list_all-parts is_period is_label_byte domain (list_all-weaker is_label (list_all is_label_byte) is_label-bytes (slice_split is_period domain) (and_parts _ _ (and_parts _ _ good).0).1)
@@ -90,7 +91,7 @@ none_of_five a b c d e false false false true t x y is = absurd (cc)
 none_of_five a b c d e false false false false true x y is = absurd (cc)
 none_of_five a b c d e false false false false false x y is = (refl, refl, refl, refl, refl, cc)
 
-lowercase-twice : (xs : List ℕ) → str_to_ascii_lowercase (str_to_ascii_lowercase xs) ≡ str_to_ascii_lowercase xs
+pub lowercase-twice : (xs : List ℕ) → str_to_ascii_lowercase (str_to_ascii_lowercase xs) ≡ str_to_ascii_lowercase xs
 lowercase-twice [] = refl
 lowercase-twice (x ∷ xs) = ap (λ y. y ∷ str_to_ascii_lowercase (str_to_ascii_lowercase xs)) (lowercase-lowercase x) ∙ ap (λ ys. to_ascii_lowercase x ∷ ys) (lowercase-twice xs)
 
@@ -157,55 +158,55 @@ parts-of_user user is =
     let P : List ℕ → Type 0 = λ u. IsUserParts (name_part u) (domain_part u) × (name_part u ++ 64 ∷ domain_part u ≡ u) in
     subst P parts.1 (parts-joined _ _ parts.0)
 
+-- the bytes that a canonical name is made of
+abbrev pub is_user_byte : ℕ → Bool
+is_user_byte b = is_name_byte b || is_period b || is_plus b || is_at b
+
+list_all-joined : (p : ℕ → Bool) (xs : List ℕ) (y : ℕ) (ys : List ℕ) → list_all p xs ≡ true → p y ≡ true → list_all p ys ≡ true → list_all p (xs ++ y ∷ ys) ≡ true
+list_all-joined p xs y ys before between behind = list_all-append p xs (y ∷ ys) ∙ and_from _ _ before (and_from _ _ between behind)
+
+local_part-bytes : (part : List ℕ) → is_local_part part ≡ true → list_all is_user_byte part ≡ true
+unfolding is_local_part
+local_part-bytes part good = list_all-weaker (λ b. is_name_byte b || is_period b) is_user_byte (λ b h. or_left _ _ (or_left _ _ h)) part (and_parts _ _ good).1
+
+suffix-bytes : (part : List ℕ) → is_suffix part ≡ true → list_all is_user_byte part ≡ true
+unfolding is_suffix
+suffix-bytes part good = list_all-weaker is_name_byte is_user_byte (λ b h. or_left _ _ (or_left _ _ (or_left _ _ h))) part (and_parts _ _ good).1
+
+name-bytes : (name : List ℕ) → is_local_part (before_first is_plus name) ≡ true → (list_any is_plus name && not (is_suffix (after_first is_plus name))) ≡ false → list_all is_user_byte name ≡ true
+name-bytes name local suffix = at (list_any is_plus name) refl suffix
+  where
+    at : (b : Bool) → list_any is_plus name ≡ b → (b && not (is_suffix (after_first is_plus name))) ≡ false → list_all is_user_byte name ≡ true
+    at false none _ = ap (list_all is_user_byte) (sym (before_first-all is_plus name none)) ∙ local_part-bytes (before_first is_plus name) local
+    at true any suffix' =
+        ap (list_all is_user_byte) (cut-joined 43 name any)
+        ∙ list_all-joined is_user_byte (before_first is_plus name) 43 (after_first is_plus name) (local_part-bytes (before_first is_plus name) local) refl (suffix-bytes (after_first is_plus name) (not-false (is_suffix (after_first is_plus name)) suffix'))
+
+pub label-user : (b : ℕ) → (is_label_byte b || is_period b) ≡ true → is_user_byte b ≡ true
+label-user b h = grind (arith, nat_tests)
+
+pub user-bytes : (user : List ℕ) → user_of user ≡ Ok user → list_all is_user_byte user ≡ true
+user-bytes user is =
+    let parts = parts-of_user user is in
+    ap (list_all is_user_byte) (sym parts.1)
+    ∙ list_all-joined is_user_byte (name_part user) 64 (domain_part user) (name-bytes (name_part user) parts.0.local_part parts.0.suffix) refl
+    (list_all-weaker (λ b. is_label_byte b || is_period b) is_user_byte label-user (domain_part user) (domain-bytes (domain_part user) parts.0.is_a_domain))
+
 all_ascii : (p : ℕ → Bool) → ((b : ℕ) → p b ≡ true → b < 128) → (xs : List ℕ) → list_all p xs ≡ true → All (λ b. b < 128) xs
 all_ascii p small xs all = All-weaker (λ b. p b ≡ true) (λ b. b < 128) small xs (AllPass-from_list_all p xs all)
 
-ascii_local : (b : ℕ) → (is_name_byte b || is_period b) ≡ true → b < 128
-ascii_local b h = grind (arith, nat_tests)
+ascii_user_byte : (b : ℕ) → is_user_byte b ≡ true → b < 128
+ascii_user_byte b h = grind (arith, nat_tests)
 
 ascii_label : (b : ℕ) → (is_label_byte b || is_period b) ≡ true → b < 128
 ascii_label b h = grind (arith, nat_tests)
 
-ascii_name : (b : ℕ) → is_name_byte b ≡ true → b < 128
-ascii_name b h = grind (arith, nat_tests)
-
-ascii_plus : (b : ℕ) → is_plus b ≡ true → b < 128
-ascii_plus b h = grind (arith, nat_tests)
-
-local_part-ascii : (part : List ℕ) → is_local_part part ≡ true → All (λ b. b < 128) part
-unfolding is_local_part
-local_part-ascii part good = all_ascii _ ascii_local part (and_parts _ _ good).1
-
-suffix-ascii : (part : List ℕ) → is_suffix part ≡ true → All (λ b. b < 128) part
-unfolding is_suffix
-suffix-ascii part good = all_ascii _ ascii_name part (and_parts _ _ good).1
-
 pub domain-ascii : (domain : List ℕ) → is_domain domain ≡ true → All (λ b. b < 128) domain
 domain-ascii domain good = all_ascii _ ascii_label domain (domain-bytes domain good)
 
-all_joined : (xs : List ℕ) (y : ℕ) (ys : List ℕ) → All (λ b. b < 128) xs → y < 128 → All (λ b. b < 128) ys → All (λ b. b < 128) (xs ++ y ∷ ys)
-all_joined xs y ys before between behind = All-append (λ b. b < 128) xs (y ∷ ys) before (All-cons (λ b. b < 128) y ys between behind)
-
-name-ascii : (name : List ℕ) → is_local_part (before_first is_plus name) ≡ true → (list_any is_plus name && not (is_suffix (after_first is_plus name))) ≡ false → All (λ b. b < 128) name
-name-ascii name local suffix = at (list_any is_plus name) refl suffix
-  where
-    at : (b : Bool) → list_any is_plus name ≡ b → (b && not (is_suffix (after_first is_plus name))) ≡ false → All (λ b. b < 128) name
-    at false none _ =
-        let P : List ℕ → Type 0 = λ xs. All (λ b. b < 128) xs in
-        subst P (before_first-all is_plus name none) (local_part-ascii (before_first is_plus name) local)
-    at true any suffix' =
-        let placed : position_or_len is_plus name < length name = ltb-true (position_or_len is_plus name) (length name) (sym (list_any-placed is_plus name) ∙ any) in
-        let P : List ℕ → Type 0 = λ xs. All (λ b. b < 128) xs in
-        subst P (sym (split_at_first is_plus name 0 placed))
-        (all_joined (before_first is_plus name) (get_or name (position_or_len is_plus name) 0) (after_first is_plus name)
-        (local_part-ascii (before_first is_plus name) local) (ascii_plus (get_or name (position_or_len is_plus name) 0) (passes_at_first is_plus name 0 placed)) (suffix-ascii (after_first is_plus name) (not-false (is_suffix (after_first is_plus name)) suffix')))
-
 -- it is ASCII, so UTF-8
 pub IsAscii-user : (user : List ℕ) → user_of user ≡ Ok user → IsAscii user
-IsAscii-user user is =
-    let parts = parts-of_user user is in
-    let P : List ℕ → Type 0 = λ xs. All (λ b. b < 128) xs in
-    IsAscii-from_all user (subst P parts.1 (all_joined (name_part user) 64 (domain_part user) (name-ascii (name_part user) parts.0.local_part parts.0.suffix) (lit< tt) (domain-ascii (domain_part user) parts.0.is_a_domain)))
+IsAscii-user user is = IsAscii-from_all user (all_ascii is_user_byte ascii_user_byte user (user-bytes user is))
 
 -- the parts of its base
 pub parts-of_base : (name domain : List ℕ) → IsUserParts name domain → IsUserParts (before_first is_plus name) domain

@@ -6,3 +6,5 @@ pub mod PathParts
 pub mod ControlTexts
 pub mod ItemNames
 pub mod PathOrderLaws
+pub mod TextMeanings
+pub mod ItemLists

@@ -1,6 +1,6 @@
 -- Path names: an owner and a list of elements (Upspin overview). The limits, the allowed bytes and the rule for `..`
 -- at the root are this project's own.
-use Rattle.std.specs.Prelude.{ℕ, Bool, true, false, ◌+◌, ◌-◌, ◌==◌, ◌&&◌, ◌||◌, not, nat_lt, nat_le, nat_eq, if◌then◌else◌, List, [], ◌∷◌, ◌++◌, length, take, map, filter, count_by, codes, Option, Some, None, Result, Ok, Err}
+use Rattle.std.specs.Prelude.{◌≡◌, ℕ, Bool, ◌+◌, ◌-◌, ◌==◌, ◌&&◌, ◌||◌, not, nat_lt, nat_le, if◌then◌else◌, List, [], ◌∷◌, ◌++◌, length, take, map, filter, count_by, codes, Option, Some, None, Result, Ok, Err}
 use Rattle.std.specs.List.{list_all, list_any, before_first, after_first, slice_split, starts_with, ends_with, join_with_byte}
 use Rattle.std.specs.Str.{byte, bytes_eq, is_utf8}
 use Rattle.up_names.specs.declared.faults.NameFault.{NameFault}
@@ -83,6 +83,10 @@ path_of text =
 -- the canonical text: the owner, `/`, and the elements joined by `/`; so a root ends with `/`
 abbrev pub canonical : PathName → List ℕ
 canonical path = path.owner ++ byte "/" ∷ join_with_byte (byte "/") path.elements
+
+-- a path whose canonical text parses to it
+abbrev pub IsCanonical : PathName → Type 0
+IsCanonical path = path_of (canonical path) ≡ Ok path
 
 -- under q where the owners are the same and q's elements are a prefix; a path is under itself
 abbrev pub is_under : PathName → PathName → Bool

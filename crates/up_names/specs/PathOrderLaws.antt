@@ -1,5 +1,5 @@
 -- Equality and order of paths are lawful, and exact: paths that are equal, or compare alike, are one path.
-use Rattle.std.proofs.Common.{◌≡◌, ℕ, Bool, true, false, ◌&&◌, List, [], ◌∷◌, refl, sym, ap, subst, ◌∙◌, Decides, bytes_eq, Option, Some}
+use Rattle.std.proofs.Common.{◌≡◌, true, refl, sym, ap, ◌∙◌, Decides, bytes_eq}
 use Rattle.std.specs.declared.cmp.Ordering.{Ordering}
 use Rattle.std.specs.declared.cmp.Ordering.TheVariants.{Less, Equal, Greater}
 use Rattle.std.specs.Ordering.{nat_cmp, ordering_then, is_eq, as_partial_cmp}
@@ -10,7 +10,8 @@ use lib.Pointwise.{pointwise}
 use Rattle.std.proofs.lemmas.Bool.{and_parts, and_from, false≢true}
 use Rattle.std.proofs.lemmas.Bool.Decides.{same_from_decides}
 use Rattle.std.proofs.lemmas.Cmp.{nat_list_cmp_total, lists_total, on_total, then_total, tied_itself, nat_list_eq_equiv, lists_equiv, on_equiv, and_equiv}
-use Rattle.std.proofs.lemmas.Map.Lookups.{CmpEqualImpliesEq, exact_bytes}
+use Rattle.std.specs.FinMap.{IsAntisymmetric, nat_cmp-IsAntisymmetric, slice_cmp-IsAntisymmetric}
+use Rattle.std.proofs.lemmas.Map.Lookups.{CmpEqualImpliesEq}
 use Rattle.std.proofs.lemmas.Slice.Eq.{bytes_eq-Decides, slice_eq-Decides}
 use Rattle.up_names.specs.PathNames.{PathName, canonical}
 use Rattle.up_names.specs.PathOrder.{path_eq, parts_cmp, path_cmp}
@@ -36,22 +37,16 @@ then_equal Less r h = absurd (false≢true (ap is_eq h))
 then_equal Equal r h = (refl, h)
 then_equal Greater r h = absurd (false≢true (ap is_eq h))
 
--- lists that compare alike are one list, where their items do so
-exact_lists : {X : Type 0} (R : X → X → Ordering) → CmpEqualImpliesEq R → CmpEqualImpliesEq (slice_cmp R)
-exact_lists R exact [] [] h = refl
-exact_lists R exact [] (y ∷ ys) h = absurd (false≢true (ap is_eq h))
-exact_lists R exact (x ∷ xs) [] h = absurd (false≢true (ap is_eq h))
-exact_lists R exact (x ∷ xs) (y ∷ ys) h =
-    let both = then_equal (R x y) (slice_cmp R xs ys) h in
-    ap (λ z. z ∷ xs) (exact x y both.0) ∙ ap (λ zs. y ∷ zs) (exact_lists R exact xs ys both.1)
+same_bytes : IsAntisymmetric (slice_cmp nat_cmp)
+same_bytes = slice_cmp-IsAntisymmetric nat_cmp-IsAntisymmetric
 
 -- paths that compare alike are one path
 pub path_exact : CmpEqualImpliesEq path_cmp
 path_exact p q h =
     let parts = (then_equal (slice_cmp nat_cmp (canonical p) (canonical q)) (parts_cmp p q) h).1 in
     let both = then_equal (slice_cmp nat_cmp p.owner q.owner) (slice_cmp (slice_cmp nat_cmp) p.elements q.elements) parts in
-    ap (λ owner. record { owner = owner; elements = p.elements }) (exact_bytes p.owner q.owner both.0)
-    ∙ ap (λ elements. record { owner = q.owner; elements = elements }) (exact_lists (slice_cmp nat_cmp) exact_bytes p.elements q.elements both.1)
+    ap (λ owner. record { owner = owner; elements = p.elements }) (same_bytes p.owner q.owner both.0)
+    ∙ ap (λ elements. record { owner = q.owner; elements = elements }) (slice_cmp-IsAntisymmetric same_bytes p.elements q.elements both.1)
 
 is_eq-Equal : (o : Ordering) → is_eq o ≡ true → o ≡ Equal
 is_eq-Equal Less h = absurd (false≢true h)

@@ -1,7 +1,7 @@
 -- How a path is kept: its owner, its canonical text, and the places where its elements end (this project's own).
-use Rattle.std.specs.Prelude.{◌≡◌, ℕ, zero, suc, ◌+◌, ◌-◌, if◌then◌else◌, List, [], ◌∷◌, length, Ok}
+use Rattle.std.specs.Prelude.{◌≡◌, ℕ, zero, suc, ◌+◌, ◌-◌, if◌then◌else◌, List, [], ◌∷◌, length}
 use Rattle.std.specs.List.{after_first, slice_split}
-use Rattle.up_names.specs.PathNames.{PathName, is_slash, is_skipped, is_up, path_of, canonical, cut, extended}
+use Rattle.up_names.specs.PathNames.{PathName, is_slash, IsCanonical, is_skipped, is_up, canonical, cut, extended}
 
 -- what stands between the slashes behind the owner; nothing stands there at a root
 abbrev pub elements_behind : List ℕ → List (List ℕ)
@@ -29,10 +29,6 @@ after_piece path piece =
     if is_skipped piece then path
     else if is_up piece then cut (length path.elements - 1) path
     else extended path piece
-
--- a path whose canonical text parses to it
-abbrev pub IsCanonical : PathName → Type 0
-IsCanonical path = path_of (canonical path) ≡ Ok path
 
 -- the text and the ends are those of the path that is read off
 pub record IsKept (owner text ends : List ℕ) : Type 0 where

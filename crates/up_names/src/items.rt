@@ -14,7 +14,7 @@ use crate::users::{User, parse_user, without_final_period};
 use std::alloc::{AllocError, Global};
 
 /// Whom a name in an Access or Group text stands for.
-#[derive(Debug, Drop, PartialEq, Eq)]
+#[derive(Clone, Debug, Drop, PartialEq, Eq)]
 pub enum Item {
     /// Every user.
     Everyone,

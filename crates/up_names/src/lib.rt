@@ -5,6 +5,7 @@ pub mod control_texts;
 mod cuts;
 pub mod domains;
 pub mod faults;
+pub mod item_lists;
 pub mod items;
 mod path_parts;
 pub mod paths;

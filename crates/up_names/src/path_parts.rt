@@ -85,7 +85,7 @@ fn element_text(piece: &[u8]) -> Option<&str>
 }
 
 /// Whether a text may be an element of a path.
-#[tactic(auto, unfolding(crate::specs::PathNames::is_element))]
+#[tactic(auto, using(crate::proofs::PathLaws::is_name_by_bytes))]
 pub(crate) fn is_name(element: &str) -> bool
     ensures { result ≡ is_name element.now }
 {

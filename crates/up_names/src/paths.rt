@@ -166,15 +166,12 @@ impl Path {
 
     /// Whether the path is `other` or stands under it: their owners are the same, and the elements of `other` are the
     /// first of this path. It takes no memory.
+    #[tactic(auto, using(crate::proofs::PathComparisons::under_by_texts))]
     pub fn is_under(&self, other: &Path) -> bool
         ensures { result ≡ is_under self.now other.now }
     {
-        let len = other.ends.len();
-        if len > self.ends.len() {
-            return false;
-        }
-        let front = self.front_len(len);
-        &self.text.as_bytes()[..front] == other.text.as_bytes()
+        let len = other.len();
+        len <= self.len() && self.front(len as usize) == other.as_str()
     }
 
     /// What kind of file the path is for. It takes no memory.
@@ -217,6 +214,16 @@ impl Path {
         }
     }
 
+    /// The canonical text of the first `n` elements.
+    fn front(&self, n: usize) -> &str
+        requires { n ≤ length self.now.elements }
+        ensures text { result.now ≡ canonical (cut n self.now) }
+        ensures again { path_of (canonical self.now) ≡ Ok self.now }
+    {
+        let end = self.front_len(n);
+        &self.text[..end]
+    }
+
     /// How many bytes the canonical text of the first `n` elements has.
     fn front_len(&self, n: usize) -> usize
         requires { n ≤ length self.now.elements }
@@ -254,17 +261,18 @@ impl Path {
         ensures added { OnOk result (self.new ≡ extended self.old element.now) }
         ensures unchanged { OnErr result (self.new ≡ self.old) }
     {
+        let below_root = !self.ends.is_empty();
         self.ends.reserve(1)?;
-        self.text.reserve(element.len() + 1)?;
-        push_element(&mut self.text, !self.ends.is_empty(), element);
+        self.text.reserve(usize::from(below_root) + element.len())?;
+        push_element(&mut self.text, below_root, element);
         self.ends.push_reserved(self.text.len() as u32);
         Ok(())
     }
 }
 
-/// Adds an element to a text that has room for it and a slash, which stands before it below the root.
+/// Adds an element to a text that has room for it, and below the root a slash before it.
 fn push_element(text: &mut String, below_root: bool, element: &str)
-    requires { string_len text.old + (length element.now + 1) ≤ string_capacity text.old }
+    requires { string_len text.old + ((if below_root then 1 else 0) + length element.now) ≤ string_capacity text.old }
     ensures { string_bytes text.new ≡ (if below_root then string_bytes text.old ++ byte "/" ∷ [] else string_bytes text.old) ++ element.now }
 {
     if below_root {

@@ -40,8 +40,10 @@ impl Model for User {
 }
 
 impl User {
-    /// The allocator that the name is kept by.
-    pub(crate) fn allocator(&self) -> Global {
+    /// The allocator that the name was made with.
+    pub fn allocator(&self) -> Global
+        ensures canonical { user_of self.now ≡ Ok self.now }
+    {
         *self.text.allocator()
     }
 

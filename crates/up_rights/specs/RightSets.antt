@@ -35,6 +35,17 @@ with_right set List = record set { list = true }
 with_right set Create = record set { create = true }
 with_right set Delete = record set { delete = true }
 
+-- the rights of either set
+abbrev pub both_rights : Rights → Rights → Rights
+both_rights set other =
+    record {
+      read = set.read || other.read;
+      write = set.write || other.write;
+      list = set.list || other.list;
+      create = set.create || other.create;
+      delete = set.delete || other.delete;
+    }
+
 -- whether any of the five is in the set
 abbrev pub has_any : Rights → Bool
 has_any set = set.read || set.write || set.list || set.create || set.delete

@@ -2,7 +2,7 @@
 #![tactic(auto)]
 
 ghost use Rattle.std.specs.Prelude.{◌≡◌, ◌||◌, not};
-ghost use Rattle.up_rights.specs.RightSets.{has_any, has_right, with_right, no_rights, all_rights};
+ghost use Rattle.up_rights.specs.RightSets.{both_rights, has_any, has_right, with_right, no_rights, all_rights};
 ghost use Rattle.up_rights.specs.Words.{long_word, right_named, rights_of};
 ghost use Rattle.std.specs.Str.{bytes_eq, str_to_ascii_lowercase};
 
@@ -126,6 +126,19 @@ impl RightSet {
             Right::Delete => set.delete = true,
         }
         set
+    }
+
+    /// The rights of either set.
+    pub fn union(self, other: RightSet) -> Self
+        ensures { result ≡ both_rights self other }
+    {
+        RightSet {
+            read: self.read || other.read,
+            write: self.write || other.write,
+            list: self.list || other.list,
+            create: self.create || other.create,
+            delete: self.delete || other.delete,
+        }
     }
 
     /// Whether the set has no right at all.

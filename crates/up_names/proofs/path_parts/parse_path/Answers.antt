@@ -1,7 +1,4 @@
-use Rattle.std.proofs.Common.{◌≡◌, ◌+◌, Ok, length, None, option_copied, false, sym, ap, ◌∙◌, arith}
-use Rattle.std.specs.List.{list_any, after_first}
-use Rattle.std.proofs.lemmas.Bool.{false_from_ne_true}
-use Rattle.std.proofs.lemmas.Option.{none-some}
+use Rattle.std.proofs.Common.{Ok, length, option_copied, sym, ap, ◌∙◌, arith}
 use Rattle.up_names.specs.PathNames.{is_slash}
 use Rattle.up_names.specs.UserNames.{user_of}
 use Rattle.up_names.proofs.Firsts.{length-parts, none_behind}

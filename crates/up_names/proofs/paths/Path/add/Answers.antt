@@ -1,32 +1,37 @@
-use Rattle.std.proofs.Common.{◌≡◌, ◌∷◌, ◌++◌, [], List, ℕ, cond, not, eqb, ap, sym, ◌∙◌, length, arith}
+use Rattle.std.proofs.Common.{◌≡◌, ◌∷◌, ◌++◌, [], cond, not, eqb, ap, ◌∙◌, length, arith}
 use Rattle.std.specs.String.{string_bytes}
-use Rattle.up_names.specs.PathNames.{PathName, extended, canonical}
+use Rattle.up_names.specs.PathNames.{extended}
 use Rattle.up_names.specs.PathParts.{read_off, IsKept}
 use Rattle.up_names.proofs.PathEdits.{longer_seen, extended_seen}
 use Rattle.up_names.proofs.paths.Path.add.Goals as goal
 use Rattle.up_names.proofs.paths.Path.add.Goals.{After-len}
 
 -- a slash is written below the root alone
-below : (c : After-len) → not c.is_empty.result ≡ not (eqb (length c.self.inside.ends.items) 0)
-below c = ap not (c.is_empty.ensures ∙ ap (λ n. eqb n 0) (c.in_ok-reserve.ensures.len ∙ c.self.inside.ends.ok.0))
+below : (c : After-len) → not c.is_empty-below_root.result ≡ not (eqb (length c.self.inside.ends.items) 0)
+below c = ap not (c.is_empty-below_root.ensures ∙ ap (λ n. eqb n 0) c.self.inside.ends.ok.0)
 
 -- what is written
-long : (c : After-len) → string_bytes c.push_element.new.text ≡ cond (not c.is_empty.result) (string_bytes c.self.inside.text ++ 47 ∷ []) (string_bytes c.self.inside.text) ++ c.args.element.now
-long c = c.push_element.ensures ∙ ap (λ text. cond (not c.is_empty.result) (text ++ 47 ∷ []) text ++ c.args.element.now) c.in_ok-reserve-2.ensures.bytes
+long : (c : After-len) → string_bytes c.push_element.new.text ≡ cond (not c.is_empty-below_root.result) (string_bytes c.self.inside.text ++ 47 ∷ []) (string_bytes c.self.inside.text) ++ c.args.element.now
+long c = c.push_element.ensures ∙ ap (λ text. cond (not c.is_empty-below_root.result) (text ++ 47 ∷ []) text ++ c.args.element.now) c.in_ok-reserve-2.ensures.bytes
 
 pub overflow_cast-len : goal.overflow_cast-len
 overflow_cast-len c =
-    let text = longer_seen c.self.invariant c.args.self.now c.self.view_is c.args.element.now (string_bytes c.push_element.new.text) (not c.is_empty.result) (below c) (long c) in
+    let text = longer_seen c.self.invariant c.args.self.now c.self.view_is c.args.element.now (string_bytes c.push_element.new.text) (not c.is_empty-below_root.result) (below c) (long c) in
     omega (arith, c.push_element.new.text.bytes.ok.0, ap length text)
+
+-- where the element ends
+places : (c : goal.After-push_reserved) → c.push_reserved.new.self.items ≡ c.self.inside.ends.items ++ length (string_bytes c.push_element.new.text) ∷ []
+places c =
+    let end : c.len.result ≡ length (string_bytes c.push_element.new.text) = c.len.ensures ∙ c.push_element.new.text.bytes.ok.0 in
+    let ends : c.reserve.new.self.items ≡ c.self.inside.ends.items = c.in_ok-reserve.ensures.items in
+    rw (c.push_reserved.ensures.items, end, ends)
 
 -- the fields with the element
 added : (c : goal.After-push_reserved) → IsKept c.self.inside.owner (string_bytes c.push_element.new.text) c.push_reserved.new.self.items × (read_off c.self.inside.owner (string_bytes c.push_element.new.text) ≡ extended c.args.self.now c.args.element.now)
 added c =
     let before = (goal.at.invariant_of-self-2 c).After-len in
     extended_seen c.self.invariant c.args.self.now c.self.view_is c.args.element.now (string_bytes c.push_element.new.text)
-    (not c.is_empty.result) (below before) (long before) c.push_reserved.new.self.items
-    (c.push_reserved.ensures.items ∙ ap (λ ends. ends ++ c.len.result ∷ []) c.in_ok-reserve.ensures.items ∙ ap (λ n. c.self.inside.ends.items ++ n ∷ []) (c.len.ensures ∙ c.push_element.new.text.bytes.ok.0))
-    c.requires.named c.requires.fits
+    (not c.is_empty-below_root.result) (below before) (long before) c.push_reserved.new.self.items (places c) c.requires.named c.requires.fits
 
 pub invariant_of-self-2 : goal.invariant_of-self-2
 invariant_of-self-2 c = (added c).0

@@ -1,7 +1,7 @@
-use Rattle.std.proofs.Common.{◌≡◌, ◌-◌, ap, sym, ◌∙◌, length, take, arith}
+use Rattle.std.proofs.Common.{◌≡◌, ◌-◌, ap, ◌∙◌, length, take, arith}
 use Rattle.std.specs.String.{string_bytes}
 use Rattle.std.proofs.lemmas.Str.{IsUtf8-string_bytes}
-use Rattle.up_names.specs.PathNames.{PathName, cut}
+use Rattle.up_names.specs.PathNames.{cut}
 use Rattle.up_names.specs.PathParts.{read_off, IsKept}
 use Rattle.up_names.proofs.PathEdits.{text_seen, len_seen, cut_seen}
 use Rattle.up_names.proofs.PathPlaces.{cut_boundary-at}

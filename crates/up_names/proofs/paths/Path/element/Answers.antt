@@ -1,4 +1,4 @@
-use Rattle.std.proofs.Common.{◌≡◌, ◌+◌, [], Some, ap, sym, ◌∙◌, length, get_or, arith, add-one}
+use Rattle.std.proofs.Common.{◌+◌, [], Some, ap, sym, ◌∙◌, get_or, arith}
 use Rattle.std.proofs.lemmas.Option.{slice_get-get_or}
 use Rattle.up_names.proofs.PathEdits.{text_seen}
 use Rattle.up_names.proofs.PathPlaces.{Stands, stands_at, read_there, begin_le_end, begin_boundary, cut_boundary-at}

@@ -1,4 +1,4 @@
-use Rattle.std.proofs.Common.{◌+◌, eqb, length, ap, sym, ◌∙◌, arith}
+use Rattle.std.proofs.Common.{eqb, ap, ◌∙◌, arith}
 use Rattle.up_names.proofs.PathEdits.{length_with}
 use Rattle.up_names.proofs.paths.Path.len_with.Goals as goal
 

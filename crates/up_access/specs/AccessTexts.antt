@@ -1,0 +1,48 @@
+-- Access texts (Upspin access control document). Lines that grant nobody are this project's own.
+use Rattle.std.specs.Prelude.{ℕ, Bool, ◌==◌, not, if◌then◌else◌, List, [], ◌∷◌, length, map, Option, Some, None, option_map, option_and_then, Result}
+use Rattle.std.specs.List.{list_any, before_first, after_first}
+use Rattle.std.specs.Str.{byte}
+use Rattle.up_names.specs.declared.faults.TextFault.{TextFault}
+use Rattle.up_names.specs.ControlTexts.{control_lines, words_in, says_nothing}
+use Rattle.up_names.specs.ItemLists.{items_in}
+use Rattle.up_names.specs.TextMeanings.{meaning_of}
+use Rattle.up_rights.specs.RightSets.{Rights, no_rights, both_rights}
+use Rattle.up_rights.specs.Words.{rights_of}
+use Rattle.up_access.specs.declared.Rule.{Rule}
+
+infixl 10 ◌>>=◌
+abbrev pub ◌>>=◌ : {A B : Type 0} → Option A → (A → Option B) → Option B
+found >>= next = option_and_then next found
+
+abbrev pub is_colon : ℕ → Bool
+is_colon b = b == byte ":"
+
+-- the rights that words stand for, all of them together; none where one of the words is no right
+abbrev pub rights_in : List (List ℕ) → Option Rights
+rights_in [] = Some no_rights
+rights_in (word ∷ words) = do
+  rights ← rights_of word
+  more ← rights_in words
+  Some (both_rights rights more)
+
+-- the rights that the part of a line before its first `:` grants: at least one word, each a right
+unfoldable pub granted_by : List ℕ → Option Rights
+granted_by part = if length (words_in part) == 0 then None else rights_in (words_in part)
+
+-- The rule that a line says: it has a `:`, the first of which parts rights from names. There is at least one right, and
+-- perhaps no name; a line with a word that is no right, or names no item, is bad.
+unfoldable pub rule_of : List ℕ → List ℕ → Option Rule
+rule_of owner line =
+    if not (list_any is_colon line) then None else do
+      rights ← granted_by (before_first is_colon line)
+      items ← items_in owner (words_in (after_first is_colon line))
+      Some (record { rights = rights; items = items })
+
+-- the rules of a line: none where it says nothing, else one, or the line is bad
+unfoldable pub rules_in : List ℕ → List ℕ → Option (List Rule)
+rules_in owner line = if says_nothing line then Some [] else option_map (λ rule. rule ∷ []) (rule_of owner line)
+
+-- What an Access text in this owner's tree stands for: the rules of all lines, in order, or, where a line is bad, its
+-- number, the first such from 1.
+unfoldable pub access_of : List ℕ → List ℕ → Result (List Rule) TextFault
+access_of owner text = meaning_of (map (rules_in owner) (control_lines text))

@@ -1,0 +1,4 @@
+mod Examples
+mod Images
+mod Kept
+pub mod Moments

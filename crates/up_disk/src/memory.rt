@@ -1,0 +1,237 @@
+//! A disk in memory. It keeps what it had at first and each call, so that it knows what a crash may leave.
+ghost use Rattle.std.specs.Prelude.{◌≡◌, ◌≤◌, length};
+ghost use Rattle.up_disk.specs.Pending.{content_after, synced_calls};
+
+use crate::call::{Call, Written};
+use crate::disk::{Disk, Failed};
+use crate::landing::{copy_of, land_all, landing, overwrite, redo_all};
+use crate::plan::Plan;
+use std::alloc::{AllocError, Global};
+use up_lists::Items;
+
+/// A disk in memory, which tells its content. The calls whose numbers are listed fail, and so does one that finds no
+/// memory; a write that is listed leaves the front half of its bytes, and any other call that fails changes nothing.
+#[derive(Debug, Drop)]
+pub struct MemDisk {
+    first: Items<u8>,
+    calls: Vec<Call>,
+    // how many of the calls there are up to the last sync
+    synced: usize,
+    bytes: Vec<u8>,
+    plan: Plan,
+    ghost kept: { bytes.items ≡ content_after first calls.items },
+    ghost counted: { synced ≡ synced_calls calls.items },
+    ghost within: { synced ≤ length calls.items },
+}
+
+impl MemDisk {
+    ghost use Rattle.std.specs.Prelude.{◌≡◌, ◌≤◌, ◌+◌, ◌^◌, [], Some, IfOk, OnOk, OnErr, length, take};
+    ghost use Rattle.up_disk.specs.Disk.{Elapses, Follows, Only, Torn, written};
+    ghost use Rattle.up_disk.specs.Memory.{asked_of, content_of, fails_of, faults_of, image_of, left_since_of, may_leave_of, moment_of, IsUntouched, IsWritten};
+
+    /// An empty disk. `fails` has the numbers of the calls that fail: all calls of [`Disk`] but `size` count, from 0,
+    /// failed ones too.
+    pub fn new(alloc: Global, fails: Items<u64>) -> MemDisk
+        ensures empty { content_of result ≡ Some [] }
+        ensures settled { Only (content_of result) (may_leave_of result) }
+        ensures fails { fails_of result ≡ fails }
+        ensures unasked { asked_of result ≡ 0 }
+        ensures faultless { faults_of result ≡ 0 }
+    {
+        MemDisk::settled(Items::new(alloc), Vec::new(alloc), fails)
+    }
+
+    // A disk with these bytes, all of them synced.
+    fn settled(first: Items<u8>, bytes: Vec<u8>, listed: Items<u64>) -> MemDisk
+        requires { first ≡ bytes.items }
+        ensures content { content_of result ≡ Some bytes.items }
+        ensures settled { Only (content_of result) (may_leave_of result) }
+        ensures fails { fails_of result ≡ listed }
+        ensures unasked { asked_of result ≡ 0 }
+        ensures faultless { faults_of result ≡ 0 }
+    {
+        MemDisk {
+            calls: Vec::new(first.allocator()),
+            synced: 0,
+            bytes,
+            plan: Plan {
+                listed,
+                asked: 0,
+                count: 0,
+            },
+            first,
+        }
+    }
+
+    /// The disk that a crash now may leave, by the choice modulo 8. Of the calls since the last sync have landed: 0,
+    /// nothing; 1, all; 2, of each write the front half of its bytes; 3, the back half; 4, bytes 01 in place of those
+    /// written; 5, bytes FF; 6, what lies within the old size; 7, the greatest size and no byte written, with 00
+    /// behind the old size. A cut has happened but in 0, 6 and 7. All is synced, and no call fails.
+    pub fn image(&self, choice: u64) -> Result<MemDisk, AllocError>
+        ensures image { IfOk result (λ image. content_of image ≡ Some (image_of self.now choice)) }
+        ensures possible { IfOk result (λ _. may_leave_of self.now (image_of self.now choice)) }
+        ensures settled { IfOk result (λ image. Only (content_of image) (may_leave_of image)) }
+        ensures fails { IfOk result (λ image. fails_of image ≡ []) }
+        ensures unasked { IfOk result (λ image. asked_of image ≡ 0) }
+        ensures faultless { IfOk result (λ image. faults_of image ≡ 0) }
+    {
+        let alloc = *self.bytes.allocator();
+        let mut image = copy_of(alloc, self.first.as_slice())?.into_vec();
+        let (synced, pending) = self.calls.as_slice().split_at(self.synced);
+        redo_all(&mut image, synced)?;
+        land_all(&mut image, landing(choice), pending)?;
+        let first = copy_of(alloc, &image)?;
+        Ok(MemDisk::settled(first, image, Items::new(alloc)))
+    }
+
+    // Writes, and notes the whole write where only the front of it has landed. An `Err` changes nothing.
+    fn write(&mut self, at: u64, bytes: &[u8], landed: usize) -> Result<(), AllocError>
+        requires within { at ≤ length self.old.bytes.items }
+        requires end { at + length bytes.now ≤ 2 ^ 62 }
+        requires part { landed ≤ length bytes.now }
+        ensures ok { OnOk result (self.new.bytes.items ≡ written at (take landed bytes.now) self.old.bytes.items) }
+        ensures torn { Torn at (length bytes.now) self.old.bytes.items self.new.bytes.items }
+        ensures lands { OnOk result (IsWritten at bytes.now landed self.old self.new) }
+        ensures untouched { OnErr result (IsUntouched self.old self.new) }
+        ensures crash { Follows (Torn at (length bytes.now)) (may_leave_of self.old) (may_leave_of self.new) }
+        ensures time { Elapses (moment_of self.old) (moment_of self.new) (left_since_of self.old) (left_since_of self.new) (may_leave_of self.new) }
+        ensures err { OnErr result (self.new.bytes.items ≡ self.old.bytes.items) }
+        ensures plan { self.new.plan ≡ self.old.plan }
+    {
+        self.calls.reserve(1)?;
+        let whole = copy_of(*self.bytes.allocator(), bytes)?;
+        overwrite(&mut self.bytes, at as usize, &bytes[..landed])?;
+        self.calls.push_reserved(Call::Write(Written {
+            at,
+            bytes: whole,
+            landed: landed as u64,
+        }));
+        Ok(())
+    }
+}
+
+impl Disk for MemDisk {
+    ghost use Rattle.std.specs.Prelude.{◌≡◌, ◌≤◌, ◌+◌, ◌/◌, ◌^◌, ◌⊎◌, List, ℕ, max, length, take, option_map, refl, Contains, IfSome, IsOk, OnOk, OnErr};
+    ghost use Rattle.up_disk.specs.Disk.{CutShort, Elapses, Follows, HasCause, Only, Steps, Torn, part, written};
+    ghost use Rattle.up_disk.specs.Plan.{IsAsked};
+    ghost use Rattle.up_disk.specs.Memory.{asked_of, content_of, fails_of, faults_of, left_since_of, length_of, may_leave_of, moment_of, IsCut, IsSynced, IsUntouched, IsWritten};
+    ghost use Rattle.up_disk.specs.MemoryLaws.{leaves_bytes, now_only, since_now};
+
+    ghost content = { content_of };
+
+    ghost size_of = { length_of };
+
+    ghost may_leave = { may_leave_of };
+
+    ghost moment = { moment_of };
+
+    ghost left_since = { left_since_of };
+
+    ghost faults = { faults_of };
+
+    ghost sized = { λ disk. refl };
+
+    ghost told = { λ disk image left. refl };
+
+    ghost leaves_read = { λ disk. leaves_bytes disk.first disk.bytes.items disk.calls.items disk.kept };
+
+    ghost counts_now = { λ disk t image le left. since_now disk.first disk.calls.items t image le left };
+
+    ghost only_now = { λ disk image left. now_only disk.first disk.calls.items image left };
+
+    fn size(&self) -> u64 {
+        self.bytes.len() as u64
+    }
+
+    /// It fails where its number is listed, and only there.
+    fn read(&mut self, at: u64, buf: &mut [u8]) -> Result<(), Failed>
+        requires { at + length buf.old ≤ length_of self.old }
+        ensures bytes { OnOk result (IfSome (content_of self.old) (λ bytes. buf.new ≡ part at (length buf.old) bytes)) }
+        ensures content { content_of self.new ≡ content_of self.old }
+        ensures size { length_of self.new ≡ length_of self.old }
+        ensures crash { (image : List ℕ) → may_leave_of self.new image → may_leave_of self.old image }
+        ensures time { Elapses (moment_of self.old) (moment_of self.new) (left_since_of self.old) (left_since_of self.new) (may_leave_of self.new) }
+        ensures cause { HasCause (faults_of self.old) (faults_of self.new) result }
+        ensures asked { IsAsked (fails_of self.old) (asked_of self.old) (fails_of self.new) (asked_of self.new) result }
+        ensures only_listed { OnErr result (Contains (fails_of self.old) (asked_of self.old)) }
+        ensures untouched { IsUntouched self.old self.new }
+    {
+        self.plan.ask()?;
+        let at = at as usize;
+        buf.copy_from_slice(&self.bytes[at..at + buf.len()]);
+        Ok(())
+    }
+
+    /// Where its number is listed, or there is no memory, it fails. In the first case the front half of its bytes
+    /// has landed, if there was memory for the note of it, and in the second nothing.
+    fn write_at(&mut self, at: u64, bytes: &[u8]) -> Result<(), Failed>
+        requires within { at ≤ length_of self.old }
+        requires end { at + length bytes.now ≤ 2 ^ 62 }
+        ensures written { OnOk result (content_of self.new ≡ option_map (written at bytes.now) (content_of self.old)) }
+        ensures failed { OnErr result (Steps (Torn at (length bytes.now)) (content_of self.old) (content_of self.new)) }
+        ensures size { OnOk result (length_of self.new ≡ max (length_of self.old) (at + length bytes.now)) }
+        ensures no_shorter { length_of self.old ≤ length_of self.new }
+        ensures no_longer { length_of self.new ≤ max (length_of self.old) (at + length bytes.now) }
+        ensures crash { Follows (Torn at (length bytes.now)) (may_leave_of self.old) (may_leave_of self.new) }
+        ensures time { Elapses (moment_of self.old) (moment_of self.new) (left_since_of self.old) (left_since_of self.new) (may_leave_of self.new) }
+        ensures cause { HasCause (faults_of self.old) (faults_of self.new) result }
+        ensures asked { IsAsked (fails_of self.old) (asked_of self.old) (fails_of self.new) (asked_of self.new) result }
+        ensures lands { OnOk result (IsWritten at bytes.now (length bytes.now) self.old self.new) }
+        ensures half { OnErr result (IsWritten at bytes.now (length bytes.now / 2) self.old self.new ⊎ IsUntouched self.old self.new) }
+    {
+        if let Err(failed) = self.plan.ask() {
+            // Where there is no memory to note the front half, nothing of the write has landed.
+            let _ = self.write(at, bytes, bytes.len() / 2);
+            return Err(failed);
+        }
+        if self.write(at, bytes, bytes.len()).is_err() {
+            return Err(self.plan.fail());
+        }
+        Ok(())
+    }
+
+    /// Where its number is listed, or there is no memory, it fails and has not happened.
+    fn cut(&mut self, size: u64) -> Result<(), Failed>
+        requires { size ≤ length_of self.old }
+        ensures cut { OnOk result (content_of self.new ≡ option_map (take size) (content_of self.old)) }
+        ensures failed { OnErr result (Steps (CutShort size) (content_of self.old) (content_of self.new)) }
+        ensures size { OnOk result (length_of self.new ≡ size) }
+        ensures no_shorter { size ≤ length_of self.new }
+        ensures no_longer { length_of self.new ≤ length_of self.old }
+        ensures crash { Follows (CutShort size) (may_leave_of self.old) (may_leave_of self.new) }
+        ensures time { Elapses (moment_of self.old) (moment_of self.new) (left_since_of self.old) (left_since_of self.new) (may_leave_of self.new) }
+        ensures cause { HasCause (faults_of self.old) (faults_of self.new) result }
+        ensures asked { IsAsked (fails_of self.old) (asked_of self.old) (fails_of self.new) (asked_of self.new) result }
+        ensures lands { OnOk result (IsCut size self.old self.new) }
+        ensures untouched { OnErr result (IsUntouched self.old self.new) }
+    {
+        self.plan.ask()?;
+        if self.calls.reserve(1).is_err() {
+            return Err(self.plan.fail());
+        }
+        self.bytes.truncate(size as usize);
+        self.calls.push_reserved(Call::Cut(size));
+        Ok(())
+    }
+
+    /// Where its number is listed, or there is no memory, it fails and has not happened.
+    fn sync(&mut self) -> Result<(), Failed>
+        ensures durable { OnOk result (Only (content_of self.new) (may_leave_of self.new)) }
+        ensures content { content_of self.new ≡ content_of self.old }
+        ensures size { length_of self.new ≡ length_of self.old }
+        ensures crash { (image : List ℕ) → may_leave_of self.new image → may_leave_of self.old image }
+        ensures time { Elapses (moment_of self.old) (moment_of self.new) (left_since_of self.old) (left_since_of self.new) (may_leave_of self.new) }
+        ensures cause { HasCause (faults_of self.old) (faults_of self.new) result }
+        ensures asked { IsAsked (fails_of self.old) (asked_of self.old) (fails_of self.new) (asked_of self.new) result }
+        ensures lands { OnOk result (IsSynced self.old self.new) }
+        ensures untouched { OnErr result (IsUntouched self.old self.new) }
+    {
+        self.plan.ask()?;
+        if self.calls.reserve(1).is_err() {
+            return Err(self.plan.fail());
+        }
+        self.calls.push_reserved(Call::Sync);
+        self.synced = self.calls.len();
+        Ok(())
+    }
+}

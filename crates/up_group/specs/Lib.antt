@@ -1,0 +1,4 @@
+pub mod GroupTexts
+pub use Rattle.up_names.specs.Faults
+pub use Rattle.up_names.specs.ItemLists
+pub use Rattle.up_names.specs.TextMeanings

@@ -1,0 +1,9 @@
+pub mod Appended
+pub mod Cells
+pub mod Format
+pub mod Heads
+pub mod Kept
+pub mod Moved
+pub mod Opened
+pub mod Runs
+pub mod Settled
