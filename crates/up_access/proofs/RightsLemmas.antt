@@ -18,7 +18,8 @@ moved : (set word : Rights) (found : Option Rights) → option_map (both_rights 
 moved set word None = refl
 moved set word (Some more) = ap Some (both_rights-both set word more)
 
-rights_in-word : (word : List ℕ) (words : List (List ℕ)) (rights : Rights) → Some rights ≡ rights_of word → rights_in (word ∷ words) ≡ option_map (both_rights rights) (rights_in words)
+-- a word that is a right
+pub rights_in-word : (word : List ℕ) (words : List (List ℕ)) (rights : Rights) → Some rights ≡ rights_of word → rights_in (word ∷ words) ≡ option_map (both_rights rights) (rights_in words)
 rights_in-word word words rights is = ap (option_and_then (λ found. option_and_then (λ more. Some (both_rights found more)) (rights_in words))) (sym is) ∙ mapped (rights_in words)
   where
     mapped : (found : Option Rights) → option_and_then (λ more. Some (both_rights rights more)) found ≡ option_map (both_rights rights) found

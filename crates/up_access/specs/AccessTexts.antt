@@ -1,5 +1,5 @@
 -- Access texts (Upspin access control document). Lines that grant nobody are this project's own.
-use Rattle.std.specs.Prelude.{ℕ, Bool, ◌==◌, not, if◌then◌else◌, List, [], ◌∷◌, length, map, Option, Some, None, option_map, option_and_then, Result}
+use Rattle.std.specs.Prelude.{ℕ, Bool, ◌==◌, not, if◌then◌else◌, List, [], ◌∷◌, map, Option, Some, None, option_map, option_and_then, Result}
 use Rattle.std.specs.List.{list_any, before_first, after_first}
 use Rattle.std.specs.Str.{byte}
 use Rattle.up_names.specs.declared.faults.TextFault.{TextFault}
@@ -25,16 +25,17 @@ rights_in (word ∷ words) = do
   more ← rights_in words
   Some (both_rights rights more)
 
--- the rights that the part of a line before its first `:` grants: at least one word, each a right
-unfoldable pub granted_by : List ℕ → Option Rights
-granted_by part = if length (words_in part) == 0 then None else rights_in (words_in part)
+-- the rights that words grant: there is at least one word, and each is a right
+abbrev pub granted_by : List (List ℕ) → Option Rights
+granted_by [] = None
+granted_by (word ∷ words) = rights_in (word ∷ words)
 
 -- The rule that a line says: it has a `:`, the first of which parts rights from names. There is at least one right, and
 -- perhaps no name; a line with a word that is no right, or names no item, is bad.
 unfoldable pub rule_of : List ℕ → List ℕ → Option Rule
 rule_of owner line =
     if not (list_any is_colon line) then None else do
-      rights ← granted_by (before_first is_colon line)
+      rights ← granted_by (words_in (before_first is_colon line))
       items ← items_in owner (words_in (after_first is_colon line))
       Some (record { rights = rights; items = items })
 

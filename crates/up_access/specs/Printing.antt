@@ -1,5 +1,5 @@
 -- How the rules of an Access text are printed: this project's own form of the Upspin access control document's.
-use Rattle.std.specs.Prelude.{ℕ, List, [], ◌∷◌, ◌++◌, codes, filter}
+use Rattle.std.specs.Prelude.{◌≡◌, ℕ, Ok, List, [], ◌∷◌, ◌++◌, codes, filter}
 use Rattle.std.specs.List.{flat_map, join_by}
 use Rattle.up_names.specs.declared.items.Item.{Item}
 use Rattle.up_names.specs.declared.items.Item.TheVariants.{Everyone, Domain, User, Group}
@@ -9,6 +9,7 @@ use Rattle.up_rights.specs.declared.Right.TheVariants as right
 use Rattle.up_rights.specs.RightSets.{Rights, has_right}
 use Rattle.up_rights.specs.Words.{letter}
 use Rattle.up_access.specs.declared.Rule.{Rule}
+use Rattle.up_access.specs.AccessTexts.{access_of}
 
 -- the five rights, in the order in which they are printed
 abbrev pub five_rights : List Right
@@ -35,3 +36,7 @@ printed_rule rule = printed_rights rule.rights ++ codes ": " ++ printed_items ru
 
 abbrev pub printed : List Rule → List ℕ
 printed rules = flat_map printed_rule rules
+
+-- the printed text, read with any owner, stands for the rules that were printed
+abbrev pub AreReadAgain : List Rule → Type 0
+AreReadAgain rules = (owner : List ℕ) → access_of owner (printed rules) ≡ Ok rules

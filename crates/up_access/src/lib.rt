@@ -31,10 +31,13 @@ pub struct AccessText {
 impl Model for AccessText {
     ghost use Rattle.std.specs.Prelude.{List};
     ghost use Rattle.up_access.specs.declared.Rule.{Rule};
+    ghost use Rattle.up_access.specs.Printing.{AreReadAgain};
 
     ghost Value = { List Rule };
 
     ghost view = { λ text. text.rules };
+
+    ghost invariant = { λ text. AreReadAgain text.rules };
 
     ghost inverse = { λ rules. record { rules = rules } };
 }

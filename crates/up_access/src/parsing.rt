@@ -96,9 +96,8 @@ fn place_of_colon(line: &[u8]) -> Option<usize>
 }
 
 /// The rights that the words of the part before the `:` stand for, `None` where there is no word, or one is no right.
-#[tactic(auto, unfolding(crate::specs::AccessTexts::granted_by))]
 fn parse_rights(part: &[u8]) -> Option<RightSet>
-    ensures { result ≡ granted_by part.now }
+    ensures { result ≡ granted_by (words_in part.now) }
 {
     let (word, mut rest) = next_word(part)?;
     let mut rights = read_right(word)?;

@@ -1,8 +1,9 @@
 //! How the rules of an Access text are printed.
-ghost use Rattle.std.specs.Prelude.{◌≡◌, ◌++◌, codes, filter, IfOk, OnOk};
+ghost use Rattle.std.specs.Prelude.{◌≡◌, ℕ, List, Ok, ◌++◌, codes, filter, IfOk, OnOk};
 ghost use Rattle.std.specs.List.{flat_map, join_by};
 ghost use Rattle.up_rights.specs.RightSets.{has_right};
 ghost use Rattle.up_rights.specs.Words.{letter};
+ghost use Rattle.up_access.specs.AccessTexts.{access_of};
 ghost use Rattle.up_access.specs.Printing.{item_text, printed, printed_items, printed_rights, printed_rule};
 
 use crate::{AccessText, Rule};
@@ -13,9 +14,12 @@ use up_names::Item;
 use up_rights::{Right, RightSet};
 
 /// The rules as a text: a line for each, of the letters of its rights in the order `r,w,l,c,d`, `: `, and its items
-/// joined by `, `. Everyone is `all`, a domain `*@` and the domain, a user its name, and a group its full path.
+/// joined by `, `. Everyone is `all`, a domain `*@` and the domain, a user its name, and a group its full path. So the
+/// text means the same in any owner's tree.
 pub fn print_access(text: &AccessText) -> Result<Bytes, AllocError>
     ensures text { IfOk result (λ bytes. bytes ≡ printed text.now) }
+    // Read with any owner, it stands for the same rules.
+    ensures again { IfOk result (λ bytes. (owner : List ℕ) → access_of owner bytes ≡ Ok text.now) }
 {
     let mut out = Vec::new(text.rules.allocator());
     for rule in text.rules() {

@@ -1,9 +1,4 @@
-//! Tests of several crates: each call that can want memory answers where there is memory, and each fault once.
-mod ends;
-mod fields;
-mod frames;
-mod paths;
-mod references;
+//! Tests of several crates: texts, rights and whole scripts, with ample memory, and each fault once.
+mod rights;
 mod scripts;
-mod users;
-mod words;
+mod texts;

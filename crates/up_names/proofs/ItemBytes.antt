@@ -42,7 +42,7 @@ list_all-kept test keep (piece ∷ rest) all =
     let behind = list_all-kept test keep rest h.1 in
     cond_both (keep piece) (piece ∷ filter keep rest) (filter keep rest) (λ kept. list_all test kept ≡ true) (λ _. and_from _ _ h.0 behind) (λ _. behind)
 
-list_all-joined_text : (q : ℕ → Bool) → q 47 ≡ true → (es : List (List ℕ)) → list_all (list_all q) es ≡ true → list_all q (joined_text es) ≡ true
+pub list_all-joined_text : (q : ℕ → Bool) → q 47 ≡ true → (es : List (List ℕ)) → list_all (list_all q) es ≡ true → list_all q (joined_text es) ≡ true
 list_all-joined_text q slash [] all = refl
 list_all-joined_text q slash (e ∷ []) all = (and_parts (list_all q e) true all).0
 list_all-joined_text q slash (e ∷ f ∷ es) all =

@@ -4,18 +4,19 @@ use Rattle.std.specs.Io.KnownBytes.{Appends}
 use Rattle.up_ends.specs.Writing.{Going, WritesPart}
 use Rattle.up_ends.proofs.Going.{Going-more, Going-all, WritesPart-so_far, WritesPart-step}
 use Rattle.up_text.specs.Lines.{script_lines}
+use Rattle.up_script.specs.declared.can_files.CanFiles.{CanFiles}
 use Rattle.up_script.specs.CanLines.{Tree, Turn, turn_of, reply_of, tree_after, asked}
 use Rattle.up_script.specs.CanRuns.{Run, run_from, ends_badly, says, bad_line}
 
 -- a line that asks prints its reply
-pub asked_says : (tree : Tree) (reply : Option (List ℕ)) → reply_of (asked tree reply) ≡ reply
-asked_says tree None = refl
-asked_says tree (Some text) = refl
+pub asked_says : (files : CanFiles) (reply : Option (List ℕ)) → reply_of (asked files reply) ≡ reply
+asked_says files None = refl
+asked_says files (Some text) = refl
 
--- and leaves the tree as it is
-pub asked_keeps : (tree : Tree) (reply : Option (List ℕ)) → tree_after tree (asked tree reply) ≡ tree
-asked_keeps tree None = refl
-asked_keeps tree (Some text) = refl
+-- and leaves the files as they are
+pub asked_keeps : (files : CanFiles) (reply : Option (List ℕ)) → tree_after (Some files) (asked files reply) ≡ Some files
+asked_keeps files None = refl
+asked_keeps files (Some text) = refl
 
 -- what the sink was given so far, what is gathered, and what the lines that are left say, are what all lines say
 pub record Runs (old now : Option (List ℕ)) (gathered : List ℕ) (more all : Run) : Type 0 where

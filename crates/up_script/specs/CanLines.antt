@@ -1,15 +1,22 @@
 -- What each line of a `can` script says. The script language is this project's own; the questions are those of the
 -- Upspin access control document.
-use Rattle.std.specs.Prelude.{ℕ, Bool, true, false, List, [], ◌∷◌, ◌==◌, codes, if◌then◌else◌, Option, Some, None, is_some, is_none, option_map}
+use Rattle.std.specs.Prelude.{ℕ, ◌-◌, Bool, true, false, List, [], ◌∷◌, ◌&&◌, length, codes, if◌then◌else◌, Option, Some, None, option_map}
 use Rattle.std.specs.Option.{option_and_then}
 use Rattle.std.specs.Result.{result_ok}
 use Rattle.std.specs.Str.{bytes_eq}
-use Rattle.up_names.specs.UserNames.{user_of, suffix_of}
-use Rattle.up_names.specs.PathNames.{PathName, path_of}
+use Rattle.up_access.specs.AccessTexts.{access_of}
+use Rattle.up_group.specs.GroupTexts.{group_of}
+use Rattle.up_names.specs.declared.paths.Control.{Control}
+use Rattle.up_names.specs.declared.paths.Control.TheVariants as control
+use Rattle.up_names.specs.UserNames.{user_of}
+use Rattle.up_names.specs.PathNames.{PathName, path_of, control_of, cut}
 use Rattle.up_rights.specs.declared.Right.{Right}
 use Rattle.up_rights.specs.Words.{right_named}
 use Rattle.up_text.specs.Lines.{is_silent, line_words}
 use Rattle.up_text.specs.Words.{decoded}
+use Rattle.up_script.specs.CanFiles.{bare_tree, with_access, with_text, verdict}
+use Rattle.up_policy.specs.Files.{Files}
+use Rattle.up_script.specs.declared.can_files.CanFiles.{CanFiles}
 use Rattle.up_script.specs.declared.can_lines.CanKind.{CanKind}
 use Rattle.up_script.specs.declared.can_lines.CanKind.TheVariants as kinds
 
@@ -17,13 +24,9 @@ infixl 10 ◌>>=◌
 abbrev pub ◌>>=◌ : {A B : Type 0} → Option A → (A → Option B) → Option B
 found >>= next = option_and_then next found
 
--- the tree that a script asks about, by the lines so far: its owner, once a `tree` line has named it
-pub record Tree : Type 0 where
-  pub owner : Option (List ℕ)
-
--- before the first line
-abbrev pub no_tree : Tree
-no_tree = record { owner = None }
+-- the tree that a script asks about, by the lines so far: none before its `tree` line, then the files of the tree
+abbrev pub Tree : Type 0
+Tree = Option CanFiles
 
 -- what a line does: the tree after it, and the text that it prints
 pub record Turn : Type 0 where
@@ -39,6 +42,14 @@ abbrev pub tree_after : Tree → Option Turn → Tree
 tree_after tree None = tree
 tree_after tree (Some turn) = turn.tree
 
+-- a line that names files prints nothing; none where it is malformed
+abbrev pub named : Option CanFiles → Option Turn
+named files = option_map (λ f. record { tree = Some f; reply = [] }) files
+
+-- a line that asks leaves the files as they are; none where it is malformed
+abbrev pub asked : CanFiles → Option (List ℕ) → Option Turn
+asked files reply = option_map (λ text. record { tree = Some files; reply = text }) reply
+
 -- the user that a word names
 unfoldable pub user_named : List ℕ → Option (List ℕ)
 user_named word = do
@@ -51,52 +62,91 @@ path_named word = do
   text ← decoded word
   result_ok (path_of text)
 
--- a user whose suffix is `snapshot` owns a snapshot tree
-abbrev pub owns_snapshots : List ℕ → Bool
-owns_snapshots user = elim (suffix_of user) [ None ↦ false | Some suffix ↦ bytes_eq suffix (codes "snapshot") ]
-
--- Whether a user has a right on a path. No Access file governs a path yet, so exactly the tree's owner has each right
--- (Upspin access control document).
-abbrev pub has_right : List ℕ → List ℕ → Right → PathName → Bool
-has_right owner user right path = bytes_eq user owner
-
 -- the line that answers a question
 abbrev pub verdict_line : Bool → List ℕ
-verdict_line verdict = if verdict then codes "yes\n" else codes "no\n"
+verdict_line answer = if answer then codes "yes\n" else codes "no\n"
 
 -- `tree USER`: exactly once, before every other line that says something
-unfoldable pub tree_turn : Tree → List (List ℕ) → Option Turn
-tree_turn tree (word ∷ []) = do
-  user ← user_named word
-  if is_some tree.owner then None else if owns_snapshots user then None else Some (record { tree = record { owner = Some user }; reply = [] })
-tree_turn tree [] = None
-tree_turn tree (word ∷ other ∷ more) = None
+unfoldable pub tree_line : List (List ℕ) → Option CanFiles
+tree_line (word ∷ []) = option_map bare_tree (user_named word)
+tree_line [] = None
+tree_line (word ∷ other ∷ more) = None
 
--- a line that asks leaves the tree as it is
-abbrev pub asked : Tree → Option (List ℕ) → Option Turn
-asked tree reply = option_map (λ text. record { tree = tree; reply = text }) reply
+-- whether a path is an Access path
+abbrev pub is_access : PathName → Bool
+is_access path = elim (control_of path) [ control.Ordinary ↦ false | control.Access ↦ true | control.Group ↦ false ]
+
+-- the directory that an Access path of the owner is for: its elements but the last
+unfoldable pub access_dir : Files → PathName → Option PathName
+access_dir files path =
+    if bytes_eq path.owner files.owner && is_access path then Some (cut (length path.elements - 1) path) else None
+
+-- `access PATH TEXT`: the text of the Access file at a path of the owner
+unfoldable pub access_line : CanFiles → List (List ℕ) → Option CanFiles
+access_line files (path_word ∷ text_word ∷ []) = do
+  path ← path_named path_word
+  dir ← access_dir files.tree path
+  text ← decoded text_word
+  rules ← result_ok (access_of files.tree.owner text)
+  Some (record files { tree = with_access files.tree dir rules })
+access_line files [] = None
+access_line files (a ∷ []) = None
+access_line files (a ∷ b ∷ c ∷ more) = None
+
+-- whether a path is a Group path
+abbrev pub is_group : PathName → Bool
+is_group path = elim (control_of path) [ control.Ordinary ↦ false | control.Access ↦ false | control.Group ↦ true ]
+
+-- `group PATH TEXT`: the text of the Group file at a path of any owner, whose short names are that owner's
+unfoldable pub group_line : CanFiles → List (List ℕ) → Option CanFiles
+group_line files (path_word ∷ text_word ∷ []) = do
+  path ← path_named path_word
+  text ← decoded text_word
+  items ← result_ok (group_of path.owner text)
+  if is_group path then Some (with_text files path items) else None
+group_line files [] = None
+group_line files (a ∷ []) = None
+group_line files (a ∷ b ∷ c ∷ more) = None
 
 -- `can USER RIGHT PATH`: whether the user has the right on the path, which is of the tree's owner
-unfoldable pub can_reply : Tree → List (List ℕ) → Option (List ℕ)
-can_reply tree (user_word ∷ right_word ∷ path_word ∷ []) = do
-  owner ← tree.owner
+unfoldable pub can_line : CanFiles → List (List ℕ) → Option (List ℕ)
+can_line files (user_word ∷ right_word ∷ path_word ∷ []) = do
   user ← user_named user_word
   right ← right_named right_word
   path ← path_named path_word
-  if bytes_eq path.owner owner then Some (verdict_line (has_right owner user right path)) else None
-can_reply tree [] = None
-can_reply tree (a ∷ []) = None
-can_reply tree (a ∷ b ∷ []) = None
-can_reply tree (a ∷ b ∷ c ∷ d ∷ more) = None
+  if bytes_eq path.owner files.tree.owner then Some (verdict_line (verdict files user right path)) else None
+can_line files [] = None
+can_line files (a ∷ []) = None
+can_line files (a ∷ b ∷ []) = None
+can_line files (a ∷ b ∷ c ∷ d ∷ more) = None
 
 -- the kind of line that a keyword begins
 unfoldable pub kind_of : List ℕ → Option CanKind
-kind_of word = if bytes_eq word (codes "tree") then Some kinds.Tree else if bytes_eq word (codes "can") then Some kinds.Can else None
+kind_of word =
+    if bytes_eq word (codes "can") then Some kinds.Can
+    else if bytes_eq word (codes "access") then Some kinds.Access
+    else if bytes_eq word (codes "group") then Some kinds.Group
+    else if bytes_eq word (codes "tree") then Some kinds.Tree
+    else None
+
+-- what a line of a kind does once the tree is named
+unfoldable pub files_turn : CanKind → CanFiles → List (List ℕ) → Option Turn
+files_turn kinds.Tree files arguments = None
+files_turn kinds.Access files arguments = named (access_line files arguments)
+files_turn kinds.Group files arguments = named (group_line files arguments)
+files_turn kinds.Can files arguments = asked files (can_line files arguments)
+
+-- and before it is named
+unfoldable pub first_turn : CanKind → List (List ℕ) → Option Turn
+first_turn kinds.Tree arguments = named (tree_line arguments)
+first_turn kinds.Access arguments = None
+first_turn kinds.Group arguments = None
+first_turn kinds.Can arguments = None
 
 -- what a line of a kind does with the words behind its keyword
-unfoldable pub kind_turn : CanKind → Tree → List (List ℕ) → Option Turn
-kind_turn kinds.Tree tree arguments = tree_turn tree arguments
-kind_turn kinds.Can tree arguments = asked tree (can_reply tree arguments)
+abbrev pub kind_turn : CanKind → Tree → List (List ℕ) → Option Turn
+kind_turn kind None arguments = first_turn kind arguments
+kind_turn kind (Some files) arguments = files_turn kind files arguments
 
 -- what words do, the first of which is the keyword
 unfoldable pub words_turn : Tree → List (List ℕ) → Option Turn

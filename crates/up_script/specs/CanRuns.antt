@@ -1,7 +1,7 @@
 -- What a whole `can` script means: the text that it prints, its status, and the tree at its end. This project's own.
 use Rattle.std.specs.Prelude.{ℕ, ◌+◌, List, [], ◌∷◌, ◌++◌, codes, Some, None, decimal}
 use Rattle.up_text.specs.Lines.{script_lines}
-use Rattle.up_script.specs.CanLines.{Tree, Turn, no_tree, turn_of}
+use Rattle.up_script.specs.CanLines.{Tree, Turn, turn_of}
 
 pub record Run : Type 0 where
   pub text : List ℕ
@@ -30,4 +30,4 @@ run_from number tree (line ∷ lines) = elim (turn_of tree line) [
 
 -- the run of a whole input, whose lines are numbered from 1
 unfoldable pub run_of : List ℕ → Run
-run_of input = run_from 1 no_tree (script_lines input)
+run_of input = run_from 1 None (script_lines input)

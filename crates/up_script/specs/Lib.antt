@@ -1,3 +1,4 @@
+pub mod CanFiles
 pub mod CanLines
 pub mod CanRuns
 pub mod Statuses

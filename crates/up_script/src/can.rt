@@ -4,10 +4,12 @@ ghost use Rattle.std.specs.List.{list_any};
 ghost use Rattle.std.specs.Io.KnownBytes.{Appends};
 ghost use Rattle.up_ends.specs.Counts.{Rose};
 ghost use Rattle.up_ends.specs.Writing.{WritesPart};
-ghost use Rattle.up_script.specs.CanRuns.{bad_line, run_of};
+ghost use Rattle.up_text.specs.Lines.{script_lines};
+ghost use Rattle.up_script.specs.CanRuns.{bad_line, run_from, run_of};
 ghost use Rattle.up_script.specs.Statuses.{Answers, IsOneOf, answer_of, can_answer, code_of, input_limit, is_can, usage_line};
 
-use crate::can_lines::CanTree;
+use crate::can_files::CanFiles;
+use crate::can_lines::turn;
 use crate::output::{Stop, finish, print};
 use crate::status::Status;
 use std::alloc::{AllocError, Global};
@@ -132,21 +134,41 @@ fn run<K: Sink>(alloc: Global, input: &[u8], sink: &mut K) -> Result<Status, Sto
     ensures cause { IsErrOf result Stop.WriteFault → Rose (K.faults sink.old) (K.faults sink.new) }
     ensures later { K.faults sink.old ≤ K.faults sink.new }
 {
-    let mut tree = CanTree::new();
+    let mut tree = None;
     let mut gathered = Vec::new(alloc);
+    run_lines(alloc, input, &mut tree, &mut gathered, sink)
+}
+
+/// Runs lines from a tree on, and prints what they say behind what is gathered.
+fn run_lines<K: Sink>(
+    alloc: Global,
+    lines: &[u8],
+    tree: &mut Option<CanFiles>,
+    gathered: &mut Vec<u8>,
+    sink: &mut K,
+) -> Result<Status, Stop>
+    ensures whole { IfOk result (λ status. Appends (K.held sink.old) (K.held sink.new)
+        (gathered.old.items ++ (run_from 1 tree.old (script_lines lines.now)).text)) }
+    ensures status { IfOk result (λ status. code_of status ≡ (run_from 1 tree.old (script_lines lines.now)).status) }
+    ensures kind { IfOk result (λ status. IsOneOf (0 ∷ 1 ∷ []) (code_of status)) }
+    ensures part { WritesPart (K.held sink.old) (K.held sink.new)
+        (gathered.old.items ++ (run_from 1 tree.old (script_lines lines.now)).text) }
+    ensures cause { IsErrOf result Stop.WriteFault → Rose (K.faults sink.old) (K.faults sink.new) }
+    ensures later { K.faults sink.old ≤ K.faults sink.new }
+{
     let mut number: u64 = 1;
-    let mut rest = input;
+    let mut rest = lines;
     while let Some((line, after)) = next_line(rest) {
-        let Some(reply) = tree.turn(alloc, line)? else {
+        let Some(reply) = turn(alloc, tree, line)? else {
             let last = bad_line(alloc, number)?;
-            finish(sink, &mut gathered, &last)?;
+            finish(sink, gathered, &last)?;
             return Ok(Status::BadLine);
         };
-        print(sink, &mut gathered, reply)?;
+        print(sink, gathered, reply)?;
         number += 1;
         rest = after;
     }
-    finish(sink, &mut gathered, b"")?;
+    finish(sink, gathered, b"")?;
     Ok(Status::Done)
 }
 

@@ -2,9 +2,11 @@
 #![tactic(auto)]
 
 mod can;
+mod can_files;
 mod can_lines;
 mod output;
 mod status;
 
 pub use can::can_run;
+pub use can_files::CanFiles;
 pub use can_lines::CanKind;

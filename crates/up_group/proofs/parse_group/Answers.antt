@@ -1,9 +1,7 @@
 -- Each line is bad, or the last, or read before the rest.
-use Rattle.std.proofs.Common.{◌≡◌, ◌<◌, [], ◌∷◌, List, ℕ, length, ap, sym, subst, ◌∙◌}
-use Rattle.std.proofs.lemmas.Option.{MatchOption-at_none, MatchOption-at_some}
-use Rattle.up_names.specs.ControlTexts.{control_lines, words_in}
+use Rattle.up_names.specs.ControlTexts.{words_in}
 use Rattle.up_names.specs.ItemLists.{items_in}
-use Rattle.up_names.proofs.TextMeaningLemmas.{Reads, Reads-begins, Reads-spoilt, Reads-goes, Reads-ends}
+use Rattle.up_names.proofs.TextMeaningLemmas.{Reads-begins, Reads-spoilt, Reads-goes, Reads-ends}
 use Rattle.up_group.specs.GroupTexts.{group_of}
 use Rattle.up_group.proofs.parse_group.Goals as goal
 

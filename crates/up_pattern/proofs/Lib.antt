@@ -1,0 +1,12 @@
+pub mod Stars
+pub mod Ranges
+pub mod Parts
+pub mod Lexing
+pub mod Closing
+pub mod Literals
+pub mod ByPieces
+pub mod ElementTexts
+pub mod Stack
+pub mod PatternTexts
+pub mod LiteralNames
+pub mod Examples

@@ -1,0 +1,23 @@
+-- What the reader of a pattern gives, memory aside.
+use Rattle.std.specs.Prelude.{◌≡◌, ◌≢◌, ℕ, Result, Ok, Err}
+use Rattle.up_names.specs.declared.faults.NameFault.{NameFault}
+use Rattle.up_names.specs.declared.faults.NameFault.TheVariants as name
+use Rattle.up_pattern.specs.declared.faults.ElementFault.{ElementFault}
+use Rattle.up_pattern.specs.declared.faults.ElementFault.TheVariants as element
+use Rattle.up_pattern.specs.declared.faults.PatternFault.{PatternFault}
+use Rattle.up_pattern.specs.declared.faults.PatternFault.TheVariants.{Name, Element, OutOfMemory}
+
+-- The result, with its value seen by `view`, is exactly what is meant; want of memory alone is free.
+abbrev pub Gives : {X Y : Type 0} → (X → Y) → Result X PatternFault → Result Y PatternFault → Type 0
+Gives view (Ok x) meant = meant ≡ Ok (view x)
+Gives view (Err fault) meant = fault ≢ OutOfMemory → meant ≡ Err fault
+
+-- the fault of a pattern whose owner's name has a fault
+abbrev pub owner_fault : NameFault → PatternFault
+owner_fault name.OutOfMemory = OutOfMemory
+owner_fault fault = Name
+
+-- the fault of a pattern whose piece at that place has a fault
+abbrev pub piece_fault : ℕ → ElementFault → PatternFault
+piece_fault place element.OutOfMemory = OutOfMemory
+piece_fault place element.Malformed = Element place

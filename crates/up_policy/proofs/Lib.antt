@@ -1,0 +1,10 @@
+pub mod PathLists
+pub mod ReachedLemmas
+pub mod GovernorLemmas
+pub mod VerdictLemmas
+pub mod LoadingLemmas
+pub mod MetLemmas
+pub mod SearchLemmas
+pub mod NeedLemmas
+pub mod MonotoneLemmas
+pub mod RightExamples

@@ -1,0 +1,39 @@
+//! The Access and Group files that a `can` script has named so far.
+ghost use Rattle.std.specs.Prelude.{◌≡◌, OnOk};
+ghost use Rattle.up_script.specs.CanFiles.{bare_tree, with_text};
+
+use std::alloc::AllocError;
+use up_group::GroupText;
+use up_names::{Path, User};
+use up_policy::{Facts, LoadAnswer, Loaded, MapFacts};
+
+/// All that a script has named: the tree's own files, and the texts of other owners' groups, as if they were loaded.
+#[derive(Drop)]
+pub struct CanFiles {
+    pub tree: MapFacts,
+    pub loaded: Loaded,
+}
+
+impl CanFiles {
+    /// A tree of this owner, without any of these files. It takes no memory.
+    pub fn new(owner: User) -> CanFiles
+        ensures { result ≡ bare_tree owner }
+    {
+        let alloc = owner.allocator();
+        CanFiles {
+            tree: MapFacts::new(alloc, owner),
+            loaded: Loaded::new(alloc),
+        }
+    }
+
+    /// Sets the text of a group: the tree's own, or that of another owner's group, as if it were loaded.
+    pub fn set_text(&mut self, path: Path, text: GroupText) -> Result<(), AllocError>
+        ensures { OnOk result (self.new ≡ with_text self.old path text) }
+    {
+        if path.owner() == self.tree.owner() {
+            self.tree.set_group(path, text)
+        } else {
+            self.loaded.set(path, LoadAnswer::Text(text))
+        }
+    }
+}
