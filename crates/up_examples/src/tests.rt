@@ -1,4 +1,3 @@
-//! Tests of several crates: texts, rights and whole scripts, with ample memory, and each fault once.
-mod rights;
+//! Tests of several crates: texts and whole scripts, with ample memory, and each fault once.
 mod scripts;
 mod texts;
