@@ -5,5 +5,6 @@ pub mod Heads
 pub mod Kept
 pub mod Moved
 pub mod Opened
+pub mod Records
 pub mod Runs
 pub mod Settled

@@ -4,3 +4,4 @@ pub mod Journal
 pub mod Kept
 pub mod Leads
 pub mod Opened
+pub mod Records

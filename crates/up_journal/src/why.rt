@@ -89,3 +89,17 @@ impl From<AllocError> for ReadWhy {
         ReadWhy::OutOfMemory
     }
 }
+
+/// A reader of the records that reads them as it opens answers as opening does.
+impl From<ReadWhy> for OpenWhy {
+    ghost use Rattle.up_journal.specs.Opened.{why_of_read};
+
+    ghost from_gives = { λ read why. why ≡ why_of_read read };
+
+    fn from(read: ReadWhy) -> Self {
+        match read {
+            ReadWhy::Fault => OpenWhy::Fault,
+            ReadWhy::OutOfMemory => OpenWhy::OutOfMemory,
+        }
+    }
+}

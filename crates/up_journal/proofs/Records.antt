@@ -1,0 +1,342 @@
+-- What every reader of records above a journal needs.
+use Rattle.std.proofs.Common.{◌≡◌, ◌+◌, ◌≤◌, ◌<◌, ◌^◌, ◌-◌, ℕ, suc, true, List, [], ◌∷◌, ◌++◌, length, drop, Option, Some, None, option_map, is_some, IsSome, IfSome, Result, Ok, Err, refl, sym, ◌∙◌, ap, subst, ◌⊎◌, inl, inr, ⊎_elim, arith, sum_by, get_or}
+use Rattle.std.proofs.Math.Seq.{drop-cons}
+use Rattle.std.proofs.lemmas.Bool.{cases_lt}
+use Rattle.std.proofs.lemmas.List.{drop_all}
+use Rattle.std.proofs.lemmas.List.Sums.{sum_by-cons}
+use Rattle.std.proofs.lemmas.Option.{get_or_from_slice_get, slice_get_within}
+use Rattle.std.specs.List.{slice_get}
+use Rattle.up_disk.specs.Disk.{LeavesOnly}
+use Rattle.up_disk.proofs.Moments.{joined, started, weaker}
+use Rattle.up_journal.specs.Cells.{Rises}
+use Rattle.up_journal.specs.Format.{first_gate, head_size, log_of}
+use Rattle.up_journal.specs.Journal.{HasLog, IsReadAs, MayHave, StandsFor, State, bytes_of, with_further}
+use Rattle.up_journal.specs.declared.limits.Limits.{Limits}
+use Rattle.up_journal.specs.Records.{HasNext, IsReadAlike, MayHaveState, OnlyPayloads, ReadUpTo, Replays, StandsForState, of_log, or_place, replay, replay_from, state_of}
+
+-- ---- lists
+
+pub drop_get : {A : Type 0} (xs : List A) (n : ℕ) (x : A) → slice_get xs n ≡ Some x → drop n xs ≡ x ∷ drop (n + 1) xs
+drop_get {A} xs n x is =
+    let next : suc n ≡ n + 1 = omega arith in
+    drop-cons xs n x (slice_get_within xs n x is)
+    ∙ ap (λ (y : A). y ∷ drop (suc n) xs) (get_or_from_slice_get xs n x x is)
+    ∙ ap (λ (k : ℕ). x ∷ drop k xs) next
+
+-- ---- places of gates
+
+-- the place of the gate behind records of which the first stands at that gate
+abbrev pub gate_behind : ℕ → List (List ℕ) → ℕ
+gate_behind gate [] = gate
+gate_behind gate (payload ∷ log) = gate_behind (gate + head_size + length payload) log
+
+-- the bytes from a record's gate on, up to and with the closed one, as a record is passed over
+pub left_next : (sizes : List ℕ) (n size left : ℕ) → slice_get sizes n ≡ Some size → left ≡ sum_by (λ s. s + head_size) (drop n sizes) + 1
+    → (head_size + size < left) × (left - (head_size + size) ≡ sum_by (λ s. s + head_size) (drop (n + 1) sizes) + 1)
+left_next sizes n size left is sums =
+    let more = ap (λ (l : List ℕ). sum_by (λ s. s + head_size) l) (drop_get sizes n size is) ∙ sum_by-cons (λ (s : ℕ). s + head_size) size (drop (n + 1) sizes) in
+    (omega (arith, sums, more), omega (arith, sums, more))
+
+-- ---- replays
+
+module _ {S : Type 0} (step : S → List ℕ → Option S) where
+  joined_at : (found : Option S) (gate next : ℕ) (log more : List (List ℕ)) (mid : S)
+      → ((state : S) → replay_from step next state log ≡ Ok mid → replay_from step next state (log ++ more) ≡ replay_from step (gate_behind next log) mid more)
+      → or_place gate found (λ s. replay_from step next s log) ≡ Ok mid → or_place gate found (λ s. replay_from step next s (log ++ more)) ≡ replay_from step (gate_behind next log) mid more
+  joined_at None gate next log more mid rest is = absurd (cc)
+  joined_at (Some state) gate next log more mid rest is = rest state is
+
+  -- the records behind others are replayed from the state that those lead to
+  pub replay_joined : (log more : List (List ℕ)) (gate : ℕ) (state mid : S) → replay_from step gate state log ≡ Ok mid
+      → replay_from step gate state (log ++ more) ≡ replay_from step (gate_behind gate log) mid more
+  replay_joined [] more gate state mid is = let same : state ≡ mid = cc in ap (λ (s : S). replay_from step gate s more) same
+  replay_joined (payload ∷ log) more gate state mid is =
+      joined_at (step state payload) gate (gate + head_size + length payload) log more mid (λ next. replay_joined log more (gate + head_size + length payload) next mid) is
+
+  -- one record more, which fits
+  pub replay_more : (log : List (List ℕ)) (payload : List ℕ) (gate : ℕ) (state mid next : S) → replay_from step gate state log ≡ Ok mid → step mid payload ≡ Some next
+      → replay_from step gate state (log ++ payload ∷ []) ≡ Ok next
+  replay_more log payload gate state mid next is fits =
+      replay_joined log (payload ∷ []) gate state mid is
+      ∙ ap (λ (found : Option S). or_place (gate_behind gate log) found (λ s. replay_from step (gate_behind gate log + head_size + length payload) s [])) fits
+
+  -- a record that does not decode or does not fit, whatever comes behind it
+  pub replay_unfit : (log more : List (List ℕ)) (payload : List ℕ) (gate : ℕ) (state mid : S) → replay_from step gate state log ≡ Ok mid → step mid payload ≡ None
+      → replay_from step gate state (log ++ payload ∷ more) ≡ Err (gate_behind gate log)
+  replay_unfit log more payload gate state mid is unfit =
+      replay_joined log (payload ∷ more) gate state mid is
+      ∙ ap (λ (found : Option S). or_place (gate_behind gate log) found (λ s. replay_from step (gate_behind gate log + head_size + length payload) s more)) unfit
+
+  -- where the whole leads to a state, so does each front
+  pub record Fronted (gate : ℕ) (state end : S) (log more : List (List ℕ)) : Type 0 where
+    pub mid : S
+    pub front : replay_from step gate state log ≡ Ok mid
+    pub behind : replay_from step (gate_behind gate log) mid more ≡ Ok end
+
+  fronted_at : (found : Option S) (state end : S) (payload : List ℕ) (gate : ℕ) (log more : List (List ℕ)) → step state payload ≡ found
+      → ((next : S) → replay_from step (gate + head_size + length payload) next (log ++ more) ≡ Ok end → Fronted (gate + head_size + length payload) next end log more)
+      → or_place gate found (λ s. replay_from step (gate + head_size + length payload) s (log ++ more)) ≡ Ok end → Fronted gate state end (payload ∷ log) more
+  fronted_at None state end payload gate log more found_is rest is = absurd (cc)
+  fronted_at (Some next) state end payload gate log more found_is rest is =
+      let r = rest next is in
+      record {
+        mid = r.mid;
+        front = ap (λ (found : Option S). or_place gate found (λ s. replay_from step (gate + head_size + length payload) s log)) found_is ∙ r.front;
+        behind = r.behind;
+      }
+
+  pub replay_front : (log more : List (List ℕ)) (gate : ℕ) (state end : S) → replay_from step gate state (log ++ more) ≡ Ok end → Fronted gate state end log more
+  replay_front [] more gate state end is = record { mid = state; front = refl; behind = is }
+  replay_front (payload ∷ log) more gate state end is =
+      fronted_at (step state payload) state end payload gate log more refl (λ next. replay_front log more (gate + head_size + length payload) next end) is
+
+  -- the record at whose gate a replay ends is the first that does not decode or does not fit
+  pub record FirstUnfit (gate : ℕ) (state : S) (log : List (List ℕ)) (place : ℕ) : Type 0 where
+    pub front : List (List ℕ)
+    pub payload : List ℕ
+    pub more : List (List ℕ)
+    pub is : log ≡ front ++ payload ∷ more
+    pub mid : S
+    pub fits : replay_from step gate state front ≡ Ok mid
+    pub unfit : step mid payload ≡ None
+    pub at : place ≡ gate_behind gate front
+
+  unfit_at : (found : Option S) (state : S) (payload : List ℕ) (gate place : ℕ) (log : List (List ℕ)) → step state payload ≡ found
+      → ((next : S) → replay_from step (gate + head_size + length payload) next log ≡ Err place → FirstUnfit (gate + head_size + length payload) next log place)
+      → or_place gate found (λ s. replay_from step (gate + head_size + length payload) s log) ≡ Err place → FirstUnfit gate state (payload ∷ log) place
+  unfit_at None state payload gate place log found_is rest is =
+      let at : gate ≡ place = cc in
+      record { front = []; payload = payload; more = log; is = refl; mid = state; fits = refl; unfit = found_is; at = sym at }
+  unfit_at (Some next) state payload gate place log found_is rest is =
+      let r = rest next is in
+      record {
+        front = payload ∷ r.front;
+        payload = r.payload;
+        more = r.more;
+        is = ap (λ (l : List (List ℕ)). payload ∷ l) r.is;
+        mid = r.mid;
+        fits = ap (λ (found : Option S). or_place gate found (λ s. replay_from step (gate + head_size + length payload) s r.front)) found_is ∙ r.fits;
+        unfit = r.unfit;
+        at = r.at;
+      }
+
+  pub first_unfit : (log : List (List ℕ)) (gate : ℕ) (state : S) (place : ℕ) → replay_from step gate state log ≡ Err place → FirstUnfit gate state log place
+  first_unfit [] gate state place is = absurd (cc)
+  first_unfit (payload ∷ log) gate state place is =
+      unfit_at (step state payload) state payload gate place log refl (λ next. first_unfit log (gate + head_size + length payload) next place) is
+
+-- ---- reading a log record by record
+
+module _ {S : Type 0} (step : S → List ℕ → Option S) (start : S) where
+  pub read_first : (log : Option (List (List ℕ))) (gate : ℕ) → gate ≡ first_gate → ReadUpTo step start log 0 gate start
+  read_first log gate is = record { rest = λ payloads told. ap (λ (k : ℕ). replay_from step k start payloads) (sym is) }
+
+  -- what is left begins with the record
+  left_at : (log : Option (List (List ℕ))) (n : ℕ) (payload : List ℕ) → IfSome log (λ payloads. slice_get payloads n ≡ Some payload)
+      → (payloads : List (List ℕ)) → log ≡ Some payloads → drop n payloads ≡ payload ∷ drop (n + 1) payloads
+  left_at None n payload is payloads told = absurd (cc)
+  left_at (Some all) n payload is payloads told =
+      let same : all ≡ payloads = cc in
+      subst (λ (l : List (List ℕ)). drop n l ≡ payload ∷ drop (n + 1) l) same (drop_get all n payload is)
+
+  pub read_more : (log : Option (List (List ℕ))) (n gate : ℕ) (state next : S) (payload : List ℕ) (behind : ℕ) → ReadUpTo step start log n gate state
+      → IfSome log (λ payloads. slice_get payloads n ≡ Some payload) → step state payload ≡ Some next → behind ≡ gate + head_size + length payload
+      → ReadUpTo step start log (n + 1) behind next
+  read_more log n gate state next payload behind so_far is fits place = record {
+    rest = λ payloads told. so_far.rest payloads told
+        ∙ ap (λ (l : List (List ℕ)). replay_from step gate state l) (left_at log n payload is payloads told)
+        ∙ ap (λ (found : Option S). or_place gate found (λ s. replay_from step (gate + head_size + length payload) s (drop (n + 1) payloads))) fits
+        ∙ ap (λ (k : ℕ). replay_from step k next (drop (n + 1) payloads)) (sym place);
+  }
+
+  -- nothing is left
+  pub read_all : (log : Option (List (List ℕ))) (n gate : ℕ) (state : S) → ReadUpTo step start log n gate state → IfSome log (λ payloads. length payloads ≤ n)
+      → (payloads : List (List ℕ)) → log ≡ Some payloads → replay step start payloads ≡ Ok state
+  read_all log n gate state so_far all payloads told = so_far.rest payloads told ∙ ap (λ (l : List (List ℕ)). replay_from step gate state l) (none_left log all told)
+    where
+      none_left : (log : Option (List (List ℕ))) → IfSome log (λ payloads. length payloads ≤ n) → log ≡ Some payloads → drop n payloads ≡ []
+      none_left None all told = absurd (cc)
+      none_left (Some whole) all told = let same : whole ≡ payloads = cc in drop_all n payloads (subst (λ (l : List (List ℕ)). length l ≤ n) same all)
+
+  pub read_unfit : (log : Option (List (List ℕ))) (n gate : ℕ) (state : S) (payload : List ℕ) → ReadUpTo step start log n gate state
+      → IfSome log (λ payloads. slice_get payloads n ≡ Some payload) → step state payload ≡ None
+      → (payloads : List (List ℕ)) → log ≡ Some payloads → replay step start payloads ≡ Err gate
+  read_unfit log n gate state payload so_far is unfit payloads told =
+      so_far.rest payloads told
+      ∙ ap (λ (l : List (List ℕ)). replay_from step gate state l) (left_at log n payload is payloads told)
+      ∙ ap (λ (found : Option S). or_place gate found (λ s. replay_from step (gate + head_size + length payload) s (drop (n + 1) payloads))) unfit
+
+-- ---- images
+
+module _ {S : Type 0} (step : S → List ℕ → Option S) (start : S) (largest : ℕ) where
+  pub state_read : (image : List ℕ) (log : List (List ℕ)) (answer : Result S ℕ) → log_of largest image ≡ Ok log → replay step start log ≡ answer → state_of step start largest image ≡ answer
+  unfolding state_of
+  state_read image log answer read replayed = ap (λ (r : Result (List (List ℕ)) ℕ). of_log r (replay step start)) read ∙ replayed
+
+  state_damaged : (image : List ℕ) (gate : ℕ) → log_of largest image ≡ Err gate → state_of step start largest image ≡ Err gate
+  unfolding state_of
+  state_damaged image gate read = ap (λ (r : Result (List (List ℕ)) ℕ). of_log r (replay step start)) read
+
+  state_same : (image bytes : List ℕ) → log_of largest image ≡ log_of largest bytes → state_of step start largest image ≡ state_of step start largest bytes
+  unfolding state_of
+  state_same image bytes same = ap (λ (r : Result (List (List ℕ)) ℕ). of_log r (replay step start)) same
+
+  -- what the content stands for
+  pub content_state : (content : Option (List ℕ)) (log : Option (List (List ℕ))) (answer : Result S ℕ) → option_map (log_of largest) content ≡ option_map Ok log
+      → ((payloads : List (List ℕ)) → log ≡ Some payloads → replay step start payloads ≡ answer) → IfSome content (λ bytes. state_of step start largest bytes ≡ answer)
+  content_state None log answer read replayed = tt
+  content_state (Some bytes) None answer read replayed = absurd (cc)
+  content_state (Some bytes) (Some log) answer read replayed = let is : log_of largest bytes ≡ Ok log = cc in state_read bytes log answer is (replayed log refl)
+
+  pub content_damaged : (content : Option (List ℕ)) (gate : ℕ) → IfSome content (λ bytes. log_of largest bytes ≡ Err gate) → IfSome content (λ bytes. state_of step start largest bytes ≡ Err gate)
+  content_damaged None gate read = tt
+  content_damaged (Some bytes) gate read = state_damaged bytes gate read
+
+  pub read_alike : (content : Option (List ℕ)) (image : List ℕ) → IsReadAs largest content image → IsReadAlike step start largest content image
+  read_alike content image read = record { bytes = read.bytes; told = read.told; same = state_same image read.bytes read.same }
+
+  next_at : (found : Option S) (log : List (List ℕ)) (payload : List ℕ) (state : S) (image : List ℕ) → step state payload ≡ found → IsSome found → replay step start log ≡ Ok state
+      → log_of largest image ≡ Ok (log ++ payload ∷ []) → HasNext step start largest state (Some payload) image
+  next_at None log payload state image found_is some whole read = absurd (cc)
+  next_at (Some next) log payload state image found_is some whole read = record {
+    payload = payload;
+    held = refl;
+    next = next;
+    fits = found_is;
+    read = state_read image (log ++ payload ∷ []) (Ok next) read (replay_more step log payload first_gate start state next whole found_is);
+  }
+
+  -- the log with a further record stands for the state after it
+  pub has_next : (log : Option (List (List ℕ))) (further : Option (List ℕ)) (state : S) (image : List ℕ) → Replays step start log further state
+      → HasLog largest (with_further log further) image → HasNext step start largest state further image
+  has_next None further state image replays has = absurd (let e = has.told in cc)
+  has_next (Some log) None state image replays has = absurd (let e = has.told in cc)
+  has_next (Some log) (Some payload) state image replays has =
+      let same : log ++ payload ∷ [] ≡ has.payloads = (let e = has.told in cc) in
+      next_at (step state payload) log payload state image refl (replays.fits payload refl) (replays.whole log refl) (has.read ∙ ap Ok (sym same))
+
+  pub has_state : (log : Option (List (List ℕ))) (further : Option (List ℕ)) (state : S) (image : List ℕ) → Replays step start log further state
+      → HasLog largest log image → state_of step start largest image ≡ Ok state
+  has_state log further state image replays has = state_read image has.payloads (Ok state) has.read (replays.whole has.payloads has.told)
+
+  -- the log or the log with the further record, seen as states
+  pub stands_for_state : (log : Option (List (List ℕ))) (further : Option (List ℕ)) (state : S) (image : List ℕ) → Replays step start log further state
+      → StandsFor largest log further image → StandsForState step start largest state further image
+  stands_for_state log further state image replays stands =
+      ⊎_elim (λ has. inl (has_state log further state image replays has)) (λ has. inr (has_next log further state image replays has)) stands
+
+  -- the same, or the log with the payload in hand
+  pub may_have_state : (log : Option (List (List ℕ))) (further : Option (List ℕ)) (payload : List ℕ) (state : S) (image : List ℕ) → Replays step start log further state → IsSome (step state payload)
+      → MayHave largest log further payload image → MayHaveState step start largest state further payload image
+  may_have_state log further payload state image replays fits may =
+      ⊎_elim (λ stands. inl (stands_for_state log further state image replays stands))
+      (λ has. inr (has_next log (Some payload) state image (record { whole = replays.whole; fits = λ p is. subst (λ (q : List ℕ). IsSome (step state q)) (same_payload p is) fits }) has))
+      may
+    where
+      same_payload : (p : List ℕ) → Some payload ≡ Some p → payload ≡ p
+      same_payload p is = cc
+
+  -- with no further record there is the state alone
+  pub settled_state : (further : Option (List ℕ)) (state : S) (image : List ℕ) → further ≡ None → StandsForState step start largest state further image → state_of step start largest image ≡ Ok state
+  settled_state further state image none stands = ⊎_elim (λ is. is) (λ next. absurd (let e = sym none ∙ next.held in cc)) stands
+
+-- an image that has the log of the content is read as the content is
+pub read_as_content : (largest : ℕ) (content : Option (List ℕ)) (log : Option (List (List ℕ))) (image : List ℕ) → option_map (log_of largest) content ≡ option_map Ok log
+    → HasLog largest log image → IsReadAs largest content image
+read_as_content largest None None image read has = absurd (let e = has.told in cc)
+read_as_content largest None (Some log) image read has = absurd (cc)
+read_as_content largest (Some bytes) None image read has = absurd (cc)
+read_as_content largest (Some bytes) (Some log) image read has =
+    let same : log ≡ has.payloads = (let e = has.told in cc) in
+    let is : log_of largest bytes ≡ Ok log = cc in
+    record { bytes = bytes; told = refl; same = has.read ∙ sym (is ∙ ap Ok same) }
+
+-- ---- what a journal's log leads to, as it goes on
+
+module _ {S : Type 0} (step : S → List ℕ → Option S) (start : S) where
+  -- once it is opened
+  pub replays_opened : (log : Option (List (List ℕ))) (further : Option (List ℕ)) (state : S) → ((payloads : List (List ℕ)) → log ≡ Some payloads → replay step start payloads ≡ Ok state) → further ≡ None
+      → Replays step start log further state
+  replays_opened log further state whole none = record { whole = whole; fits = λ payload is. absurd (let e = sym none ∙ is in cc) }
+
+  -- with one record more
+  pub replays_more : (log now : Option (List (List ℕ))) (further now_further : Option (List ℕ)) (state next : S) (payload : List ℕ) → Replays step start log further state
+      → step state payload ≡ Some next → now ≡ with_further log (Some payload) → now_further ≡ None → Replays step start now now_further next
+  replays_more log now further now_further state next payload replays fits is none =
+      replays_opened now now_further next (whole log replays.whole is) none
+    where
+      whole : (log : Option (List (List ℕ))) → ((payloads : List (List ℕ)) → log ≡ Some payloads → replay step start payloads ≡ Ok state) → now ≡ with_further log (Some payload)
+          → (payloads : List (List ℕ)) → now ≡ Some payloads → replay step start payloads ≡ Ok next
+      whole None was is payloads told = absurd (let e = sym is ∙ told in cc)
+      whole (Some log) was is payloads told =
+          let same : log ++ payload ∷ [] ≡ payloads = (let e = sym is ∙ told in cc) in
+          subst (λ (l : List (List ℕ)). replay step start l ≡ Ok next) same (replay_more step log payload first_gate start state next (was log refl) fits)
+
+  -- with the same records, whatever is doubtful now
+  pub replays_kept : (log now : Option (List (List ℕ))) (further now_further : Option (List ℕ)) (state : S) (payload : List ℕ) → Replays step start log further state
+      → IsSome (step state payload) → now ≡ log → (now_further ≡ None) ⊎ ((now_further ≡ further) ⊎ (now_further ≡ Some payload)) → Replays step start now now_further state
+  replays_kept log now further now_further state payload replays fits same which = record {
+    whole = λ payloads told. replays.whole payloads (sym same ∙ told);
+    fits = λ p is. ⊎_elim (λ none. absurd (let e = sym none ∙ is in cc))
+        (λ some. ⊎_elim (λ old. replays.fits p (sym old ∙ is)) (λ one. subst (λ (q : List ℕ). IsSome (step state q)) (same_some p (sym one ∙ is)) fits) some) which;
+  }
+    where
+      same_some : (p : List ℕ) → Some payload ≡ Some p → payload ≡ p
+      same_some p is = cc
+
+-- ---- runs
+
+pub rises_then : (before mid after : ℕ) (failed : Type 0) → before ≤ mid → Rises mid after failed → Rises before after failed
+rises_then before mid after failed le rises = record {
+  later = omega (arith, rises.later);
+  rose = λ fails low. by_mid (rises.rose fails) low;
+}
+  where
+    by_mid : (mid < 2 ^ 64 - 1 → mid < after) → before < 2 ^ 64 - 1 → before < after
+    by_mid rose low = elim (cases_lt mid (2 ^ 64 - 1)) [ inl below ↦ omega (arith, rose below) | inr above ↦ omega (arith, rises.later) ]
+
+module _ {D : Type 0} (content : D → Option (List ℕ)) (may_leave : D → List ℕ → Type 0) (moment : D → ℕ) (left_since : D → ℕ → List ℕ → Type 0) where
+  -- before the first
+  pub nothing_read : ((disk : D) (image : List ℕ) → left_since disk (moment disk) image → may_leave disk image)
+      → (journal : State D) → ((image : List ℕ) → may_leave journal.disk image → StandsFor journal.limits.largest journal.log journal.further image)
+      → OnlyPayloads content may_leave moment left_since journal journal
+  nothing_read only_now journal safe = record {
+    unchanged = refl;
+    same = refl;
+    fewer = λ image left. left;
+    run = started moment left_since journal.disk (StandsFor journal.limits.largest journal.log journal.further) (λ image left. safe image (only_now journal.disk image left));
+  }
+
+  -- one more
+  pub payload_read : (old mid new : State D) → OnlyPayloads content may_leave moment left_since old mid → new ≡ record mid { disk = new.disk } → content new.disk ≡ content mid.disk
+      → ((image : List ℕ) → may_leave new.disk image → may_leave mid.disk image)
+      → LeavesOnly moment left_since mid.disk new.disk (StandsFor mid.limits.largest mid.log mid.further)
+      → OnlyPayloads content may_leave moment left_since old new
+  payload_read old mid new so_far unchanged same fewer run = record {
+    unchanged = unchanged ∙ ap (λ (s : State D). record s { disk = new.disk }) so_far.unchanged;
+    same = same ∙ so_far.same;
+    fewer = λ image left. so_far.fewer image (fewer image left);
+    run = joined moment left_since old.disk mid.disk new.disk (StandsFor old.limits.largest old.log old.further) so_far.run
+        (weaker moment left_since mid.disk new.disk (StandsFor mid.limits.largest mid.log mid.further) (StandsFor old.limits.largest old.log old.further) run
+        (λ image stands. subst (λ (s : State D). StandsFor s.limits.largest s.log s.further image) so_far.unchanged stands));
+  }
+
+-- with no further record there is the log alone
+pub settled_log : (largest : ℕ) (log : Option (List (List ℕ))) (further : Option (List ℕ)) (image : List ℕ) → further ≡ None → StandsFor largest log further image → HasLog largest log image
+settled_log largest log further image none stands = by_log log (subst (λ (f : Option (List ℕ)). StandsFor largest log f image) none stands)
+  where
+    by_log : (log : Option (List (List ℕ))) → StandsFor largest log None image → HasLog largest log image
+    by_log None stands = ⊎_elim (λ has. has) (λ has. has) stands
+    by_log (Some payloads) stands = ⊎_elim (λ has. has) (λ has. absurd (let e = has.told in cc)) stands
+
+module _ {D : Type 0} (content : D → Option (List ℕ)) (may_leave : D → List ℕ → Type 0) (moment : D → ℕ) (left_since : D → ℕ → List ℕ → Type 0) where
+  -- opening a journal, and then reading payloads
+  pub opened_and_read : (disk : D) (opened read : State D) (limits : Limits) → option_map (log_of limits.largest) (content disk) ≡ option_map Ok opened.log → opened.further ≡ None → opened.limits ≡ limits
+      → LeavesOnly moment left_since disk opened.disk (λ image. may_leave disk image ⊎ IsReadAs limits.largest (content disk) image)
+      → OnlyPayloads content may_leave moment left_since opened read
+      → LeavesOnly moment left_since disk read.disk (λ image. may_leave disk image ⊎ IsReadAs limits.largest (content disk) image)
+  opened_and_read disk opened read limits log settled same open_run reads =
+      joined moment left_since disk opened.disk read.disk (λ image. may_leave disk image ⊎ IsReadAs limits.largest (content disk) image) open_run
+      (weaker moment left_since opened.disk read.disk (StandsFor opened.limits.largest opened.log opened.further) (λ image. may_leave disk image ⊎ IsReadAs limits.largest (content disk) image) reads.run
+      (λ image stands. inr (read_as_content limits.largest (content disk) opened.log image log
+      (settled_log limits.largest opened.log opened.further image settled (subst (λ (l : Limits). StandsFor l.largest opened.log opened.further image) same stands)))))
