@@ -166,6 +166,19 @@ module _ {S : Type 0} (step : S → List ℕ → Option S) (start : S) where
       ∙ ap (λ (l : List (List ℕ)). replay_from step gate state l) (left_at log n payload is payloads told)
       ∙ ap (λ (found : Option S). or_place gate found (λ s. replay_from step (gate + head_size + length payload) s (drop (n + 1) payloads))) unfit
 
+-- a payload by its number, from 1, as the record of that place, from 0
+pub payload_seen : (log mid : Option (List (List ℕ))) (n : ℕ) (payload : List ℕ) → mid ≡ log → IfSome mid (λ payloads. slice_get payloads (n + 1 - 1) ≡ Some payload)
+    → IfSome log (λ payloads. slice_get payloads n ≡ Some payload)
+payload_seen log mid n payload same is =
+    let place : n + 1 - 1 ≡ n = omega arith in
+    subst (λ (k : ℕ). IfSome log (λ payloads. slice_get payloads k ≡ Some payload)) place
+    (subst (λ (o : Option (List (List ℕ))). IfSome o (λ payloads. slice_get payloads (n + 1 - 1) ≡ Some payload)) same is)
+
+pub size_seen : (sizes mid : List ℕ) (n size : ℕ) → mid ≡ sizes → slice_get mid (n + 1 - 1) ≡ Some size → slice_get sizes n ≡ Some size
+size_seen sizes mid n size same is =
+    let place : n + 1 - 1 ≡ n = omega arith in
+    subst (λ (k : ℕ). slice_get sizes k ≡ Some size) place (subst (λ (l : List ℕ). slice_get l (n + 1 - 1) ≡ Some size) same is)
+
 -- ---- images
 
 module _ {S : Type 0} (step : S → List ℕ → Option S) (start : S) (largest : ℕ) where
@@ -283,6 +296,14 @@ module _ {S : Type 0} (step : S → List ℕ → Option S) (start : S) where
     where
       same_some : (p : List ℕ) → Some payload ≡ Some p → payload ≡ p
       same_some p is = cc
+
+  -- with the same records, and the doubtful one settled or not
+  pub replays_settled : (log now : Option (List (List ℕ))) (further now_further : Option (List ℕ)) (state : S) → Replays step start log further state
+      → now ≡ log → (now_further ≡ None) ⊎ (now_further ≡ further) → Replays step start now now_further state
+  replays_settled log now further now_further state replays same which = record {
+    whole = λ payloads told. replays.whole payloads (sym same ∙ told);
+    fits = λ p is. ⊎_elim (λ none. absurd (let e = sym none ∙ is in cc)) (λ old. replays.fits p (sym old ∙ is)) which;
+  }
 
 -- ---- runs
 

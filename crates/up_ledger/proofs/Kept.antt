@@ -1,10 +1,10 @@
 -- What a ledger keeps, and what a crash leaves of it.
-use Rattle.std.proofs.Common.{◌≡◌, ◌≤◌, ℕ, List, Option, Some, None, is_some, IsSome, Result, Ok, refl, sym, ◌∙◌, ap, subst, ◌⊎◌, inl, inr}
+use Rattle.std.proofs.Common.{◌≡◌, ◌≤◌, ℕ, List, Option, Some, None, false, is_some, IsSome, Result, Ok, Err, OnOk, OnErr, refl, sym, ◌∙◌, ap, subst, ◌⊎◌, inl, inr}
 use Rattle.up_disk.specs.Disk.{LeavesOnly}
 use Rattle.up_disk.proofs.Moments.{started, weaker}
 use Rattle.up_journal.specs.Journal.{MayHave, StandsFor, State, with_further}
 use Rattle.up_journal.specs.declared.limits.Limits.{Limits}
-use Rattle.up_journal.proofs.Records.{may_have_state, replays_kept, replays_more, settled_state, stands_for_state}
+use Rattle.up_journal.proofs.Records.{may_have_state, replays_kept, replays_more, replays_settled, settled_state, stands_for_state}
 use Rattle.up_ledger.specs.Entries.{after_record, balance_of, largest_record}
 use Rattle.up_ledger.specs.Ledger.{IsKept, MayHaveBalance, StandsForBalance}
 
@@ -43,6 +43,27 @@ module _ {D : Type 0} (may_leave : D → List ℕ → Type 0) where
     replays = replays_kept after_record 0 old.log new.log old.further new.further balance payload kept.replays fits log which;
     safe = safe;
   }
+
+  -- once a doubtful record is settled, or not
+  pub kept_resolved : {T E : Type 0} (result : Result T E) (old new : State D) (balance : ℕ) → IsKept may_leave old balance → new.limits ≡ old.limits → new.log ≡ old.log
+      → OnOk result ((new.doubtful ≡ false) × (new.further ≡ None)) → OnErr result ((new.doubtful ≡ old.doubtful) × (new.further ≡ old.further))
+      → ((image : List ℕ) → may_leave new.disk image → StandsFor new.limits.largest new.log new.further image) → IsKept may_leave new balance
+  kept_resolved {T} {E} result old new balance kept same log settled refused safe = record {
+    room = subst (λ (l : Limits). largest_record ≤ l.largest) (sym same) kept.room;
+    replays = replays_settled after_record 0 old.log new.log old.further new.further balance kept.replays log (which result settled refused);
+    safe = safe;
+  }
+    where
+      which : (result : Result T E) → OnOk result ((new.doubtful ≡ false) × (new.further ≡ None)) → OnErr result ((new.doubtful ≡ old.doubtful) × (new.further ≡ old.further))
+          → (new.further ≡ None) ⊎ (new.further ≡ old.further)
+      which (Ok x) settled refused = inl settled.1
+      which (Err e) settled refused = inr refused.1
+
+  -- a success settles it
+  pub settled_on_ok : {T E : Type 0} (result : Result T E) (new : State D) (balance : ℕ) → IsKept may_leave new balance → OnOk result ((new.doubtful ≡ false) × (new.further ≡ None))
+      → OnOk result ((image : List ℕ) → may_leave new.disk image → balance_of new.limits.largest image ≡ Ok balance)
+  settled_on_ok (Ok x) new balance kept settled = kept_settled new balance kept settled.1
+  settled_on_ok (Err e) new balance kept settled = tt
 
   module _ (moment : D → ℕ) (left_since : D → ℕ → List ℕ → Type 0) where
     -- what a crash left where the disk was not called

@@ -1,6 +1,8 @@
 //! The entries of a ledger, and their records.
-ghost use Rattle.std.specs.Prelude.{◌≡◌, ◌≤◌, ℕ, length, IfOk};
+ghost use Rattle.std.specs.Prelude.{◌≡◌, ◌≤◌, ◌++◌, ℕ, length, IfOk};
+ghost use Rattle.up_bytes.specs.Num.{num};
 ghost use Rattle.up_bytes.specs.Reading.{Answers};
+ghost use Rattle.up_bytes.specs.Spelling.{byte};
 ghost use Rattle.up_ledger.specs.Entries.{after_record, applied, entry_at, entry_of, entry_with, largest_record, record_of};
 
 use std::alloc::{AllocError, Global};
@@ -19,15 +21,25 @@ const DEPOSIT: u8 = 1;
 const WITHDRAW: u8 = 2;
 
 /// The record of an entry. Where it is read again, it is that entry's.
+#[tactic(auto, unfolding(crate::specs::Entries::after_record))]
 pub fn record_of(alloc: Global, entry: Entry) -> Result<Bytes, AllocError>
     ensures bytes { IfOk result (λ bytes. bytes ≡ record_of entry) }
     ensures size { length (record_of entry) ≤ largest_record }
     ensures again { (balance : ℕ) → after_record balance (record_of entry) ≡ applied balance entry }
 {
-    let (kind, amount) = match entry {
-        Entry::Deposit(amount) => (DEPOSIT, amount),
-        Entry::Withdraw(amount) => (WITHDRAW, amount),
-    };
+    match entry {
+        Entry::Deposit(amount) => spelled(alloc, DEPOSIT, amount),
+        Entry::Withdraw(amount) => spelled(alloc, WITHDRAW, amount),
+    }
+}
+
+// The byte of a kind and an amount.
+#[tactic(auto, using(crate::proofs::Entries::kind_alone, crate::proofs::Entries::kind_size))]
+fn spelled(alloc: Global, kind: u8, amount: u64) -> Result<Bytes, AllocError>
+    ensures bytes { IfOk result (λ bytes. bytes ≡ byte kind ++ num amount) }
+    ensures size { length (byte kind ++ num amount) ≤ largest_record }
+    ensures again { entry_of (byte kind ++ num amount) ≡ entry_with kind amount }
+{
     let mut writer = Writer::new(alloc);
     writer.byte(kind)?;
     writer.num(amount)?;

@@ -5,6 +5,7 @@ ghost use Rattle.up_journal.specs.Cells.{Rises};
 ghost use Rattle.up_journal.specs.Format.{log_of, new_size};
 ghost use Rattle.up_journal.specs.Journal.{AreLimits, IsFull, IsReadAs, with_further};
 ghost use Rattle.up_journal.specs.Records.{replay};
+ghost use Rattle.up_journal.specs.declared.why.OpenWhy.TheVariants as open_why;
 ghost use Rattle.up_ledger.specs.Entries.{after_record, applied, balance_of, largest_record, record_of};
 ghost use Rattle.up_ledger.specs.Ledger.{MayHaveBalance, StandsForBalance, disk_after};
 ghost use Rattle.up_ledger.specs.declared.entry.Entry.TheVariants.{Deposit, Withdraw};
@@ -50,9 +51,9 @@ impl<D: Disk> Ledger<D> {
         ensures limits { IfOk result (λ ledger. ledger.journal.limits ≡ limits) }
 
         // Why it is refused.
-        ensures damaged { IfErr result (λ fault. (gate : ℕ) → fault.why ≡ OpenWhy.Damaged gate
+        ensures damaged { IfErr result (λ fault. (gate : ℕ) → fault.why ≡ open_why.Damaged gate
             → IfSome (D.content disk) (λ bytes. balance_of limits.largest bytes ≡ Err gate)) }
-        ensures fault { IfErr result (λ fault. Rises (D.faults disk) (D.faults fault.disk) (fault.why ≡ OpenWhy.Fault)) }
+        ensures fault { IfErr result (λ fault. Rises (D.faults disk) (D.faults fault.disk) (fault.why ≡ open_why.Fault)) }
 
         // What becomes of the disk, whatever the answer.
         ensures told { is_some (D.content (disk_after result)) ≡ is_some (D.content disk) }
