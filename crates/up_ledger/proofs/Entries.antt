@@ -9,7 +9,7 @@ use Rattle.up_bytes.specs.Spelling.{byte}
 use Rattle.up_bytes.specs.declared.fault.FieldFault.{FieldFault}
 use Rattle.up_bytes.proofs.Fields.{byte_form, num_form}
 use Rattle.up_bytes.proofs.Numbers.{length-num}
-use Rattle.up_ledger.specs.Entries.{alone, applied, entry_at, entry_of, entry_with, largest_record}
+use Rattle.up_ledger.specs.Entries.{alone, applied, entry_at, entry_of, entry_with}
 use Rattle.up_ledger.specs.declared.entry.Entry.TheVariants.{Deposit, Withdraw}
 
 num_alone : (amount size : ℕ) → amount < 2 ^ 64 → num_at (record { size = size; left = num amount }) ≡ Ok (amount, record { size = size; left = [] })
@@ -24,8 +24,8 @@ kind_alone kind amount is_byte fits =
     ap (λ (r : Result (ℕ × Input) FieldFault). alone (r >>= (λ k. num_at k.1 >>= (λ n. Ok (entry_with k.0 n.0, n.1))))) (byte_form.again kind size (num amount) is_byte)
     ∙ ap (λ (r : Result (ℕ × Input) FieldFault). alone (r >>= (λ n. Ok (entry_with kind n.0, n.1)))) (num_alone amount size fits)
 
-pub kind_size : (kind amount : ℕ) → length (byte kind ++ num amount) ≤ largest_record
-kind_size kind amount = omega (arith, length-num amount)
+-- what is to be known of a record's bytes
+pub ruleset spelling = (kind_alone, length-num)
 
 -- when an entry fits, and what it makes of the balance
 

@@ -34,7 +34,7 @@ pub fn record_of(alloc: Global, entry: Entry) -> Result<Bytes, AllocError>
 }
 
 // The byte of a kind and an amount.
-#[tactic(auto, using(crate::proofs::Entries::kind_alone, crate::proofs::Entries::kind_size))]
+#[tactic(auto, using(crate::proofs::Entries::spelling))]
 fn spelled(alloc: Global, kind: u8, amount: u64) -> Result<Bytes, AllocError>
     ensures bytes { IfOk result (λ bytes. bytes ≡ byte kind ++ num amount) }
     ensures size { length (byte kind ++ num amount) ≤ largest_record }
