@@ -1,18 +1,19 @@
 -- What every reader of records above a journal needs.
-use Rattle.std.proofs.Common.{◌≡◌, ◌+◌, ◌≤◌, ◌<◌, ◌^◌, ◌-◌, ℕ, suc, true, List, [], ◌∷◌, ◌++◌, length, drop, Option, Some, None, option_map, is_some, IsSome, IfSome, Result, Ok, Err, refl, sym, ◌∙◌, ap, subst, ◌⊎◌, inl, inr, ⊎_elim, arith, sum_by, get_or}
+use Rattle.std.proofs.Common.{◌≡◌, ◌+◌, ◌≤◌, ◌<◌, ◌^◌, ◌-◌, ℕ, suc, true, List, [], ◌∷◌, ◌++◌, length, take, drop, take-append-drop, Option, Some, None, option_map, is_some, IsSome, IfSome, Result, Ok, Err, refl, sym, ◌∙◌, ap, subst, ◌⊎◌, inl, inr, ⊎_elim, arith, sum_by, get_or}
 use Rattle.std.proofs.Math.Seq.{drop-cons}
 use Rattle.std.proofs.lemmas.Bool.{cases_lt}
 use Rattle.std.proofs.lemmas.List.{drop_all}
 use Rattle.std.proofs.lemmas.List.Sums.{sum_by-cons}
 use Rattle.std.proofs.lemmas.Option.{get_or_from_slice_get, slice_get_within}
 use Rattle.std.specs.List.{slice_get}
+use Rattle.std.specs.Option.{option_and_then}
 use Rattle.up_disk.specs.Disk.{LeavesOnly}
 use Rattle.up_disk.proofs.Moments.{joined, started, weaker}
 use Rattle.up_journal.specs.Cells.{Rises}
 use Rattle.up_journal.specs.Format.{first_gate, head_size, log_of}
 use Rattle.up_journal.specs.Journal.{HasLog, IsReadAs, MayHave, StandsFor, State, bytes_of, with_further}
 use Rattle.up_journal.specs.declared.limits.Limits.{Limits}
-use Rattle.up_journal.specs.Records.{HasNext, IsReadAlike, MayHaveState, OnlyPayloads, ReadUpTo, Replays, StandsForState, of_log, or_place, replay, replay_from, state_of}
+use Rattle.up_journal.specs.Records.{HasNext, IsReadAlike, LeadsTo, MayHaveState, OnlyPayloads, ReadUpTo, Replays, StandsForState, by_record, of_log, or_place, records_of, replay, replay_from, state_after, state_of}
 
 -- ---- lists
 
@@ -124,6 +125,106 @@ module _ {S : Type 0} (step : S → List ℕ → Option S) where
   first_unfit [] gate state place is = absurd (cc)
   first_unfit (payload ∷ log) gate state place is =
       unfit_at (step state payload) state payload gate place log refl (λ next. first_unfit log (gate + head_size + length payload) next place) is
+
+  -- a record of a log that leads to a state fits the state to which those before it lead
+  pub record FitsAt (gate : ℕ) (state : S) (log : List (List ℕ)) (n : ℕ) (payload : List ℕ) : Type 0 where
+    pub mid : S
+    pub front : replay_from step gate state (take n log) ≡ Ok mid
+    pub next : S
+    pub fits : step mid payload ≡ Some next
+
+  fits_first : (found : Option S) (gate next_gate : ℕ) (mid end : S) (payload : List ℕ) (more : List (List ℕ)) → step mid payload ≡ found
+      → or_place gate found (λ s. replay_from step next_gate s more) ≡ Ok end → (next : S) × (step mid payload ≡ Some next)
+  fits_first None gate next_gate mid end payload more found_is is = absurd (cc)
+  fits_first (Some next) gate next_gate mid end payload more found_is is = (next, found_is)
+
+  pub fits_at : (log : List (List ℕ)) (n gate : ℕ) (payload : List ℕ) (state end : S) → replay_from step gate state log ≡ Ok end → slice_get log n ≡ Some payload → FitsAt gate state log n payload
+  fits_at log n gate payload state end is seen =
+      let parts : take n log ++ payload ∷ drop (n + 1) log ≡ log = ap (λ (l : List (List ℕ)). take n log ++ l) (sym (drop_get log n payload seen)) ∙ take-append-drop n log in
+      let whole : replay_from step gate state (take n log ++ payload ∷ drop (n + 1) log) ≡ Ok end = ap (λ (l : List (List ℕ)). replay_from step gate state l) parts ∙ is in
+      let split = replay_front (take n log) (payload ∷ drop (n + 1) log) gate state end whole in
+      let first = fits_first (step split.mid payload) (gate_behind gate (take n log)) (gate_behind gate (take n log) + head_size + length payload) split.mid end payload (drop (n + 1) log) refl split.behind in
+      record { mid = split.mid; front = split.front; next = first.0; fits = first.1 }
+
+-- ---- payloads as records
+
+module _ {S R : Type 0} (decode : List ℕ → Option R) (fits : S → R → Option S) where
+  by_parts : (found : Option R) (after : Option S) (gate : ℕ) (state end : S) (payload : List ℕ) (log : List (List ℕ)) → decode payload ≡ found → option_and_then (fits state) found ≡ after
+      → ((next : S) → replay_from (by_record decode fits) (gate + head_size + length payload) next log ≡ Ok end → LeadsTo decode fits next log end)
+      → or_place gate after (λ next. replay_from (by_record decode fits) (gate + head_size + length payload) next log) ≡ Ok end → LeadsTo decode fits state (payload ∷ log) end
+  by_parts None after gate state end payload log found_is after_is rest is = absurd (let e = sym after_is in cc)
+  by_parts (Some first) None gate state end payload log found_is after_is rest is = absurd (cc)
+  by_parts (Some first) (Some next) gate state end payload log found_is after_is rest is =
+      let r = rest next is in
+      record {
+        records = first ∷ r.records;
+        decoded = ap (λ (o : Option R). option_and_then (λ f. option_map (λ others. f ∷ others) (records_of decode log)) o) found_is ∙ ap (λ (o : Option (List R)). option_map (λ others. first ∷ others) o) r.decoded;
+        fitted = ap (λ (o : Option S). option_and_then (λ s. state_after fits s r.records) o) after_is ∙ r.fitted;
+      }
+
+  -- a log that is replayed is one of records that fit
+  pub leads_to : (log : List (List ℕ)) (gate : ℕ) (state end : S) → replay_from (by_record decode fits) gate state log ≡ Ok end → LeadsTo decode fits state log end
+  leads_to [] gate state end is = let same : state ≡ end = cc in record { records = []; decoded = refl; fitted = ap Some same }
+  leads_to (payload ∷ log) gate state end is =
+      by_parts (decode payload) (option_and_then (fits state) (decode payload)) gate state end payload log refl refl (λ next. leads_to log (gate + head_size + length payload) next end) is
+
+  led_at : (found : Option R) (others : Option (List R)) (after : Option S) (gate : ℕ) (state end : S) (payload : List ℕ) (log : List (List ℕ)) (records : List R)
+      → decode payload ≡ found → records_of decode log ≡ others → option_and_then (fits state) found ≡ after
+      → option_and_then (λ first. option_map (λ rest. first ∷ rest) others) found ≡ Some records → state_after fits state records ≡ Some end
+      → ((rest : List R) (next : S) → records_of decode log ≡ Some rest → state_after fits next rest ≡ Some end
+          → replay_from (by_record decode fits) (gate + head_size + length payload) next log ≡ Ok end)
+      → or_place gate after (λ next. replay_from (by_record decode fits) (gate + head_size + length payload) next log) ≡ Ok end
+  led_at None others after gate state end payload log records found_is others_is after_is decoded fitted rest = absurd (cc)
+  led_at (Some first) None after gate state end payload log records found_is others_is after_is decoded fitted rest = absurd (cc)
+  led_at (Some first) (Some others) None gate state end payload log records found_is others_is after_is decoded fitted rest =
+      let same : first ∷ others ≡ records = cc in
+      let none : option_and_then (λ next. state_after fits next others) (fits state first) ≡ None = ap (λ (o : Option S). option_and_then (λ next. state_after fits next others) o) after_is in
+      absurd (let e = sym none ∙ ap (λ (l : List R). state_after fits state l) same ∙ fitted in cc)
+  led_at (Some first) (Some others) (Some next) gate state end payload log records found_is others_is after_is decoded fitted rest =
+      let same : first ∷ others ≡ records = cc in
+      rest others next others_is
+      (sym (ap (λ (o : Option S). option_and_then (λ s. state_after fits s others) o) after_is) ∙ ap (λ (l : List R). state_after fits state l) same ∙ fitted)
+
+  replay_records : (log : List (List ℕ)) (gate : ℕ) (state end : S) (records : List R) → records_of decode log ≡ Some records → state_after fits state records ≡ Some end
+      → replay_from (by_record decode fits) gate state log ≡ Ok end
+  replay_records [] gate state end records decoded fitted =
+      let none : records ≡ [] = cc in
+      let same : state ≡ end = (let e = ap (λ (l : List R). state_after fits state l) (sym none) ∙ fitted in cc) in
+      ap Ok same
+  replay_records (payload ∷ log) gate state end records decoded fitted =
+      led_at (decode payload) (records_of decode log) (option_and_then (fits state) (decode payload)) gate state end payload log records refl refl refl decoded fitted
+      (λ rest next others led. replay_records log (gate + head_size + length payload) next end rest others led)
+
+  -- and the other way
+  pub replayed : (log : List (List ℕ)) (gate : ℕ) (state end : S) → LeadsTo decode fits state log end → replay_from (by_record decode fits) gate state log ≡ Ok end
+  replayed log gate state end leads = replay_records log gate state end leads.records leads.decoded leads.fitted
+
+  -- one record more
+  pub records_more : (log : List (List ℕ)) (payload : List ℕ) (records : List R) (last : R) → records_of decode log ≡ Some records → decode payload ≡ Some last
+      → records_of decode (log ++ payload ∷ []) ≡ Some (records ++ last ∷ [])
+  records_more [] payload records last decoded is =
+      let none : records ≡ [] = cc in
+      ap (λ (o : Option R). option_and_then (λ f. option_map (λ others. f ∷ others) (Some [])) o) is ∙ ap (λ (l : List R). Some (l ++ last ∷ [])) (sym none)
+  records_more (first ∷ log) payload records last decoded is = more_at (decode first) (records_of decode log) refl decoded (λ others. records_more log payload others last)
+    where
+      more_at : (found : Option R) (rest : Option (List R)) → records_of decode log ≡ rest → option_and_then (λ f. option_map (λ others. f ∷ others) rest) found ≡ Some records
+          → ((others : List R) → records_of decode log ≡ Some others → decode payload ≡ Some last → records_of decode (log ++ payload ∷ []) ≡ Some (others ++ last ∷ []))
+          → option_and_then (λ f. option_map (λ others. f ∷ others) (records_of decode (log ++ payload ∷ []))) found ≡ Some (records ++ last ∷ [])
+      more_at None rest rest_is decoded more = absurd (cc)
+      more_at (Some found) None rest_is decoded more = absurd (cc)
+      more_at (Some found) (Some others) rest_is decoded more =
+          let same : found ∷ others ≡ records = cc in
+          ap (λ (o : Option (List R)). option_map (λ others. found ∷ others) o) (more others rest_is is) ∙ ap (λ (l : List R). Some (l ++ last ∷ [])) same
+
+  pub state_more : (records : List R) (last : R) (state mid : S) → state_after fits state records ≡ Some mid → state_after fits state (records ++ last ∷ []) ≡ option_and_then (λ next. Some next) (fits mid last)
+  state_more [] last state mid is = let same : state ≡ mid = cc in ap (λ (s : S). option_and_then (λ next. Some next) (fits s last)) same
+  state_more (first ∷ records) last state mid is = more_at (fits state first) is (λ next. state_more records last next mid)
+    where
+      more_at : (found : Option S) → option_and_then (λ next. state_after fits next records) found ≡ Some mid
+          → ((next : S) → state_after fits next records ≡ Some mid → state_after fits next (records ++ last ∷ []) ≡ option_and_then (λ next. Some next) (fits mid last))
+          → option_and_then (λ next. state_after fits next (records ++ last ∷ [])) found ≡ option_and_then (λ next. Some next) (fits mid last)
+      more_at None is more = absurd (cc)
+      more_at (Some next) is more = more next is
 
 -- ---- reading a log record by record
 

@@ -1,6 +1,6 @@
 -- What the records of a journal stand for, whatever they are: a reader above it says what a state is, and what a payload makes
 -- of one. This project's own.
-use Rattle.std.specs.Prelude.{◌≡◌, ◌⊎◌, ◌+◌, ℕ, List, [], ◌∷◌, length, drop, Option, Some, None, option_and_then, IsSome, Result, Ok, Err}
+use Rattle.std.specs.Prelude.{◌≡◌, ◌⊎◌, ◌+◌, ℕ, List, [], ◌∷◌, length, drop, Option, Some, None, option_and_then, option_map, IsSome, Result, Ok, Err}
 use Rattle.up_disk.specs.Disk.{LeavesOnly}
 use Rattle.up_journal.specs.Format.{first_gate, head_size, log_of}
 use Rattle.up_journal.specs.Journal.{State, StandsFor}
@@ -23,6 +23,22 @@ replay_from step gate state (payload ∷ log) = or_place gate (step state payloa
 -- the same of a whole log
 abbrev pub replay : {S : Type 0} → (S → List ℕ → Option S) → S → List (List ℕ) → Result S ℕ
 replay step start log = replay_from step first_gate start log
+
+-- the records to which payloads decode, where each does
+abbrev pub records_of : {R : Type 0} → (List ℕ → Option R) → List (List ℕ) → Option (List R)
+records_of decode [] = Some []
+records_of decode (payload ∷ log) = option_and_then (λ first. option_map (λ others. first ∷ others) (records_of decode log)) (decode payload)
+
+-- the state after records, where each fits the state so far
+abbrev pub state_after : {S R : Type 0} → (S → R → Option S) → S → List R → Option S
+state_after fits state [] = Some state
+state_after fits state (first ∷ others) = option_and_then (λ next. state_after fits next others) (fits state first)
+
+-- the payloads of the log decode to these records, which lead to that state
+pub record LeadsTo {S R : Type 0} (decode : List ℕ → Option R) (fits : S → R → Option S) (start : S) (log : List (List ℕ)) (state : S) : Type 0 where
+  pub records : List R
+  pub decoded : records_of decode log ≡ Some records
+  pub fitted : state_after fits start records ≡ Some state
 
 -- what comes of a log, or the place where its image is damaged
 abbrev pub of_log : {S : Type 0} → Result (List (List ℕ)) ℕ → (List (List ℕ) → Result S ℕ) → Result S ℕ

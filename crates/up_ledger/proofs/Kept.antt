@@ -2,14 +2,21 @@
 use Rattle.std.proofs.Common.{◌≡◌, ◌≤◌, ℕ, List, Option, Some, None, false, is_some, IsSome, Result, Ok, Err, OnOk, OnErr, refl, sym, ◌∙◌, ap, subst, ◌⊎◌, inl, inr}
 use Rattle.up_disk.specs.Disk.{LeavesOnly}
 use Rattle.up_disk.proofs.Moments.{started, weaker}
+use Rattle.up_journal.specs.Format.{first_gate}
 use Rattle.up_journal.specs.Journal.{MayHave, StandsFor, State, with_further}
+use Rattle.up_journal.specs.Records.{LeadsTo, replay}
 use Rattle.up_journal.specs.declared.limits.Limits.{Limits}
-use Rattle.up_journal.proofs.Records.{may_have_state, replays_kept, replays_more, replays_settled, settled_state, stands_for_state}
-use Rattle.up_ledger.specs.Entries.{after_record, balance_of, largest_record}
+use Rattle.up_journal.proofs.Records.{leads_to, may_have_state, replays_kept, replays_more, replays_settled, settled_state, stands_for_state}
+use Rattle.up_ledger.specs.Entries.{after_record, applied, balance_of, entry_of, largest_record}
 use Rattle.up_ledger.specs.Ledger.{IsKept, MayHaveBalance, StandsForBalance}
 
 pub fits_some : (found other : Option ℕ) (next : ℕ) → found ≡ other → other ≡ Some next → IsSome found
 fits_some found other next same is = ap is_some (same ∙ is)
+
+-- the balance is that to which the entries of the log lead
+pub entries_lead : (log : List (List ℕ)) (balance : ℕ) → replay after_record 0 log ≡ Ok balance → LeadsTo entry_of applied 0 log balance
+unfolding after_record
+entries_lead log balance is = leads_to entry_of applied log first_gate 0 balance is
 
 module _ {D : Type 0} (may_leave : D → List ℕ → Type 0) where
   -- what a crash leaves now

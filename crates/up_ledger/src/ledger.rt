@@ -1,12 +1,12 @@
 //! A ledger: a balance that is kept over a journal.
-ghost use Rattle.std.specs.Prelude.{◌≡◌, ◌≢◌, ◌⊎◌, ◌<◌, ◌≤◌, ◌^◌, ◌+◌, ◌-◌, ℕ, List, [], ◌∷◌, ◌++◌, None, Some, Ok, Err, false, length, is_ok, is_some, if◌then◌else◌, option_map, IfErr, IfOk, IfSome, IsErr, IsErrOf, IsOk, IsSome, OnErr, OnOk};
+ghost use Rattle.std.specs.Prelude.{◌≡◌, ◌≢◌, ◌⊎◌, ◌<◌, ◌≤◌, ◌^◌, ◌+◌, ◌-◌, ◌↔◌, ℕ, List, [], ◌∷◌, ◌++◌, None, Some, Ok, Err, false, length, map, is_ok, is_some, if◌then◌else◌, option_map, IfErr, IfOk, IfSome, IsErr, IsErrOf, IsOk, IsSome, IsTrue, OnErr, OnOk};
 ghost use Rattle.up_disk.specs.Disk.{LeavesOnly};
 ghost use Rattle.up_journal.specs.Cells.{Rises};
 ghost use Rattle.up_journal.specs.Format.{log_of, new_size};
 ghost use Rattle.up_journal.specs.Journal.{AreLimits, IsFull, IsReadAs, with_further};
-ghost use Rattle.up_journal.specs.Records.{replay};
+ghost use Rattle.up_journal.specs.Records.{LeadsTo};
 ghost use Rattle.up_journal.specs.declared.why.OpenWhy.TheVariants as open_why;
-ghost use Rattle.up_ledger.specs.Entries.{after_record, applied, balance_of, largest_record, record_of};
+ghost use Rattle.up_ledger.specs.Entries.{after_record, applied, balance_of, entry_of, largest_record, record_of};
 ghost use Rattle.up_ledger.specs.Ledger.{MayHaveBalance, StandsForBalance, disk_after};
 ghost use Rattle.up_ledger.specs.declared.entry.Entry.TheVariants.{Deposit, Withdraw};
 
@@ -86,12 +86,31 @@ impl<D: Disk> Ledger<D> {
     /// The balance. What it says besides holds of every ledger at every moment.
     pub fn balance(&self) -> u64
         ensures balance { result ≡ self.now.balance }
-        ensures log { (log : List (List ℕ)) → self.now.journal.log ≡ Some log → replay after_record 0 log ≡ Ok self.now.balance }
+        ensures entries { (log : List (List ℕ)) → self.now.journal.log ≡ Some log → LeadsTo entry_of applied 0 log self.now.balance }
         ensures further { (payload : List ℕ) → self.now.journal.further ≡ Some payload → IsSome (after_record self.now.balance payload) }
         ensures safe { (image : List ℕ) → D.may_leave self.now.journal.disk image
             → StandsForBalance self.now.journal.limits.largest self.now.balance self.now.journal.further image }
     {
         self.balance
+    }
+
+    /// The number of entries. What it says besides holds of every ledger at every moment.
+    pub fn len(&self) -> u64
+        ensures count { result ≡ length self.now.journal.sizes }
+        ensures told { is_some self.now.journal.log ≡ is_some (D.content self.now.journal.disk) }
+        ensures sizes { IfSome self.now.journal.log (λ log. map length log ≡ self.now.journal.sizes) }
+        ensures doubtful { IsSome self.now.journal.log → is_some self.now.journal.further ≡ self.now.journal.doubtful }
+        ensures limits { AreLimits self.now.journal.limits }
+        ensures room { largest_record ≤ self.now.journal.limits.largest }
+    {
+        self.journal.len()
+    }
+
+    /// Whether there is no entry.
+    pub fn is_empty(&self) -> bool
+        ensures { IsTrue result ↔ (length self.now.journal.sizes ≡ 0) }
+    {
+        self.journal.is_empty()
     }
 
     /// Adds to the balance, as `enter` of that entry. `Refused` where it would pass 2^64 - 1.
