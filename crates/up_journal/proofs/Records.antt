@@ -1,5 +1,5 @@
 -- What every reader of records above a journal needs.
-use Rattle.std.proofs.Common.{◌≡◌, ◌+◌, ◌≤◌, ◌<◌, ◌^◌, ◌-◌, ℕ, suc, true, List, [], ◌∷◌, ◌++◌, length, take, drop, take-append-drop, Option, Some, None, option_map, is_some, IsSome, IfSome, Result, Ok, Err, refl, sym, ◌∙◌, ap, subst, ◌⊎◌, inl, inr, ⊎_elim, arith, sum_by, get_or}
+use Rattle.std.proofs.Common.{◌≡◌, ◌+◌, ◌≤◌, ◌<◌, ◌^◌, ◌-◌, ℕ, suc, List, [], ◌∷◌, ◌++◌, length, take, drop, take-append-drop, Option, Some, None, option_map, IsSome, IfSome, Result, Ok, Err, refl, sym, ◌∙◌, ap, subst, ◌⊎◌, inl, inr, ⊎_elim, arith, sum_by}
 use Rattle.std.proofs.Math.Seq.{drop-cons}
 use Rattle.std.proofs.lemmas.Bool.{cases_lt}
 use Rattle.std.proofs.lemmas.List.{drop_all}
@@ -11,7 +11,7 @@ use Rattle.up_disk.specs.Disk.{LeavesOnly}
 use Rattle.up_disk.proofs.Moments.{joined, started, weaker}
 use Rattle.up_journal.specs.Cells.{Rises}
 use Rattle.up_journal.specs.Format.{first_gate, head_size, log_of}
-use Rattle.up_journal.specs.Journal.{HasLog, IsReadAs, MayHave, StandsFor, State, bytes_of, with_further}
+use Rattle.up_journal.specs.Journal.{HasLog, IsReadAs, MayHave, StandsFor, State, with_further}
 use Rattle.up_journal.specs.declared.limits.Limits.{Limits}
 use Rattle.up_journal.specs.Records.{HasNext, IsReadAlike, LeadsTo, MayHaveState, OnlyPayloads, ReadUpTo, Replays, StandsForState, by_record, of_log, or_place, records_of, replay, replay_from, state_after, state_of}
 
@@ -172,7 +172,7 @@ module _ {S R : Type 0} (decode : List ℕ → Option R) (fits : S → R → Opt
       → decode payload ≡ found → records_of decode log ≡ others → option_and_then (fits state) found ≡ after
       → option_and_then (λ first. option_map (λ rest. first ∷ rest) others) found ≡ Some records → state_after fits state records ≡ Some end
       → ((rest : List R) (next : S) → records_of decode log ≡ Some rest → state_after fits next rest ≡ Some end
-          → replay_from (by_record decode fits) (gate + head_size + length payload) next log ≡ Ok end)
+      → replay_from (by_record decode fits) (gate + head_size + length payload) next log ≡ Ok end)
       → or_place gate after (λ next. replay_from (by_record decode fits) (gate + head_size + length payload) next log) ≡ Ok end
   led_at None others after gate state end payload log records found_is others_is after_is decoded fitted rest = absurd (cc)
   led_at (Some first) None after gate state end payload log records found_is others_is after_is decoded fitted rest = absurd (cc)

@@ -1,5 +1,5 @@
 -- What a ledger keeps, and what a crash leaves of it.
-use Rattle.std.proofs.Common.{◌≡◌, ◌≤◌, ℕ, List, Option, Some, None, false, is_some, IsSome, Result, Ok, Err, OnOk, OnErr, refl, sym, ◌∙◌, ap, subst, ◌⊎◌, inl, inr}
+use Rattle.std.proofs.Common.{◌≡◌, ◌≤◌, ℕ, List, Option, Some, None, false, is_some, IsSome, Result, Ok, Err, OnOk, OnErr, sym, ◌∙◌, ap, subst, ◌⊎◌, inl, inr}
 use Rattle.up_disk.specs.Disk.{LeavesOnly}
 use Rattle.up_disk.proofs.Moments.{started, weaker}
 use Rattle.up_journal.specs.Format.{first_gate}

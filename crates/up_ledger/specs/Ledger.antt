@@ -1,5 +1,5 @@
 -- What contracts see of a ledger, and what it keeps. This project's own.
-use Rattle.std.specs.Prelude.{◌≡◌, ◌≤◌, ℕ, List, Option, Result, Ok, Err}
+use Rattle.std.specs.Prelude.{◌≤◌, ℕ, List, Option, Result, Ok, Err}
 use Rattle.up_journal.specs.Journal.{State, StandsFor}
 use Rattle.up_journal.specs.Records.{MayHaveState, Replays, StandsForState}
 use Rattle.up_journal.specs.declared.why.OpenFault.{OpenFault}

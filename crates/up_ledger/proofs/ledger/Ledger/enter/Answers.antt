@@ -1,7 +1,7 @@
 use Rattle.std.proofs.Common.{◌≡◌, Some, refl, sym, ◌∙◌, ap, subst}
 use Rattle.up_disk.specs.Disk.{LeavesOnly}
 use Rattle.up_journal.specs.Journal.{MayHave}
-use Rattle.up_ledger.specs.Entries.{after_record, applied, record_of}
+use Rattle.up_ledger.specs.Entries.{after_record, record_of}
 use Rattle.up_ledger.proofs.Kept.{fits_some, kept_more, kept_safe, kept_same, kept_settled, meanwhile, still}
 use Rattle.up_ledger.proofs.ledger.Ledger.enter.Goals as goal
 
