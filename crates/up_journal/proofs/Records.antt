@@ -429,6 +429,13 @@ module _ {D : Type 0} (content : D → Option (List ℕ)) (may_leave : D → Lis
     run = started moment left_since journal.disk (StandsFor journal.limits.largest journal.log journal.further) (λ image left. safe image (only_now journal.disk image left));
   }
 
+  -- what a crash leaves afterwards
+  pub read_safe : (old new : State D) → OnlyPayloads content may_leave moment left_since old new
+      → ((image : List ℕ) → may_leave old.disk image → StandsFor old.limits.largest old.log old.further image)
+      → (image : List ℕ) → may_leave new.disk image → StandsFor new.limits.largest new.log new.further image
+  read_safe old new reads safe image left =
+      subst (λ (s : State D). StandsFor s.limits.largest s.log s.further image) (sym reads.unchanged) (safe image (reads.fewer image left))
+
   -- one more
   pub payload_read : (old mid new : State D) → OnlyPayloads content may_leave moment left_since old mid → new ≡ record mid { disk = new.disk } → content new.disk ≡ content mid.disk
       → ((image : List ℕ) → may_leave new.disk image → may_leave mid.disk image)
