@@ -12,4 +12,6 @@ mod why;
 
 pub use journal::Journal;
 pub use limits::Limits;
+pub use open::FIRST_GATE;
+pub use read::HEAD;
 pub use why::{AppendWhy, OpenFault, OpenWhy, ReadWhy};

@@ -12,8 +12,8 @@ use crate::why::OpenWhy;
 use std::alloc::Global;
 use up_disk::{Disk, Failed};
 
-// The place of the first gate.
-const FIRST_GATE: u64 = 8;
+/// The place of the first gate on a device.
+pub const FIRST_GATE: u64 = 8;
 
 // The name and a closed gate.
 const NEW: [u8; 9] = *b"UPSLOG1\n\0";

@@ -14,7 +14,7 @@ use up_disk::Disk;
 /// `UPSLOG1` and LF, with which a device begins.
 pub const NAME: [u8; 8] = *b"UPSLOG1\n";
 
-/// A gate, and the length behind it.
+/// The bytes of a gate and of the length behind it.
 pub const HEAD: u64 = 5;
 
 /// The bytes of an open and of a closed gate. Any byte but the first is a closed gate.

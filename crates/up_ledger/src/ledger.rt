@@ -113,7 +113,9 @@ impl<D: Disk> Ledger<D> {
         self.journal.is_empty()
     }
 
-    /// Adds to the balance, as `enter` of that entry. `Refused` where it would pass 2^64 - 1.
+    /// Adds to the balance, after a doubtful record is settled. `Ok` is the position of the record, from 1: from then on each
+    /// crash leaves the new balance. `Refused` where it would pass 2^64 - 1. Then, at the limits, and for want of memory no
+    /// call of the disk is made. After a `Fault` the balance is as before, and one record may be doubtful.
     pub fn deposit(&mut self, amount: u64) -> Result<u64, EntryWhy>
         ensures balance { self.new.balance ≡ (if is_ok result then self.old.balance + amount else self.old.balance) }
         ensures appended { OnOk result (self.new.journal.log ≡ with_further self.old.journal.log (Some (record_of (Deposit amount)))) }
@@ -143,7 +145,9 @@ impl<D: Disk> Ledger<D> {
         self.enter(Entry::Deposit(amount))
     }
 
-    /// Takes from the balance. `Refused` where it is less.
+    /// Takes from the balance, after a doubtful record is settled. `Ok` is the position of the record, from 1: from then on each
+    /// crash leaves the new balance. `Refused` where the balance is less. Then, at the limits, and for want of memory no call of
+    /// the disk is made. After a `Fault` the balance is as before, and one record may be doubtful.
     pub fn withdraw(&mut self, amount: u64) -> Result<u64, EntryWhy>
         ensures balance { self.new.balance ≡ (if is_ok result then self.old.balance - amount else self.old.balance) }
         ensures appended { OnOk result (self.new.journal.log ≡ with_further self.old.journal.log (Some (record_of (Withdraw amount)))) }
@@ -173,9 +177,7 @@ impl<D: Disk> Ledger<D> {
         self.enter(Entry::Withdraw(amount))
     }
 
-    /// Makes an entry, after a doubtful record is settled. `Ok` is the position of its record, from 1: from then on each crash
-    /// leaves the new balance. Where the balance does not allow it, or the limits, no call of the disk is made; nor for want of
-    /// memory. After a `Fault` the balance is as before, and the journal is settled or has one doubtful record.
+    // Makes an entry. The state is changed last, by what cannot fail.
     fn enter(&mut self, entry: Entry) -> Result<u64, EntryWhy>
         ensures entered { OnOk result (applied self.old.balance entry ≡ Some self.new.balance) }
         ensures balance { OnErr result (self.new.balance ≡ self.old.balance) }

@@ -6,12 +6,7 @@ ghost use Rattle.up_ledger.specs.Entries.{after_record};
 
 use crate::entry::after_record;
 use up_disk::Disk;
-use up_journal::{Journal, OpenWhy};
-
-// The place of the first gate on a device, and the bytes of a gate and the length behind it.
-const FIRST_GATE: u64 = 8;
-
-const HEAD: u64 = 5;
+use up_journal::{FIRST_GATE, HEAD, Journal, OpenWhy};
 
 /// The balance after all records. `Damaged` names the gate of the first one that does not decode or does not fit.
 pub fn replay<D: Disk>(journal: &mut Journal<D>) -> Result<u64, OpenWhy>
