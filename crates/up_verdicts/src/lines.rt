@@ -2,8 +2,8 @@
 use crate::asked::{can_line, loadings_line, names_line, rights_line};
 use crate::fault::Fault;
 use crate::told::{
-    access_line, chain_line, forget_line, group_line, loaded_line, name_line, needs_line, pair_line,
-    tree_line,
+    access_line, chain_line, forget_line, group_line, loaded_line, name_line, needs_line,
+    pair_line, tree_line,
 };
 use crate::tree::Tree;
 use std::alloc::Global;

@@ -128,6 +128,13 @@ pub fn needs_line(
     let path = one_word(arguments).ok_or(Fault::BadLine)?;
     let path = own_path(alloc, &tree.facts, path)?;
     let user = tree.facts.owner();
-    needs(alloc, &tree.facts, &tree.loaded, user, &path, &mut tree.needed)?;
+    needs(
+        alloc,
+        &tree.facts,
+        &tree.loaded,
+        user,
+        &path,
+        &mut tree.needed,
+    )?;
     Ok(None)
 }
