@@ -7,7 +7,7 @@ use crate::tree::Tree;
 use crate::words::{own_path, user_of};
 use std::alloc::{AllocError, Global};
 use up_names::{Path, User};
-use up_policy::{LoadAnswer, can, rights_of};
+use up_policy::LoadAnswer;
 use up_rights::{Right, RightSet};
 use up_text::{three_words, two_words};
 
@@ -21,7 +21,7 @@ pub fn can_line(
     let user = user_of(alloc, user)?;
     let right = Right::from_word(right).ok_or(Fault::BadLine)?;
     let path = own_path(alloc, &tree.facts, path)?;
-    let verdict = can(alloc, &tree.facts, &tree.loaded, &user, right, &path)?;
+    let verdict = tree.allows(alloc, &user, right, &path)?;
     let word = if verdict { "yes" } else { "no" };
     Ok(Some(word.to_string(alloc)?))
 }
@@ -36,7 +36,7 @@ pub fn rights_line(
     let (user, path) = two_words(arguments).ok_or(Fault::BadLine)?;
     let user = user_of(alloc, user)?;
     let path = own_path(alloc, &tree.facts, path)?;
-    let rights = rights_of(alloc, &tree.facts, &tree.loaded, &user, &path)?;
+    let rights = tree.rights(alloc, &user, &path)?;
     if !are_verdicts(alloc, tree, &user, &path, rights)? {
         return Ok(Some("differ".to_string(alloc)?));
     }
@@ -62,7 +62,7 @@ fn are_verdicts(
     requires { path.now.owner ≡ (facts_of tree.now.facts).owner }
 {
     for right in RIGHTS {
-        let verdict = can(alloc, &tree.facts, &tree.loaded, user, right, path)?;
+        let verdict = tree.allows(alloc, user, right, path)?;
         if verdict != rights.has(right) {
             return Ok(false);
         }

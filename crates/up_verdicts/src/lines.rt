@@ -56,20 +56,54 @@ enum Kind {
 
 /// The kind of line that a keyword begins.
 fn kind_of(keyword: &[u8]) -> Result<Kind, Fault> {
-    match keyword {
-        b"access" => Ok(Kind::Access),
-        b"group" => Ok(Kind::Group),
-        b"chain" => Ok(Kind::Chain),
-        b"pair" => Ok(Kind::Pair),
-        b"loaded" => Ok(Kind::Loaded),
-        b"forget" => Ok(Kind::Forget),
-        b"name" => Ok(Kind::Name),
-        b"needs" => Ok(Kind::Needs),
-        b"names" => Ok(Kind::Names),
-        b"loadings" => Ok(Kind::Loadings),
-        b"can" => Ok(Kind::Can),
-        b"rights" => Ok(Kind::Rights),
-        _ => Err(Fault::BadLine),
+    match told_kind(keyword) {
+        Some(kind) => Ok(kind),
+        None => asked_kind(keyword).ok_or(Fault::BadLine),
+    }
+}
+
+/// The kind of line that a keyword begins, where the line asks nothing.
+fn told_kind(keyword: &[u8]) -> Option<Kind> {
+    if keyword == b"access".as_slice() {
+        Some(Kind::Access)
+    } else if keyword == b"group".as_slice() {
+        Some(Kind::Group)
+    } else if keyword == b"chain".as_slice() {
+        Some(Kind::Chain)
+    } else if keyword == b"pair".as_slice() {
+        Some(Kind::Pair)
+    } else if keyword == b"loaded".as_slice() {
+        Some(Kind::Loaded)
+    } else {
+        list_kind(keyword)
+    }
+}
+
+/// The kind of line that a keyword begins, where the line changes the list of names.
+fn list_kind(keyword: &[u8]) -> Option<Kind> {
+    if keyword == b"forget".as_slice() {
+        Some(Kind::Forget)
+    } else if keyword == b"name".as_slice() {
+        Some(Kind::Name)
+    } else if keyword == b"needs".as_slice() {
+        Some(Kind::Needs)
+    } else {
+        None
+    }
+}
+
+/// The kind of line that a keyword begins, where the line asks.
+fn asked_kind(keyword: &[u8]) -> Option<Kind> {
+    if keyword == b"names".as_slice() {
+        Some(Kind::Names)
+    } else if keyword == b"loadings".as_slice() {
+        Some(Kind::Loadings)
+    } else if keyword == b"can".as_slice() {
+        Some(Kind::Can)
+    } else if keyword == b"rights".as_slice() {
+        Some(Kind::Rights)
+    } else {
+        None
     }
 }
 

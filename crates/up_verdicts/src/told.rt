@@ -5,7 +5,7 @@ use crate::tree::Tree;
 use crate::words::{access_of, group_of, number_of, own_path, path_of, user_of};
 use std::alloc::Global;
 use up_names::{Control, User};
-use up_policy::{Facts, LoadAnswer, Names, needs};
+use up_policy::{Facts, LoadAnswer, Names};
 use up_text::{cut_word, one_word, two_words};
 
 /// `tree USER`: a tree of this owner, without a file.
@@ -86,12 +86,36 @@ pub fn loaded_line(
 /// What the load of a group of this owner gave, by the last words of a line.
 fn load_answer(alloc: Global, owner: &User, words: Option<&[u8]>) -> Result<LoadAnswer, Fault> {
     let (kind, value) = cut_word(words.ok_or(Fault::BadLine)?);
-    match (kind, value) {
-        (b"text", Some(text)) => Ok(LoadAnswer::Text(group_of(alloc, owner, text)?)),
-        (b"badtext", Some(number)) => Ok(LoadAnswer::BadText(number_of(number)?)),
-        (b"missing", None) => Ok(LoadAnswer::Missing),
-        (b"failed", None) => Ok(LoadAnswer::Failed),
-        _ => Err(Fault::BadLine),
+    match value {
+        Some(value) => valued_answer(alloc, owner, kind, value),
+        None => bare_answer(kind),
+    }
+}
+
+/// An answer of two words.
+fn valued_answer(
+    alloc: Global,
+    owner: &User,
+    kind: &[u8],
+    value: &[u8],
+) -> Result<LoadAnswer, Fault> {
+    if kind == b"text".as_slice() {
+        Ok(LoadAnswer::Text(group_of(alloc, owner, value)?))
+    } else if kind == b"badtext".as_slice() {
+        Ok(LoadAnswer::BadText(number_of(value)?))
+    } else {
+        Err(Fault::BadLine)
+    }
+}
+
+/// An answer of one word.
+fn bare_answer(kind: &[u8]) -> Result<LoadAnswer, Fault> {
+    if kind == b"missing".as_slice() {
+        Ok(LoadAnswer::Missing)
+    } else if kind == b"failed".as_slice() {
+        Ok(LoadAnswer::Failed)
+    } else {
+        Err(Fault::BadLine)
     }
 }
 
@@ -127,14 +151,6 @@ pub fn needs_line(
 ) -> Result<Option<String>, Fault> {
     let path = one_word(arguments).ok_or(Fault::BadLine)?;
     let path = own_path(alloc, &tree.facts, path)?;
-    let user = tree.facts.owner();
-    needs(
-        alloc,
-        &tree.facts,
-        &tree.loaded,
-        user,
-        &path,
-        &mut tree.needed,
-    )?;
+    tree.add_needed(alloc, &path)?;
     Ok(None)
 }
