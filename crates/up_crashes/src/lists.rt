@@ -1,0 +1,56 @@
+//! A list of disks with spare room, and a disk with a hook.
+use crate::answers::Answers;
+use std::alloc::{AllocError, Global};
+use up_disk::{Disk, Disks, Failed, Hook, HookDisk, MemDisk};
+use up_lists::Items;
+
+/// Three disks, known by numbers, are put into a list; the first is taken out and put back.
+pub fn say_lists(alloc: Global, answers: &mut Answers) -> Result<(), AllocError> {
+    let mut disks = Disks::new(alloc);
+    disks.push(7u64)?;
+    disks.push(8u64)?;
+    disks.push(9u64)?;
+    if let Some(first) = disks.take() {
+        answers.number("took", first);
+        disks.push(first)?;
+    }
+    answers.number(", next", disks.take().unwrap_or(0));
+    answers.number(", left", disks.len());
+    Ok(())
+}
+
+/// Counts how often it is called.
+#[derive(Drop)]
+struct Count<'a> {
+    times: &'a mut u64,
+}
+
+impl Hook for Count<'_> {
+    fn before_sync(&mut self) {
+        *self.times = self.times.saturating_add(1);
+    }
+}
+
+// Writes and syncs twice on a disk with a hook, whose second sync fails: what that one answers, where the calls before it
+// have not failed.
+fn hooked_syncs(alloc: Global, times: &mut u64) -> Result<Result<(), Failed>, AllocError> {
+    let fails = Items::from_vec([2u64].to_vec(alloc)?);
+    let mut disk = HookDisk::new(MemDisk::new(alloc, fails), Count { times });
+    let written = disk.write_at(0, b"ab");
+    let synced = disk.sync();
+    let again = disk.sync();
+    if written.is_err() || synced.is_err() {
+        return Ok(Ok(()));
+    }
+    Ok(again)
+}
+
+/// How often a hook was called, and what the sync that failed answered.
+pub fn say_hooks(alloc: Global, answers: &mut Answers) -> Result<(), AllocError> {
+    let mut times = 0u64;
+    let outcome = hooked_syncs(alloc, &mut times)?;
+    answers.number("hook called", times);
+    answers.say(", ");
+    answers.outcome(outcome);
+    Ok(())
+}

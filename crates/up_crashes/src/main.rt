@@ -1,0 +1,26 @@
+//! Runs cases of a disk in memory and of a journal on it, one a line of its input, and prints each command's answer. What
+//! it has to print is stored beside the input.
+#![tactic(auto)]
+
+mod answers;
+mod command;
+mod lists;
+mod on_disk;
+mod on_journal;
+mod stage;
+mod watched;
+
+use std::io;
+
+fn main(rt: HostRuntime) -> io::Result<()> {
+    for line in rt.lines(rt.alloc()) {
+        let line = line?;
+        let text = if line.is_empty() || line.starts_with('#') {
+            line
+        } else {
+            stage::run_case(rt.alloc(), line.as_str())?
+        };
+        println!(rt; "{text}")?;
+    }
+    Ok(())
+}
