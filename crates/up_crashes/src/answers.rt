@@ -2,6 +2,7 @@
 use std::alloc::{AllocError, Global};
 use up_disk::{Disk, Failed};
 use up_journal::{AppendWhy, OpenWhy, ReadWhy};
+use up_ledger::EntryWhy;
 
 /// The answers of a case so far. Where there was no memory for one, that is kept, and `finish` says so.
 #[derive(Drop)]
@@ -88,6 +89,16 @@ impl Answers {
             Err(AppendWhy::Full(records)) => self.number("full", records),
             Err(AppendWhy::Fault) => self.say("fault"),
             Err(AppendWhy::OutOfMemory) => self.say("out of memory"),
+        }
+    }
+
+    pub fn entered(&mut self, answer: Result<u64, EntryWhy>) {
+        match answer {
+            Ok(position) => self.number("ok", position),
+            Err(EntryWhy::Refused) => self.say("refused"),
+            Err(EntryWhy::Full(records)) => self.number("full", records),
+            Err(EntryWhy::Fault) => self.say("fault"),
+            Err(EntryWhy::OutOfMemory) => self.say("out of memory"),
         }
     }
 

@@ -41,6 +41,12 @@ pub enum Command {
     Payload(u64),
     /// The records and the bytes of the log, and its payloads.
     Log,
+    /// Opens a ledger with these limits.
+    Ledger(u64, u64, u64),
+    Deposit(u64),
+    Withdraw(u64),
+    /// The balance, and the number of entries.
+    Balance,
     Lists,
     Hooks,
     Unknown,
@@ -80,6 +86,7 @@ pub fn read_command(alloc: Global, text: &str) -> Result<Command, AllocError> {
         "append" => Command::Append(words.bytes(alloc)?),
         "fill" => Command::Fill(words.number(), words.bytes(alloc)?),
         "open" => Command::Open(words.number(), words.number(), words.number()),
+        "ledger" => Command::Ledger(words.number(), words.number(), words.number()),
         _ => short_command(name, &mut words),
     })
 }
@@ -92,6 +99,8 @@ fn short_command(name: &str, words: &mut Words<'_>) -> Command {
         "crash" => Command::Crash(words.number()),
         "note" => Command::Note(words.number()),
         "payload" => Command::Payload(words.number()),
+        "deposit" => Command::Deposit(words.number()),
+        "withdraw" => Command::Withdraw(words.number()),
         _ => plain_command(name),
     }
 }
@@ -110,6 +119,7 @@ fn plain_command(name: &str) -> Command {
         "reads" => Command::Reads,
         "resolve" => Command::Resolve,
         "log" => Command::Log,
+        "balance" => Command::Balance,
         "lists" => Command::Lists,
         "hooks" => Command::Hooks,
         _ => Command::Unknown,

@@ -1,4 +1,4 @@
-//! Runs cases of a disk in memory and of a journal on it, one a line of its input, and prints each command's answer. What
+//! Runs cases of a disk in memory, and of a journal and a ledger on it, one a line of its input, and prints each command's answer. What
 //! it has to print is stored beside the input.
 #![tactic(auto)]
 
@@ -7,6 +7,7 @@ mod command;
 mod lists;
 mod on_disk;
 mod on_journal;
+mod on_ledger;
 mod stage;
 mod watched;
 
