@@ -1,0 +1,170 @@
+-- A block, the blocks and an entry, by their parts.
+use Rattle.std.proofs.Common.{◌≡◌, ℕ, Bool, true, false, List, [], ◌∷◌, ◌++◌, length, Ok, refl, ap, ◌∙◌, append_assoc, arith}
+use Rattle.std.specs.List.{flat_map, AllByRecursion}
+use Rattle.up_bytes.specs.Num.{num}
+use Rattle.up_bytes.specs.Spelling.{byte, int, text, IsByte, IsU64, IsI64, IsText}
+use Rattle.up_names.specs.PathNames.{canonical, IsCanonical}
+use Rattle.up_names.specs.UserNames.{user_of}
+use Rattle.up_entry.specs.declared.entries.Block.{Block}
+use Rattle.up_entry.specs.declared.entries.Entry.{Entry}
+use Rattle.up_entry.specs.declared.reading.Heading.{Heading}
+use Rattle.up_entry.specs.Attrs.{attr_byte}
+use Rattle.up_entry.specs.Reading.{block_at, blocks_at, heading_at, entry_at}
+use Rattle.up_entry.specs.Spelling.{block, entry, endpoint_text, link_text, IsBlock, HasAddress, FitsBlock, FitsEntry, FitsWhole}
+use Rattle.up_entry.proofs.Parts.{IsPart, then, last, whole, one_part, refit, items_part}
+use Rattle.up_entry.proofs.FieldParts.{byte_part, num_part, int_part, text_part, raw_part}
+use Rattle.up_entry.proofs.EntryFields.{path_part, user_part, attr_part, link_part, endpoint_part, MarkFits, LinkFits, true_is_false}
+
+-- ---- parts, each before those behind it
+
+five : (a b c d e : List ℕ) → a ++ b ++ c ++ d ++ e ≡ a ++ (b ++ (c ++ (d ++ e)))
+five a b c d e = append_assoc (a ++ b ++ c) d e ∙ append_assoc (a ++ b) c (d ++ e) ∙ append_assoc a b (c ++ (d ++ e))
+
+six : (a b c d e f : List ℕ) → a ++ b ++ c ++ d ++ e ++ f ≡ a ++ (b ++ (c ++ (d ++ (e ++ f))))
+six a b c d e f = append_assoc (a ++ b ++ c ++ d) e f ∙ five a b c d (e ++ f)
+
+-- the fourth and the fifth are one
+grouped : (a b c d e f : List ℕ) → a ++ b ++ c ++ d ++ e ++ f ≡ a ++ (b ++ (c ++ ((d ++ e) ++ f)))
+grouped a b c d e f = ap (λ (t : List ℕ). t ++ f) (append_assoc (a ++ b ++ c) d e) ∙ five a b c (d ++ e) f
+
+-- ---- blocks
+
+pub block_part : IsPart FitsBlock block block_at
+unfolding block_at block
+block_part =
+    whole FitsBlock block
+    (then endpoint_part λ _ endpoint _. then (raw_part 32) λ _ reference _. then num_part λ _ offset _. then num_part λ _ size _.
+    last {B = Block} (λ packdata. record { location = record { endpoint = endpoint; reference = reference }; offset = offset; size = size; packdata = packdata }) text_part)
+    (λ b fits. (
+      (b.location.endpoint, (b.location.reference, (b.offset, (b.size, b.packdata)))),
+      ((fits.0.endpoint, fits.1), (fits.0.reference, (fits.0.offset, (fits.0.size, fits.0.packdata)))),
+      refl,
+      five (text (endpoint_text b.location.endpoint)) b.location.reference (num b.offset) (num b.size) (text b.packdata),
+    ))
+    (λ p fits. ((record { endpoint = fits.0.0; reference = fits.1.0; offset = fits.1.1.0; size = fits.1.1.1.0; packdata = fits.1.1.1.1 }, fits.0.1), five (text (endpoint_text p.0)) p.1.0 (num p.1.1.0) (num p.1.1.1.0) (text p.1.1.1.1)))
+
+abbrev pub BlocksFit : List Block → Type 0
+BlocksFit blocks = IsU64 (length blocks) × AllByRecursion FitsBlock blocks
+
+abbrev pub spelled_blocks : List Block → List ℕ
+spelled_blocks blocks = num (length blocks) ++ flat_map block blocks
+
+pub blocks_part : IsPart BlocksFit spelled_blocks blocks_at
+unfolding blocks_at
+blocks_part =
+    whole BlocksFit spelled_blocks (then num_part λ _ n _. one_part (items_part block_part n))
+    (λ blocks fits. ((length blocks, blocks), (fits.0, (refl, fits.1)), refl, refl))
+    (λ p fits. ((omega (arith, fits.0, fits.1.0), fits.1.1), ap (λ (n : ℕ). num n ++ flat_map block p.1) fits.1.0))
+
+all_fit : (blocks : List Block) → AllByRecursion IsBlock blocks → AllByRecursion (λ b. HasAddress b.location.endpoint) blocks → AllByRecursion FitsBlock blocks
+all_fit [] are have = tt
+all_fit (b ∷ blocks) are have = ((are.0, have.0), all_fit blocks are.1 have.1)
+
+all_are : (blocks : List Block) → AllByRecursion FitsBlock blocks → AllByRecursion IsBlock blocks
+all_are [] fit = tt
+all_are (b ∷ blocks) fit = (fit.0.0, all_are blocks fit.1)
+
+all_have : (blocks : List Block) → AllByRecursion FitsBlock blocks → AllByRecursion (λ b. HasAddress b.location.endpoint) blocks
+all_have [] fit = tt
+all_have (b ∷ blocks) fit = (fit.0.1, all_have blocks fit.1)
+
+-- ---- what stands in front of an entry's link
+
+pub record HeadingFits (marks : Bool) (h : Heading) : Type 0 where
+  pub name : IsCanonical h.name
+  pub signed_name : IsCanonical h.signed_name
+  pub packing : IsByte h.packing
+  pub time : IsI64 h.time
+  pub writer : user_of h.writer ≡ Ok h.writer
+  pub mark : MarkFits marks h.attr
+
+abbrev pub spelled_heading : Heading → List ℕ
+spelled_heading h = text (canonical h.name) ++ text (canonical h.signed_name) ++ byte h.packing ++ int h.time ++ text h.writer ++ byte (attr_byte h.attr)
+
+pub heading_part : (marks : Bool) → IsPart (HeadingFits marks) spelled_heading (heading_at marks)
+unfolding heading_at
+heading_part marks =
+    whole (HeadingFits marks) spelled_heading
+    (then path_part λ _ name _. then path_part λ _ signed_name _. then byte_part λ _ packing _. then int_part λ _ time _. then user_part λ _ writer _.
+    last {B = Heading} (λ attr. record { name = name; signed_name = signed_name; packing = packing; time = time; writer = writer; attr = attr }) (attr_part marks))
+    (λ h fits. (
+      (h.name, (h.signed_name, (h.packing, (h.time, (h.writer, h.attr))))),
+      (fits.name, (fits.signed_name, (fits.packing, (fits.time, (fits.writer, fits.mark))))),
+      refl,
+      six (text (canonical h.name)) (text (canonical h.signed_name)) (byte h.packing) (int h.time) (text h.writer) (byte (attr_byte h.attr)),
+    ))
+    (λ p fits. (
+      record { name = fits.0; signed_name = fits.1.0; packing = fits.1.1.0; time = fits.1.1.1.0; writer = fits.1.1.1.1.0; mark = fits.1.1.1.1.1 },
+      six (text (canonical p.0)) (text (canonical p.1.0)) (byte p.1.1.0) (int p.1.1.1.0) (text p.1.1.1.1.0) (byte (attr_byte p.1.1.1.1.1)),
+    ))
+
+-- ---- an entry
+
+-- with the mark only where marks may stand
+abbrev pub FitsMarked : Bool → Entry → Type 0
+FitsMarked marks e = FitsEntry e × MarkFits marks e.attr
+
+abbrev heading_of : Entry → Heading
+heading_of e = record { name = e.name; signed_name = e.signed_name; packing = e.packing; time = e.time; writer = e.writer; attr = e.attr }
+
+entry-parts : (e : Entry) → entry e ≡ spelled_heading (heading_of e) ++ (text (link_text e.link) ++ (text e.packdata ++ (spelled_blocks e.blocks ++ num e.sequence)))
+unfolding entry
+entry-parts e = grouped (spelled_heading (heading_of e)) (text (link_text e.link)) (text e.packdata) (num (length e.blocks)) (flat_map block e.blocks) (num e.sequence)
+
+entry_fits : (marks : Bool) (e : Entry) → HeadingFits marks (heading_of e) → LinkFits e.attr.kind e.link → IsText e.packdata → BlocksFit e.blocks → IsU64 e.sequence → FitsMarked marks e
+entry_fits marks e heading link packdata blocks sequence = (
+  (
+    record {
+      name = heading.name;
+      signed_name = heading.signed_name;
+      packing = heading.packing;
+      time = heading.time;
+      writer = heading.writer;
+      link = link.0;
+      packdata = packdata;
+      count = blocks.0;
+      blocks = all_are e.blocks blocks.1;
+      sequence = sequence;
+    },
+    record { link = link.1; addresses = all_have e.blocks blocks.1 },
+  ),
+  heading.mark,
+)
+
+heading_fits : (marks : Bool) (e : Entry) → FitsMarked marks e → HeadingFits marks (heading_of e)
+heading_fits marks e fits =
+    let is = fits.0.0 in
+    record { name = is.name; signed_name = is.signed_name; packing = is.packing; time = is.time; writer = is.writer; mark = fits.1 }
+
+pub marked_part : (marks : Bool) → IsPart (FitsMarked marks) entry (entry_at marks)
+unfolding entry_at
+marked_part marks =
+    whole (FitsMarked marks) entry
+    (then (heading_part marks) λ _ heading _. then (link_part heading.attr.kind) λ _ link _. then text_part λ _ packdata _. then blocks_part λ _ blocks _.
+    last {B = Entry} (λ sequence. record {
+      name = heading.name;
+      signed_name = heading.signed_name;
+      packing = heading.packing;
+      time = heading.time;
+      writer = heading.writer;
+      attr = heading.attr;
+      link = link;
+      packdata = packdata;
+      blocks = blocks;
+      sequence = sequence;
+    }) num_part)
+    (λ e fits.
+    let is = fits.0.0 in
+    let spelled = fits.0.1 in (
+      (heading_of e, (e.link, (e.packdata, (e.blocks, e.sequence)))),
+      (heading_fits marks e fits, ((is.link, spelled.link), (is.packdata, ((is.count, all_fit e.blocks is.blocks spelled.addresses), is.sequence)))),
+      refl,
+      entry-parts e,
+    ))
+    (λ p fits. (entry_fits marks _ fits.0 fits.1.0 fits.1.1.0 fits.1.1.1.0 fits.1.1.1.1, entry-parts _))
+
+pub any_part : IsPart FitsEntry entry (entry_at true)
+any_part = refit FitsEntry (marked_part true) (λ e fits. (fits, λ e. true_is_false e)) (λ e fits. fits.0)
+
+pub whole_part : IsPart FitsWhole entry (entry_at false)
+whole_part = refit FitsWhole (marked_part false) (λ e fits. (fits.0, λ _. fits.1)) (λ e fits. (fits.0, fits.1 refl))

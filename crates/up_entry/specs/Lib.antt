@@ -1,0 +1,8 @@
+pub mod Attrs
+pub mod ControlFiles
+pub mod Showing
+pub mod Checking
+pub mod Spelling
+pub mod Reading
+pub mod Sequences
+pub use Rattle.up_bytes.specs.Reading as FieldReading

@@ -1,0 +1,20 @@
+-- What makes a way to spell values in one field or several, and a way to read them, agree.
+use Rattle.std.specs.Prelude.{◌≡◌, ℕ, List, ◌++◌, Result, Ok, Err}
+use Rattle.up_bytes.specs.declared.fault.FieldFault.{FieldFault}
+use Rattle.up_bytes.specs.declared.fault.FieldFault.TheVariants.{Short, Spelling}
+use Rattle.up_bytes.specs.Input.{Input}
+use Rattle.up_bytes.specs.Forms.{IsBytes, Takes, EndsWithin, IsNoSpelling}
+
+-- Values of some fields, one after another, each with one spelling, and how they are read. A form of up_bytes is one of a
+-- single field.
+pub record AreFields {A : Type 0} (Fits : A → Type 0) (spelling : A → List ℕ) (read : Input → Result (A × Input) FieldFault) : Type 0 where
+  -- no value's spelling begins another's: what begins with the spellings of two values has one value and one rest
+  pub alone : (x y : A) (r s : List ℕ) → Fits x → Fits y → spelling x ++ r ≡ spelling y ++ s → (x ≡ y) × (r ≡ s)
+  -- what is spelled is read again, whatever follows it
+  pub again : (x : A) (size : ℕ) (rest : List ℕ) → Fits x → read (record { size = size; left = spelling x ++ rest }) ≡ Ok (x, record { size = size; left = rest })
+  -- what is read fits, and is spelled so
+  pub takes : (old new : Input) (x : A) → IsBytes old.left → read old ≡ Ok (x, new) → Fits x × Takes old (spelling x) new
+  -- an input that ends within a value's spelling is short
+  pub short : (input : Input) → IsBytes input.left → EndsWithin Fits spelling input.left → read input ≡ Err Short
+  -- what is misspelled begins no value's spelling, however it goes on
+  pub misspelled : (input : Input) (p : ℕ) → IsBytes input.left → read input ≡ Err (Spelling p) → IsNoSpelling Fits spelling input.left

@@ -1,0 +1,142 @@
+//! The rules of an entry that is handed to Put.
+
+ghost use Rattle.std.specs.Prelude.{◌≡◌};
+ghost use Rattle.up_entry.specs.Checking.{Gives, checked_as, content_rules, kind_of, link_or, path_or, rule, signed_name_of, user_or, writer_of};
+
+use crate::block_rules::{blocks_fit, control_size_fits};
+use crate::copying::{copied_blocks, copied_bytes};
+use crate::entries::{Attr, Entry, Kind};
+use crate::kind_rules::{
+    attr_of, control_fits, packdata_fits, packing_fits, root_fits, whole_kind,
+};
+use crate::puts::{Checked, PutEntry};
+use crate::what::{EntryFault, What};
+use std::alloc::Global;
+use up_names::{NameFault, Path, User, parse_path, parse_user};
+
+/// The entry that a user hands to Put, or the first rule that it breaks:
+///
+/// Name, a path text; SignedName, a text of the same path; Writer, this user; Packing, not 0, and 1 for a directory, a link
+/// and a control file; Attr, a kind without the mark; Link, a path text for a link and else empty; Blocks, none for a
+/// directory or link, else each of 1 to 1,048,576 bytes at a good endpoint, the first at 0 and each where the one before
+/// ends; Packdata, empty for a directory or link; Root, a directory; Control, a file at an Access path and no link at a
+/// Group path; ControlSize, at most 32,768 bytes in a control file's blocks; Sequence, at least -1.
+#[tactic(auto, unfolding(crate::specs::Checking::checked_as))]
+pub fn check_entry(alloc: Global, put: &PutEntry, user: &User) -> Result<Checked, EntryFault>
+    ensures { Gives (λ checked. checked) result (checked_as put.now user.now) }
+{
+    let name = path_or(alloc, What::Name, put.name.as_slice())?;
+    let signed_name = signed_name_of(alloc, put, &name)?;
+    let writer = writer_of(alloc, put, user)?;
+    let kind = kind_of(put, &name)?;
+    let link = link_or(alloc, kind, put.link.as_slice())?;
+    content_rules(put, kind, &name)?;
+    Ok(Checked {
+        entry: Entry {
+            signed_name,
+            packing: put.packing,
+            time: put.time,
+            blocks: copied_blocks(alloc, put.blocks.as_slice())?,
+            packdata: copied_bytes(alloc, put.packdata.as_slice())?,
+            link,
+            writer,
+            name,
+            attr: Attr {
+                kind,
+                incomplete: false,
+            },
+            sequence: 0,
+        },
+        sequence: put.sequence,
+    })
+}
+
+/// The signed name, which has to be a text of the same path as the name.
+#[tactic(auto, unfolding(crate::specs::Checking::signed_name_of))]
+fn signed_name_of(alloc: Global, put: &PutEntry, name: &Path) -> Result<Path, EntryFault>
+    ensures { Gives (λ path. path) result (signed_name_of put.now name.now) }
+{
+    let signed_name = path_or(alloc, What::SignedName, put.signed_name.as_slice())?;
+    rule(What::SignedName, signed_name == *name)?;
+    Ok(signed_name)
+}
+
+/// The writer, who has to be this user.
+#[tactic(auto, unfolding(crate::specs::Checking::writer_of))]
+fn writer_of(alloc: Global, put: &PutEntry, user: &User) -> Result<User, EntryFault>
+    ensures { Gives (λ writer. writer) result (writer_of put.now user.now) }
+{
+    let writer = user_or(alloc, What::Writer, put.writer.as_slice())?;
+    rule(What::Writer, writer == *user)?;
+    Ok(writer)
+}
+
+/// The kind of an entry whose packing is one that it may have.
+#[tactic(auto, unfolding(crate::specs::Checking::kind_of))]
+fn kind_of(put: &PutEntry, name: &Path) -> Result<Kind, EntryFault>
+    ensures { result ≡ kind_of put.now name.now }
+{
+    let attr = attr_of(put.attr);
+    rule(What::Packing, packing_fits(attr, name, put.packing))?;
+    whole_kind(attr)
+}
+
+/// The rules of all else that an entry of this kind has, and of where it stands.
+#[tactic(auto, unfolding(crate::specs::Checking::content_rules))]
+fn content_rules(put: &PutEntry, kind: Kind, name: &Path) -> Result<(), EntryFault>
+    ensures { result ≡ content_rules put.now kind name.now }
+{
+    let blocks = put.blocks.as_slice();
+    rule(What::Blocks, blocks_fit(kind, blocks))?;
+    rule(What::Packdata, packdata_fits(kind, &put.packdata))?;
+    rule(What::Root, root_fits(kind, name))?;
+    rule(What::Control, control_fits(kind, name.control_kind()))?;
+    rule(What::ControlSize, control_size_fits(kind, name, blocks))?;
+    rule(What::Sequence, put.sequence >= -1)
+}
+
+/// A rule that holds, or fails by its word.
+fn rule(what: What, holds: bool) -> Result<(), EntryFault>
+    ensures { result ≡ rule what holds }
+{
+    if holds {
+        Ok(())
+    } else {
+        Err(EntryFault::Invalid(what))
+    }
+}
+
+/// The path of a text that has to be a path text.
+fn path_or(alloc: Global, what: What, text: &[u8]) -> Result<Path, EntryFault>
+    ensures { Gives (λ path. path) result (path_or what text.now) }
+{
+    match parse_path(alloc, text) {
+        Ok(path) => Ok(path),
+        Err(NameFault::OutOfMemory) => Err(EntryFault::OutOfMemory),
+        Err(_) => Err(EntryFault::Invalid(what)),
+    }
+}
+
+/// The user of a text that has to be a user name.
+fn user_or(alloc: Global, what: What, text: &[u8]) -> Result<User, EntryFault>
+    ensures { Gives (λ user. user) result (user_or what text.now) }
+{
+    match parse_user(alloc, text) {
+        Ok(user) => Ok(user),
+        Err(NameFault::OutOfMemory) => Err(EntryFault::OutOfMemory),
+        Err(_) => Err(EntryFault::Invalid(what)),
+    }
+}
+
+/// The target of a link, whose text has to be a path text; for an entry of another kind the text has to be empty.
+fn link_or(alloc: Global, kind: Kind, text: &[u8]) -> Result<Option<Path>, EntryFault>
+    ensures { Gives (λ target. target) result (link_or kind text.now) }
+{
+    match kind {
+        Kind::Link => Ok(Some(path_or(alloc, What::Link, text)?)),
+        Kind::File | Kind::Directory => {
+            rule(What::Link, text.is_empty())?;
+            Ok(None)
+        }
+    }
+}

@@ -1,0 +1,29 @@
+//! What holds of the spellings of entries and records, and of how they are read, whatever the input.
+
+ghost use Rattle.std.specs.Prelude.{◌≡◌, ◌↔◌, ℕ, List, Ok, true, false};
+ghost use Rattle.up_bytes.specs.Forms.{IsBytes};
+ghost use Rattle.up_entry.specs.declared.puts.Checked.{Checked};
+ghost use Rattle.up_entry.specs.declared.puts.PutEntry.{PutEntry};
+ghost use Rattle.up_entry.specs.declared.records.Rec.{Rec};
+ghost use Rattle.up_entry.specs.Checking.{checked_as};
+ghost use Rattle.up_entry.specs.Reading.{entry_at, rec_at, rec_of};
+ghost use Rattle.up_entry.specs.Sequences.{AreFields};
+ghost use Rattle.up_entry.specs.Spelling as spelling;
+ghost use Rattle.up_entry.specs.Spelling.{FitsEntry, FitsRec, FitsWhole, IsSpelled};
+
+/// Each entry that keeps its format's rules has one spelling; one that is read without marks is whole.
+pub fn entries_have_one_spelling()
+    ensures any { AreFields FitsEntry spelling.entry (entry_at true) }
+    ensures whole { AreFields FitsWhole spelling.entry (entry_at false) }
+{}
+
+/// Each record has one spelling, and exactly the bytes that spell a record are read as one.
+pub fn records_have_one_spelling()
+    ensures fields { AreFields FitsRec spelling.rec rec_at }
+    ensures whole { (bytes : List ℕ) (r : Rec) → IsBytes bytes → (rec_of bytes ≡ Ok r) ↔ (FitsRec r × (bytes ≡ spelling.rec r)) }
+{}
+
+/// An entry that keeps the rules of Put keeps those of its format.
+pub fn checked_entries_are_spelled()
+    ensures { (put : PutEntry) (user : List ℕ) (checked : Checked) → checked_as put user ≡ Ok checked → IsSpelled checked.entry }
+{}

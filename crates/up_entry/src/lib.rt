@@ -1,0 +1,28 @@
+//! Entries of a tree: what a file, a directory or a link is, the rules that an entry handed to Put has to keep, what a
+//! user is shown of one, and how entries and the records of a tree's log are spelled in bytes.
+#![tactic(auto)]
+
+mod block_rules;
+mod checking;
+mod copying;
+mod entries;
+mod fetch;
+mod kind_rules;
+mod laws;
+mod puts;
+mod reading;
+mod records;
+mod showing;
+mod what;
+mod writing;
+
+pub use checking::check_entry;
+pub use entries::{Attr, Block, Endpoint, Entry, Kind, Location};
+pub use fetch::Fetch;
+pub use laws::{checked_entries_are_spelled, entries_have_one_spelling, records_have_one_spelling};
+pub use puts::{Checked, PutEntry};
+pub use reading::{read_blocks, read_endpoint, read_entry, read_path, read_user};
+pub use records::{Rec, read_rec, write_rec};
+pub use showing::shown;
+pub use what::{EntryFault, What};
+pub use writing::{write_blocks, write_endpoint, write_entry};

@@ -1,0 +1,72 @@
+//! What of a request is not valid.
+
+ghost use Rattle.std.specs.Prelude.{◌≡◌};
+ghost use Rattle.up_entry.specs.declared.what.EntryFault.TheVariants.{OutOfMemory};
+
+use std::alloc::{AllocError, AllocFailed};
+
+/// What of a request is malformed, of all requests.
+#[derive(Clone, Copy, Debug, PartialEq, Eq)]
+pub enum What {
+    /// A name, of an entry or of a request, is no path text; or no user name, or too long, in a request that has one.
+    Name,
+    /// An entry's signed name is no path text, or cleans to another path than its name.
+    SignedName,
+    /// An entry's writer is not the session's user.
+    Writer,
+    /// An entry's packing is 0, or not 1 for a directory, a link or a control file.
+    Packing,
+    /// An entry's attr is none of the three kinds, or has the incomplete mark.
+    Attr,
+    /// A link's target is no path text, or an entry of another kind has one.
+    Link,
+    /// An entry's blocks break their rule.
+    Blocks,
+    /// A directory or a link has packdata.
+    Packdata,
+    /// At a root stands no directory.
+    Root,
+    /// At an Access path stands no file, or at a Group path a link.
+    Control,
+    /// The blocks of a control file have more than 32,768 bytes.
+    ControlSize,
+    /// A sequence is below what it may be.
+    Sequence,
+    /// An element of a pattern is malformed: its number, from 0.
+    Pattern(u64),
+    /// A text is no reference.
+    Reference,
+    /// A block is too long.
+    Block,
+    /// A key record breaks its rules.
+    Key,
+    /// A snapshot tree cannot be watched from there.
+    SnapshotWatch,
+    /// A path is no group name.
+    GroupName,
+}
+
+/// Why an entry was refused.
+#[derive(Clone, Copy, Debug, PartialEq, Eq)]
+pub enum EntryFault {
+    /// The first rule that fails.
+    Invalid(What),
+    /// Want of memory.
+    OutOfMemory,
+}
+
+impl From<AllocError> for EntryFault {
+    ghost from_gives = { λ _ fault. fault ≡ OutOfMemory };
+
+    fn from(_error: AllocError) -> EntryFault {
+        EntryFault::OutOfMemory
+    }
+}
+
+impl<T: Drop> From<AllocFailed<T>> for EntryFault {
+    ghost from_gives = { λ _ fault. fault ≡ OutOfMemory };
+
+    fn from(_error: AllocFailed<T>) -> EntryFault {
+        EntryFault::OutOfMemory
+    }
+}
