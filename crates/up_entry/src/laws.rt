@@ -1,15 +1,27 @@
 //! What holds of the spellings of entries and records, and of how they are read, whatever the input.
 
-ghost use Rattle.std.specs.Prelude.{◌≡◌, ◌↔◌, ℕ, List, Ok, true, false};
+ghost use Rattle.std.specs.Prelude.{◌≡◌, ◌↔◌, ◌++◌, ℕ, List, length, Ok, true, false};
+ghost use Rattle.std.specs.List.{flat_map};
 ghost use Rattle.up_bytes.specs.Forms.{IsBytes};
+ghost use Rattle.up_bytes.specs.Num.{num};
+ghost use Rattle.up_bytes.specs.Spelling.{text};
+ghost use Rattle.up_names.specs.PathNames.{canonical, IsCanonical};
 ghost use Rattle.up_entry.specs.declared.puts.Checked.{Checked};
 ghost use Rattle.up_entry.specs.declared.puts.PutEntry.{PutEntry};
 ghost use Rattle.up_entry.specs.declared.records.Rec.{Rec};
 ghost use Rattle.up_entry.specs.Checking.{checked_as};
-ghost use Rattle.up_entry.specs.Reading.{entry_at, rec_at, rec_of};
+ghost use Rattle.up_entry.specs.Reading.{blocks_at, endpoint_at, entry_at, path_at, rec_at, rec_of, user_at};
 ghost use Rattle.up_entry.specs.Sequences.{AreFields};
 ghost use Rattle.up_entry.specs.Spelling as spelling;
-ghost use Rattle.up_entry.specs.Spelling.{FitsEntry, FitsRec, FitsWhole, IsSpelled};
+ghost use Rattle.up_entry.specs.Spelling.{endpoint_text, FitsBlocks, FitsEndpoint, FitsEntry, FitsRec, FitsUser, FitsWhole, IsSpelled};
+
+/// Each path, user, endpoint and list of blocks has one spelling.
+pub fn parts_have_one_spelling()
+    ensures path { AreFields IsCanonical (λ path. text (canonical path)) path_at }
+    ensures user { AreFields FitsUser text user_at }
+    ensures endpoint { AreFields FitsEndpoint (λ endpoint. text (endpoint_text endpoint)) endpoint_at }
+    ensures blocks { AreFields FitsBlocks (λ blocks. num (length blocks) ++ flat_map spelling.block blocks) blocks_at }
+{}
 
 /// Each entry that keeps its format's rules has one spelling; one that is read without marks is whole.
 pub fn entries_have_one_spelling()
