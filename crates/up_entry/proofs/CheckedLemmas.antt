@@ -3,6 +3,7 @@
 use Rattle.std.proofs.Common.{◌≡◌, ℕ, Bool, true, false, List, [], ◌∷◌, length, Option, Some, None, Result, Ok, Err, cond, refl, ap, subst, leb-true, eqb-true, arith, bytes_eq}
 use Rattle.std.specs.Prelude.{◌&&◌, ◌==◌, IsSome, ⊤}
 use Rattle.std.specs.List.{list_all, AllByRecursion}
+use Rattle.std.proofs.lemmas.List.{nil_from_length}
 use Rattle.std.proofs.lemmas.Slice.Eq.{bytes_eq-Decides}
 use Rattle.up_names.specs.declared.faults.NameFault.{NameFault}
 use Rattle.up_entry.specs.declared.entries.Attr.{Attr}
@@ -21,7 +22,7 @@ use Rattle.up_entry.specs.declared.what.EntryFault.TheVariants.{Invalid}
 use Rattle.up_entry.specs.declared.what.What.{What}
 use Rattle.up_entry.specs.declared.what.What.TheVariants as what
 use Rattle.up_entry.specs.Attrs.{attr_of}
-use Rattle.up_entry.specs.Checking.{◌>>=◌, rule, path_or, link_or, is_address, endpoint_fits, block_fits, are_joined, blocks_fit, signed_name_of, writer_of, kind_of, content_rules, whole_kind, checked_as, IsChecked}
+use Rattle.up_entry.specs.Checking.{◌>>=◌, rule, path_or, link_or, is_address, endpoint_fits, block_fits, are_joined, blocks_fit, signed_name_of, writer_of, kind_of, content_rules, whole_kind, checked_as, IsLinkText, IsChecked}
 use Rattle.up_entry.specs.Spelling.{HasAddress, HasItsLink}
 
 -- what has P, where it is given
@@ -118,13 +119,27 @@ writer_held put user =
     Holds-ok (λ (u : List ℕ). u ≡ user) writer ((bytes_eq-Decides writer user).0 (rule_held what.Writer (bytes_eq writer user) own held))))
 
 -- the path is that of the text
-path_held : (text : List ℕ) (path : PathName) → path_or what.Name text ≡ Ok path → path_of text ≡ Ok path
+path_held : (what : What) (text : List ℕ) (path : PathName) → path_or what text ≡ Ok path → path_of text ≡ Ok path
 unfolding given
-path_held text path = of_result (path_of text)
+path_held what text path = of_result (path_of text)
   where
-    of_result : (r : Result PathName NameFault) → ◌≡◌ {A = Result PathName EntryFault} (elim r [ Ok found ↦ Ok found | Err fault ↦ Err (Invalid what.Name) ]) (Ok path) → r ≡ Ok path
+    of_result : (r : Result PathName NameFault) → ◌≡◌ {A = Result PathName EntryFault} (elim r [ Ok found ↦ Ok found | Err fault ↦ Err (Invalid what) ]) (Ok path) → r ≡ Ok path
     of_result (Ok found) e = ap (λ (p : PathName). Ok p) (given_is found path e)
     of_result (Err fault) e = absurd cc
+
+linked : (text : List ℕ) → Holds (IsLinkText text) (link_or Link text)
+linked text = Holds-then (IsLinkText text) (path_or what.Link text) (λ target. Ok (Some target)) (λ target is. Holds-ok (IsLinkText text) (Some target) (path_held what.Link text target is))
+
+not_linked : (text : List ℕ) → Holds (IsLinkText text) (rule what.Link (length text == 0) >>= λ ok. Ok None)
+not_linked text =
+    Holds-then (IsLinkText text) (rule what.Link (length text == 0)) (λ ok. Ok None) (λ ok is.
+    Holds-ok (IsLinkText text) None (nil_from_length text (eqb-true (length text) 0 (rule_held what.Link (length text == 0) ok is))))
+
+-- the target is that of the text, and where there is none the text is empty
+link_held : (kind : Kind) (text : List ℕ) (link : Option PathName) → link_or kind text ≡ Ok link → IsLinkText text link
+link_held Link text link e = (linked text).at link e
+link_held File text link e = (not_linked text).at link e
+link_held Directory text link e = (not_linked text).at link e
 
 abbrev whole_attr : Kind → Attr
 whole_attr kind = record { kind = kind; incomplete = false }
@@ -174,8 +189,8 @@ with_name put user name = signed_name_of put name >>= with_signed_name put user 
 
 -- the entry, of all that the rules gave
 all_held : (put : PutEntry) (user : List ℕ) (name signed_name : PathName) (writer : List ℕ) (kind : Kind) (link : Option PathName)
-    → path_of put.name ≡ Ok name → signed_name ≡ name → writer ≡ user → attr_of put.attr ≡ Some (whole_attr kind) → HasItsLink kind link → Holds (IsChecked put user) (with_link put name signed_name writer kind link)
-all_held put user name signed_name writer kind link named signed written marked linked =
+    → path_of put.name ≡ Ok name → signed_name ≡ name → writer ≡ user → attr_of put.attr ≡ Some (whole_attr kind) → HasItsLink kind link → IsLinkText put.link link → Holds (IsChecked put user) (with_link put name signed_name writer kind link)
+all_held put user name signed_name writer kind link named signed written marked linked link_text =
     Holds-then (IsChecked put user) (content_rules put kind name) _ (λ content content_is.
     Holds-ok (IsChecked put user) _ (record {
       spelled = record { link = linked; addresses = blocks_kept kind put.blocks ((blocks_held put kind name).at content content_is) };
@@ -186,6 +201,7 @@ all_held put user name signed_name writer kind link named signed written marked 
       name = named;
       signed_name = signed;
       writer = written;
+      link = link_text;
       blocks = refl;
       packdata = refl;
       packing = refl;
@@ -200,5 +216,5 @@ checked_kept put user =
     Holds-then (IsChecked put user) (writer_of put user) (with_writer put name signed_name) (λ writer writer_is.
     Holds-then (IsChecked put user) (kind_of put name) (with_kind put name signed_name writer) (λ kind kind_is.
     Holds-then (IsChecked put user) (link_or kind put.link) (with_link put name signed_name writer kind) (λ link link_is.
-    all_held put user name signed_name writer kind link (path_held put.name name name_is) ((signed_held put name).at signed_name signed_is) ((writer_held put user).at writer writer_is)
-    ((kind_held put name).at kind kind_is) (link_kept kind put.link link link_is))))))
+    all_held put user name signed_name writer kind link (path_held what.Name put.name name name_is) ((signed_held put name).at signed_name signed_is) ((writer_held put user).at writer writer_is)
+    ((kind_held put name).at kind kind_is) (link_kept kind put.link link link_is) (link_held kind put.link link link_is))))))

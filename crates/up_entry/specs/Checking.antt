@@ -184,6 +184,11 @@ checked_as put user = do
     sequence = put.sequence;
   })
 
+-- the text of this target, or the empty text where there is none
+abbrev pub IsLinkText : List ℕ → Option PathName → Type 0
+IsLinkText text None = text ≡ []
+IsLinkText text (Some target) = path_of text ≡ Ok target
+
 -- what a checked entry is, told by what this user handed to Put
 pub record IsChecked (put : PutEntry) (user : List ℕ) (checked : Checked) : Type 0 where
   -- its link and its blocks are as its format asks for
@@ -196,6 +201,7 @@ pub record IsChecked (put : PutEntry) (user : List ℕ) (checked : Checked) : Ty
   pub name : path_of put.name ≡ Ok checked.entry.name
   pub signed_name : checked.entry.signed_name ≡ checked.entry.name
   pub writer : checked.entry.writer ≡ user
+  pub link : IsLinkText put.link checked.entry.link
   pub blocks : checked.entry.blocks ≡ put.blocks
   pub packdata : checked.entry.packdata ≡ put.packdata
   pub packing : checked.entry.packing ≡ put.packing
