@@ -1,4 +1,5 @@
-//! What holds of the spellings of entries and records, and of how they are read, whatever the input.
+//! What holds of the spellings of entries, their parts and records, and of how they are read, whatever the input; and of an
+//! entry that was checked.
 
 ghost use Rattle.std.specs.Prelude.{◌≡◌, ◌↔◌, ◌++◌, ℕ, List, length, Ok, true, false};
 ghost use Rattle.std.specs.List.{flat_map};
