@@ -17,7 +17,7 @@ use Rattle.up_entry.specs.declared.entries.Kind.{Kind}
 use Rattle.up_entry.specs.declared.entries.Kind.TheVariants.{File, Directory, Link}
 use Rattle.up_entry.specs.Attrs.{attr_byte, attr_of}
 use Rattle.up_entry.specs.Reading.{canonical_path, canonical_user, path_at, user_at, attr_in, attr_at, link_in, link_at, endpoint_in, endpoint_at}
-use Rattle.up_entry.specs.Spelling.{endpoint_text, link_text, IsTarget, HasAddress, HasItsLink}
+use Rattle.up_entry.specs.Spelling.{endpoint_text, link_text, IsTarget, HasItsLink, FitsEndpoint, FitsUser}
 use Rattle.up_entry.proofs.Parts.{IsPart, last, whole, known_part, none_is}
 use Rattle.up_entry.proofs.FieldParts.{byte_part, text_part}
 
@@ -75,9 +75,9 @@ pub path_part : IsPart IsCanonical (λ path. text (canonical path)) path_at
 unfolding path_at
 path_part = known_part text_part IsCanonical canonical_path canonical (λ path c. (path_fits path c, canonical_path-again path c)) (λ t path lt is. canonical_path-is t path is)
 
-pub user_part : IsPart (λ user. user_of user ≡ Ok user) text user_at
+pub user_part : IsPart FitsUser text user_at
 unfolding user_at
-user_part = known_part text_part (λ user. user_of user ≡ Ok user) canonical_user (λ user. user) (λ user c. (user_fits user c, canonical_user-again user c)) (λ t user lt is. canonical_user-is t user is)
+user_part = known_part text_part FitsUser canonical_user (λ user. user) (λ user c. (user_fits user c, canonical_user-again user c)) (λ t user lt is. canonical_user-is t user is)
 
 -- ---- attributes
 
@@ -190,16 +190,13 @@ link_part kind = known_part text_part (LinkFits kind) (link_in kind) link_text (
 
 -- ---- an endpoint
 
-abbrev pub EndpointFits : Endpoint → Type 0
-EndpointFits endpoint = IsText (endpoint_text endpoint) × HasAddress endpoint
-
-endpoint_split : (e : Endpoint) → EndpointFits e → (t : List ℕ) × IsText t × (endpoint_in t ≡ e) × (text (endpoint_text e) ≡ text t)
+endpoint_split : (e : Endpoint) → FitsEndpoint e → (t : List ℕ) × IsText t × (endpoint_in t ≡ e) × (text (endpoint_text e) ≡ text t)
 endpoint_split Local fits = ([], fits.0, refl, refl)
 endpoint_split (Address address) fits = (address, fits.0, cond-false (eqb (length address) 0) Local (Address address) (ne_eqb (length address) 0 (λ e. omega (arith, e, fits.1))), refl)
 
-endpoint_join : (t : List ℕ) → IsText t → EndpointFits (endpoint_in t) × (text (endpoint_text (endpoint_in t)) ≡ text t)
+endpoint_join : (t : List ℕ) → IsText t → FitsEndpoint (endpoint_in t) × (text (endpoint_text (endpoint_in t)) ≡ text t)
 endpoint_join t lt =
-    elim (eqb (length t) 0) as (λ b. eqb (length t) 0 ≡ b → EndpointFits (cond b Local (Address t)) × (text (endpoint_text (cond b Local (Address t))) ≡ text t)) [
+    elim (eqb (length t) 0) as (λ b. eqb (length t) 0 ≡ b → FitsEndpoint (cond b Local (Address t)) × (text (endpoint_text (cond b Local (Address t))) ≡ text t)) [
       | true ↦ λ none. ((omega arith, tt), ap text (sym (nil_from_length t (eqb-true (length t) 0 none))))
       | false ↦ λ some. ((lt, positive (length t) (eqb-false (length t) 0 some)), refl)
     ] refl
@@ -207,6 +204,6 @@ endpoint_join t lt =
     positive : (n : ℕ) → (n ≡ 0 → ⊥) → 0 < n
     positive n ne = omega (arith, ne)
 
-pub endpoint_part : IsPart EndpointFits (λ endpoint. text (endpoint_text endpoint)) endpoint_at
+pub endpoint_part : IsPart FitsEndpoint (λ endpoint. text (endpoint_text endpoint)) endpoint_at
 unfolding endpoint_at
-endpoint_part = whole EndpointFits (λ endpoint. text (endpoint_text endpoint)) (last endpoint_in text_part) endpoint_split endpoint_join
+endpoint_part = whole FitsEndpoint (λ endpoint. text (endpoint_text endpoint)) (last endpoint_in text_part) endpoint_split endpoint_join

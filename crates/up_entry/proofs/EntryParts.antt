@@ -10,7 +10,7 @@ use Rattle.up_entry.specs.declared.entries.Entry.{Entry}
 use Rattle.up_entry.specs.declared.reading.Heading.{Heading}
 use Rattle.up_entry.specs.Attrs.{attr_byte}
 use Rattle.up_entry.specs.Reading.{block_at, blocks_at, heading_at, entry_at}
-use Rattle.up_entry.specs.Spelling.{block, entry, endpoint_text, link_text, IsBlock, HasAddress, FitsBlock, FitsEntry, FitsWhole}
+use Rattle.up_entry.specs.Spelling.{block, entry, endpoint_text, link_text, IsBlock, HasAddress, FitsBlock, FitsBlocks, FitsEntry, FitsWhole}
 use Rattle.up_entry.proofs.Parts.{IsPart, then, last, whole, one_part, refit, items_part}
 use Rattle.up_entry.proofs.FieldParts.{byte_part, num_part, int_part, text_part, raw_part}
 use Rattle.up_entry.proofs.EntryFields.{path_part, user_part, attr_part, link_part, endpoint_part, MarkFits, LinkFits, true_is_false}
@@ -43,16 +43,13 @@ block_part =
     ))
     (λ p fits. ((record { endpoint = fits.0.0; reference = fits.1.0; offset = fits.1.1.0; size = fits.1.1.1.0; packdata = fits.1.1.1.1 }, fits.0.1), five (text (endpoint_text p.0)) p.1.0 (num p.1.1.0) (num p.1.1.1.0) (text p.1.1.1.1)))
 
-abbrev pub BlocksFit : List Block → Type 0
-BlocksFit blocks = IsU64 (length blocks) × AllByRecursion FitsBlock blocks
-
 abbrev pub spelled_blocks : List Block → List ℕ
 spelled_blocks blocks = num (length blocks) ++ flat_map block blocks
 
-pub blocks_part : IsPart BlocksFit spelled_blocks blocks_at
+pub blocks_part : IsPart FitsBlocks spelled_blocks blocks_at
 unfolding blocks_at
 blocks_part =
-    whole BlocksFit spelled_blocks (then num_part λ _ n _. one_part (items_part block_part n))
+    whole FitsBlocks spelled_blocks (then num_part λ _ n _. one_part (items_part block_part n))
     (λ blocks fits. ((length blocks, blocks), (fits.0, (refl, fits.1)), refl, refl))
     (λ p fits. ((omega (arith, fits.0, fits.1.0), fits.1.1), ap (λ (n : ℕ). num n ++ flat_map block p.1) fits.1.0))
 
@@ -111,7 +108,7 @@ entry-parts : (e : Entry) → entry e ≡ spelled_heading (heading_of e) ++ (tex
 unfolding entry
 entry-parts e = grouped (spelled_heading (heading_of e)) (text (link_text e.link)) (text e.packdata) (num (length e.blocks)) (flat_map block e.blocks) (num e.sequence)
 
-entry_fits : (marks : Bool) (e : Entry) → HeadingFits marks (heading_of e) → LinkFits e.attr.kind e.link → IsText e.packdata → BlocksFit e.blocks → IsU64 e.sequence → FitsMarked marks e
+entry_fits : (marks : Bool) (e : Entry) → HeadingFits marks (heading_of e) → LinkFits e.attr.kind e.link → IsText e.packdata → FitsBlocks e.blocks → IsU64 e.sequence → FitsMarked marks e
 entry_fits marks e heading link packdata blocks sequence = (
   (
     record {

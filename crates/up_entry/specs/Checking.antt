@@ -1,5 +1,5 @@
 -- The rules of an entry that is handed to Put, in their order (Upspin overview and access control document; the order,
--- the limits and a control file's packing are this project's own).
+-- the limits, a control file's packing and the session's user as the only writer are this project's own).
 use Rattle.std.specs.Prelude.{◌≡◌, ◌≢◌, ℕ, negsuc, int_le, ◌+◌, Bool, true, false, not, ◌&&◌, ◌||◌, ◌==◌, nat_le, nat_lt, if◌then◌else◌, List, [], ◌∷◌, length, map, Option, Some, None, Result, Ok, Err, ⊤}
 use Rattle.std.specs.List.{list_all, sum}
 use Rattle.std.specs.Str.{bytes_eq}
@@ -22,6 +22,7 @@ use Rattle.up_entry.specs.declared.what.What.{What}
 use Rattle.up_entry.specs.declared.what.What.TheVariants as what
 use Rattle.up_entry.specs.Attrs.{attr_of}
 use Rattle.up_entry.specs.ControlFiles.{is_control_file}
+use Rattle.up_entry.specs.Spelling.{IsSpelled}
 
 -- The result, with its value seen by `view`, is exactly what is meant; want of memory alone is free.
 abbrev pub Gives : {X Y : Type 0} → (X → Y) → Result X EntryFault → Result Y EntryFault → Type 0
@@ -182,3 +183,26 @@ checked_as put user = do
     };
     sequence = put.sequence;
   })
+
+-- the text of this target, or the empty text where there is none
+abbrev pub IsLinkText : List ℕ → Option PathName → Type 0
+IsLinkText text None = text ≡ []
+IsLinkText text (Some target) = path_of text ≡ Ok target
+
+-- what a checked entry is, told by what this user handed to Put
+pub record IsChecked (put : PutEntry) (user : List ℕ) (checked : Checked) : Type 0 where
+  -- its link and its blocks are as its format asks for
+  pub spelled : IsSpelled checked.entry
+  pub attr : attr_of put.attr ≡ Some checked.entry.attr
+  pub whole : checked.entry.attr.incomplete ≡ false
+  -- its own sequence is given later
+  pub sequence : checked.entry.sequence ≡ 0
+  pub given : checked.sequence ≡ put.sequence
+  pub name : path_of put.name ≡ Ok checked.entry.name
+  pub signed_name : checked.entry.signed_name ≡ checked.entry.name
+  pub writer : checked.entry.writer ≡ user
+  pub link : IsLinkText put.link checked.entry.link
+  pub blocks : checked.entry.blocks ≡ put.blocks
+  pub packdata : checked.entry.packdata ≡ put.packdata
+  pub packing : checked.entry.packing ≡ put.packing
+  pub time : checked.entry.time ≡ put.time

@@ -113,8 +113,20 @@ IsSpelledRec (Snap time) = ⊤
 
 -- ---- the values that have a spelling
 
+-- the canonical name of a user
+abbrev pub FitsUser : List ℕ → Type 0
+FitsUser user = user_of user ≡ Ok user
+
+-- an endpoint whose address, where it has one, is a text that is not empty
+abbrev pub FitsEndpoint : Endpoint → Type 0
+FitsEndpoint endpoint = IsText (endpoint_text endpoint) × HasAddress endpoint
+
 abbrev pub FitsBlock : Block → Type 0
 FitsBlock b = IsBlock b × HasAddress b.location.endpoint
+
+-- fewer than 2 ^ 64 blocks, each with a spelling
+abbrev pub FitsBlocks : List Block → Type 0
+FitsBlocks blocks = IsU64 (length blocks) × AllByRecursion FitsBlock blocks
 
 abbrev pub FitsEntry : Entry → Type 0
 FitsEntry e = IsEntry e × IsSpelled e

@@ -7,7 +7,7 @@ use up_bytes::Bytes;
 pub enum Fetch {
     /// The bytes that the store has for the reference.
     Got(Bytes),
-    /// The store has no such block.
+    /// The store has no such block, or nobody serves its address.
     Missing,
     /// The store could not be asked, or failed.
     Failed,

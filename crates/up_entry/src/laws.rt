@@ -1,15 +1,28 @@
-//! What holds of the spellings of entries and records, and of how they are read, whatever the input.
+//! What holds of the spellings of entries, their parts and records, and of how they are read, whatever the input; and of an
+//! entry that was checked.
 
-ghost use Rattle.std.specs.Prelude.{◌≡◌, ◌↔◌, ℕ, List, Ok, true, false};
+ghost use Rattle.std.specs.Prelude.{◌≡◌, ◌↔◌, ◌++◌, ℕ, List, length, Ok, true, false};
+ghost use Rattle.std.specs.List.{flat_map};
 ghost use Rattle.up_bytes.specs.Forms.{IsBytes};
+ghost use Rattle.up_bytes.specs.Num.{num};
+ghost use Rattle.up_bytes.specs.Spelling.{text};
+ghost use Rattle.up_names.specs.PathNames.{canonical, IsCanonical};
 ghost use Rattle.up_entry.specs.declared.puts.Checked.{Checked};
 ghost use Rattle.up_entry.specs.declared.puts.PutEntry.{PutEntry};
 ghost use Rattle.up_entry.specs.declared.records.Rec.{Rec};
-ghost use Rattle.up_entry.specs.Checking.{checked_as};
-ghost use Rattle.up_entry.specs.Reading.{entry_at, rec_at, rec_of};
+ghost use Rattle.up_entry.specs.Checking.{checked_as, IsChecked};
+ghost use Rattle.up_entry.specs.Reading.{blocks_at, endpoint_at, entry_at, path_at, rec_at, rec_of, user_at};
 ghost use Rattle.up_entry.specs.Sequences.{AreFields};
 ghost use Rattle.up_entry.specs.Spelling as spelling;
-ghost use Rattle.up_entry.specs.Spelling.{FitsEntry, FitsRec, FitsWhole, IsSpelled};
+ghost use Rattle.up_entry.specs.Spelling.{endpoint_text, FitsBlocks, FitsEndpoint, FitsEntry, FitsRec, FitsUser, FitsWhole};
+
+/// Each path, user, endpoint and list of blocks has one spelling.
+pub fn parts_have_one_spelling()
+    ensures path { AreFields IsCanonical (λ path. text (canonical path)) path_at }
+    ensures user { AreFields FitsUser text user_at }
+    ensures endpoint { AreFields FitsEndpoint (λ endpoint. text (endpoint_text endpoint)) endpoint_at }
+    ensures blocks { AreFields FitsBlocks (λ blocks. num (length blocks) ++ flat_map spelling.block blocks) blocks_at }
+{}
 
 /// Each entry that keeps its format's rules has one spelling; one that is read without marks is whole.
 pub fn entries_have_one_spelling()
@@ -23,7 +36,8 @@ pub fn records_have_one_spelling()
     ensures whole { (bytes : List ℕ) (r : Rec) → IsBytes bytes → (rec_of bytes ≡ Ok r) ↔ (FitsRec r × (bytes ≡ spelling.rec r)) }
 {}
 
-/// An entry that keeps the rules of Put keeps those of its format.
+/// An entry that keeps the rules of Put keeps those of its format. It is what was handed in, under the path that it was
+/// signed for, by this user, without marks and with no sequence of its own yet.
 pub fn checked_entries_are_spelled()
-    ensures { (put : PutEntry) (user : List ℕ) (checked : Checked) → checked_as put user ≡ Ok checked → IsSpelled checked.entry }
+    ensures { (put : PutEntry) (user : List ℕ) (checked : Checked) → checked_as put user ≡ Ok checked → IsChecked put user checked }
 {}

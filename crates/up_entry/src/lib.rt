@@ -19,7 +19,10 @@ mod writing;
 pub use checking::check_entry;
 pub use entries::{Attr, Block, Endpoint, Entry, Kind, Location};
 pub use fetch::Fetch;
-pub use laws::{checked_entries_are_spelled, entries_have_one_spelling, records_have_one_spelling};
+pub use laws::{
+    checked_entries_are_spelled, entries_have_one_spelling, parts_have_one_spelling,
+    records_have_one_spelling,
+};
 pub use puts::{Checked, PutEntry};
 pub use reading::{read_blocks, read_endpoint, read_entry, read_path, read_user};
 pub use records::{Rec, read_rec, write_rec};

@@ -8,7 +8,8 @@ use std::alloc::{AllocError, AllocFailed};
 /// What of a request is malformed, of all requests.
 #[derive(Clone, Copy, Debug, PartialEq, Eq)]
 pub enum What {
-    /// A name, of an entry or of a request, is no path text; or no user name, or too long, in a request that has one.
+    /// A name is no path text; or a key request's user is no user name; or a pattern is over 4,096 bytes or begins with no
+    /// user name.
     Name,
     /// An entry's signed name is no path text, or cleans to another path than its name.
     SignedName,
@@ -30,7 +31,7 @@ pub enum What {
     Control,
     /// The blocks of a control file have more than 32,768 bytes.
     ControlSize,
-    /// A sequence is below what it may be.
+    /// A sequence is below what it may be, or, in a Watch, above the log's length.
     Sequence,
     /// An element of a pattern is malformed: its number, from 0.
     Pattern(u64),
@@ -40,7 +41,7 @@ pub enum What {
     Block,
     /// A key record breaks its rules.
     Key,
-    /// A snapshot tree cannot be watched from there.
+    /// The path to watch is of a snapshot tree.
     SnapshotWatch,
     /// A path is no group name.
     GroupName,

@@ -20,7 +20,7 @@ use up_names::Path;
 pub fn write_entry(entry: &Entry, out: &mut Writer) -> Result<(), AllocError>
     ensures written { out.new ≡ (if is_ok result then out.old ++ spelling.entry entry.now else out.old) }
 
-    // With a link and addresses as they have to be, it is an entry that is read again.
+    // With a link and addresses as they have to be, it is an entry that is read again, by the law `entries_have_one_spelling`.
     ensures typed { IfOk result (λ _. IsEntry entry.now) }
 {
     let len = out.len();
@@ -88,7 +88,7 @@ fn link_text(link: &Option<Path>) -> &[u8]
 pub fn write_blocks(blocks: &Items<Block>, out: &mut Writer) -> Result<(), AllocError>
     ensures written { out.new ≡ (if is_ok result then out.old ++ num (length blocks.now) ++ flat_map spelling.block blocks.now else out.old) }
 
-    // With addresses as they have to be, they are blocks that are read again.
+    // With addresses as they have to be, they are blocks that are read again, by the law `parts_have_one_spelling`.
     ensures typed { IfOk result (λ _. IsU64 (length blocks.now) × AllByRecursion IsBlock blocks.now) }
 {
     let len = out.len();
