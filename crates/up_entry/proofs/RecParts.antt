@@ -125,7 +125,7 @@ tagged_part p tag =
 pub rec_part : IsPart FitsRec rec rec_at
 unfolding rec_at
 rec_part =
-    whole FitsRec rec (then byte_part λ old tag _. one_part (tagged_part (place old) tag)) (λ r fits. ((tag_of r, r), (tag_small r, (fits, refl)), refl, rec-parts r))
+    whole FitsRec rec (then byte_part λ at tag _. one_part (tagged_part at tag)) (λ r fits. ((tag_of r, r), (tag_small r, (fits, refl)), refl, rec-parts r))
     (λ p fits. (fits.1.0, rec-parts p.1 ∙ ap (λ (tag : ℕ). byte tag ++ body p.1) fits.1.1))
 
 -- ---- the whole of some bytes

@@ -1,9 +1,13 @@
 -- What makes a way to spell values in one field or several, and a way to read them, agree.
-use Rattle.std.specs.Prelude.{◌≡◌, ℕ, List, ◌++◌, Result, Ok, Err}
+use Rattle.std.specs.Prelude.{◌≡◌, ◌≢◌, ℕ, ◌+◌, List, ◌++◌, length, Result, Ok, Err}
 use Rattle.up_bytes.specs.declared.fault.FieldFault.{FieldFault}
 use Rattle.up_bytes.specs.declared.fault.FieldFault.TheVariants.{Short, Spelling}
 use Rattle.up_bytes.specs.Input.{Input}
 use Rattle.up_bytes.specs.Forms.{IsBytes, Takes, EndsWithin, IsNoSpelling}
+
+-- the input with further bytes behind it
+abbrev pub longer : Input → List ℕ → Input
+longer input more = record { size = input.size + length more; left = input.left ++ more }
 
 -- Values of some fields, one after another, each with one spelling, and how they are read. A form of up_bytes is one of a
 -- single field.
@@ -18,3 +22,7 @@ pub record AreFields {A : Type 0} (Fits : A → Type 0) (spelling : A → List �
   pub short : (input : Input) → IsBytes input.left → EndsWithin Fits spelling input.left → read input ≡ Err Short
   -- what is misspelled begins no value's spelling, however it goes on
   pub misspelled : (input : Input) (p : ℕ) → IsBytes input.left → read input ≡ Err (Spelling p) → IsNoSpelling Fits spelling input.left
+  -- the answer that a field is misspelled stays, with its place, whatever bytes follow
+  pub stays : (input : Input) (more : List ℕ) (p : ℕ) → IsBytes input.left → IsBytes more → read input ≡ Err (Spelling p) → read (longer input more) ≡ Err (Spelling p)
+  -- short is never the last answer: some further bytes behind the input bring another
+  pub answers : (input : Input) → IsBytes input.left → (more : List ℕ) × IsBytes more × (read (longer input more) ≢ Err Short)
