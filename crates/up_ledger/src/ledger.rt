@@ -114,7 +114,7 @@ impl<D: Disk> Ledger<D> {
     }
 
     /// Adds to the balance, after a doubtful record is settled. `Ok` is the position of the record, from 1: from then on each
-    /// crash leaves the new balance. `Refused` where it would pass 2^64 - 1. Then, at the limits, and for want of memory no
+    /// crash leaves the new balance. `Refused` where the sum does not fit 64 bits. So refused, at the limits, and for want of memory no
     /// call of the disk is made. After a `Fault` the balance is as before, and one record may be doubtful.
     pub fn deposit(&mut self, amount: u64) -> Result<u64, EntryWhy>
         ensures balance { self.new.balance ≡ (if is_ok result then self.old.balance + amount else self.old.balance) }
@@ -146,7 +146,7 @@ impl<D: Disk> Ledger<D> {
     }
 
     /// Takes from the balance, after a doubtful record is settled. `Ok` is the position of the record, from 1: from then on each
-    /// crash leaves the new balance. `Refused` where the balance is less. Then, at the limits, and for want of memory no call of
+    /// crash leaves the new balance. `Refused` where the balance is less. So refused, at the limits, and for want of memory no call of
     /// the disk is made. After a `Fault` the balance is as before, and one record may be doubtful.
     pub fn withdraw(&mut self, amount: u64) -> Result<u64, EntryWhy>
         ensures balance { self.new.balance ≡ (if is_ok result then self.old.balance - amount else self.old.balance) }
