@@ -1,5 +1,5 @@
 -- What a disk does between two syncs, and what a crash may leave of it. This project's own.
-use Rattle.std.specs.Prelude.{◌≡◌, ◌<◌, ◌≤◌, ◌^◌, ◌+◌, ◌-◌, ◌⊎◌, ℕ, min, max, List, ◌++◌, length, take, drop, Result, OnErr, Option, Some, None}
+use Rattle.std.specs.Prelude.{◌≡◌, ◌≤◌, ◌+◌, ◌-◌, ◌⊎◌, ℕ, min, max, List, ◌++◌, length, take, drop, Option, Some, None}
 
 -- n bytes from a place on
 abbrev pub part : ℕ → ℕ → List ℕ → List ℕ
@@ -47,10 +47,3 @@ pub record LeavesOnly {D : Type 0} (moment : D → ℕ) (left_since : D → ℕ 
   pub each : (image : List ℕ) → left_since new (moment old) image → P image
   -- for a run that began earlier
   pub earlier : (t : ℕ) (image : List ℕ) → t ≤ moment old → left_since new t image → left_since old t image ⊎ P image
-
--- A count of faults of at most 2^64 - 1 never falls, and rose where the call failed. A count that stands at its
--- end stays there.
-pub record HasCause {T E : Type 0} (before now : ℕ) (result : Result T E) : Type 0 where
-  pub later : before ≤ now
-  pub bounded : now < 2 ^ 64
-  pub rose : OnErr result (before < 2 ^ 64 - 1 → before < now)

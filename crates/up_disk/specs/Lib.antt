@@ -5,5 +5,4 @@ pub mod Memory
 pub mod MemoryLaws
 pub mod Pending
 pub mod PendingLaws
-pub mod Plan
 pub mod Spare

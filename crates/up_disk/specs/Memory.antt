@@ -1,5 +1,6 @@
 -- What contracts see of a disk in memory. This project's own.
 use Rattle.std.specs.Prelude.{◌≡◌, ◌≤◌, ℕ, List, length, take, Option, Some}
+use Rattle.up_faults.specs.Calls.{CallPlan}
 use Rattle.up_disk.specs.Disk.{written}
 use Rattle.up_disk.specs.Pending.{MayLeave}
 use Rattle.up_disk.specs.Image.{image_after, landed_cut, landed_write, landing_of}
@@ -21,17 +22,13 @@ moment_of disk = length disk.calls.items
 abbrev pub left_since_of : MemDisk → ℕ → List ℕ → Type 0
 left_since_of disk t image = (k : ℕ) × (t ≤ k) × (k ≤ length disk.calls.items) × MayLeave disk.first disk.first (take k disk.calls.items) image
 
+-- which calls fail, how many were made, and how many failed
+abbrev pub plan_of : MemDisk → CallPlan
+plan_of disk = disk.plan
+
 -- how often a call has failed
 abbrev pub faults_of : MemDisk → ℕ
-faults_of disk = disk.plan.count
-
--- the numbers of the calls that fail
-abbrev pub fails_of : MemDisk → List ℕ
-fails_of disk = disk.plan.listed
-
--- how many calls there were
-abbrev pub asked_of : MemDisk → ℕ
-asked_of disk = disk.plan.asked
+faults_of disk = (plan_of disk).faults
 
 -- the crash image by that number
 abbrev pub image_of : MemDisk → ℕ → List ℕ

@@ -1,6 +1,7 @@
 //! A disk: what a read gives, and what a crash may leave.
-ghost use Rattle.std.specs.Prelude.{◌≡◌, ◌≤◌, ◌+◌, ◌^◌, ℕ, max, List, length, take, Option, option_map, IfSome, IsSome, OnOk, OnErr};
-ghost use Rattle.up_disk.specs.Disk.{CutShort, Elapses, Follows, HasCause, Only, Steps, Torn, part, written};
+ghost use Rattle.std.specs.Prelude.{◌≡◌, ◌≤◌, ◌+◌, ◌^◌, ℕ, max, List, length, take, Option, option_map, IfSome, IsSome, IsErr, OnOk, OnErr};
+ghost use Rattle.up_faults.specs.Counts.{HasCause};
+ghost use Rattle.up_disk.specs.Disk.{CutShort, Elapses, Follows, Only, Steps, Torn, part, written};
 
 /// The disk did not do what it was asked for, and its count of faults rose.
 #[derive(Clone, Copy, Debug, PartialEq, Eq)]
@@ -42,7 +43,7 @@ pub trait Disk {
         ensures size { size_of self.new ≡ size_of self.old }
         ensures crash { (image : List ℕ) → may_leave self.new image → may_leave self.old image }
         ensures time { Elapses (moment self.old) (moment self.new) (left_since self.old) (left_since self.new) (may_leave self.new) }
-        ensures cause { HasCause (faults self.old) (faults self.new) result };
+        ensures cause { HasCause (faults self.old) (faults self.new) (IsErr result) };
 
     /// Writes over what is there, and past the end. `at` is at most the size, and the end at most 2^62. A write
     /// that fails leaves any bytes in its range.
@@ -56,7 +57,7 @@ pub trait Disk {
         ensures no_longer { size_of self.new ≤ max (size_of self.old) (at + length bytes.now) }
         ensures crash { Follows (Torn at (length bytes.now)) (may_leave self.old) (may_leave self.new) }
         ensures time { Elapses (moment self.old) (moment self.new) (left_since self.old) (left_since self.new) (may_leave self.new) }
-        ensures cause { HasCause (faults self.old) (faults self.new) result };
+        ensures cause { HasCause (faults self.old) (faults self.new) (IsErr result) };
 
     /// Cuts the disk to a size, which is at most the one that it has. A cut that fails may have happened or not.
     fn cut(&mut self, size: u64) -> Result<(), Failed>
@@ -68,7 +69,7 @@ pub trait Disk {
         ensures no_longer { size_of self.new ≤ size_of self.old }
         ensures crash { Follows (CutShort size) (may_leave self.old) (may_leave self.new) }
         ensures time { Elapses (moment self.old) (moment self.new) (left_since self.old) (left_since self.new) (may_leave self.new) }
-        ensures cause { HasCause (faults self.old) (faults self.new) result };
+        ensures cause { HasCause (faults self.old) (faults self.new) (IsErr result) };
 
     /// After it has succeeded, a crash leaves what a read gives.
     fn sync(&mut self) -> Result<(), Failed>
@@ -77,7 +78,7 @@ pub trait Disk {
         ensures size { size_of self.new ≡ size_of self.old }
         ensures crash { (image : List ℕ) → may_leave self.new image → may_leave self.old image }
         ensures time { Elapses (moment self.old) (moment self.new) (left_since self.old) (left_since self.new) (may_leave self.new) }
-        ensures cause { HasCause (faults self.old) (faults self.new) result };
+        ensures cause { HasCause (faults self.old) (faults self.new) (IsErr result) };
 
     /// The size is that of the bytes.
     ghost sized: { (disk : Self) → IfSome (content disk) (λ bytes. length bytes ≡ size_of disk) };

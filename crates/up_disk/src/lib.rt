@@ -8,7 +8,6 @@ mod disks;
 mod hook;
 mod landing;
 mod memory;
-mod plan;
 
 pub use disk::{Disk, Failed};
 pub use disks::Disks;

@@ -5,8 +5,8 @@ ghost use Rattle.up_disk.specs.Pending.{content_after, synced_calls};
 use crate::call::{Call, Written};
 use crate::disk::{Disk, Failed};
 use crate::landing::{copy_of, land_all, landing, overwrite, redo_all};
-use crate::plan::Plan;
 use std::alloc::{AllocError, Global};
+use up_faults::Calls;
 use up_lists::Items;
 
 /// A disk in memory, which tells its content. The calls whose numbers are listed fail, and so does one that finds no
@@ -18,7 +18,7 @@ pub struct MemDisk {
     // how many of the calls there are up to the last sync
     synced: usize,
     bytes: Vec<u8>,
-    plan: Plan,
+    plan: Calls,
     ghost kept: { bytes.items ≡ content_after first calls.items },
     ghost counted: { synced ≡ synced_calls calls.items },
     ghost within: { synced ≤ length calls.items },
@@ -26,39 +26,32 @@ pub struct MemDisk {
 
 impl MemDisk {
     ghost use Rattle.std.specs.Prelude.{◌≡◌, ◌≤◌, ◌+◌, ◌^◌, [], Some, IfOk, OnOk, OnErr, length, take};
+    ghost use Rattle.up_faults.specs.Calls.{no_call_made};
     ghost use Rattle.up_disk.specs.Disk.{Elapses, Follows, Only, Torn, written};
-    ghost use Rattle.up_disk.specs.Memory.{asked_of, content_of, fails_of, faults_of, image_of, left_since_of, may_leave_of, moment_of, IsUntouched, IsWritten};
+    ghost use Rattle.up_disk.specs.Memory.{content_of, image_of, left_since_of, may_leave_of, moment_of, plan_of, IsUntouched, IsWritten};
 
     /// An empty disk. `fails` has the numbers of the calls that fail: all calls of [`Disk`] but `size` count, from 0,
     /// failed ones too.
     pub fn new(alloc: Global, fails: Items<u64>) -> MemDisk
         ensures empty { content_of result ≡ Some [] }
         ensures settled { Only (content_of result) (may_leave_of result) }
-        ensures fails { fails_of result ≡ fails }
-        ensures unasked { asked_of result ≡ 0 }
-        ensures faultless { faults_of result ≡ 0 }
+        ensures plan { plan_of result ≡ no_call_made fails }
     {
         MemDisk::settled(Items::new(alloc), Vec::new(alloc), fails)
     }
 
     // A disk with these bytes, all of them synced.
-    fn settled(first: Items<u8>, bytes: Vec<u8>, listed: Items<u64>) -> MemDisk
+    fn settled(first: Items<u8>, bytes: Vec<u8>, fails: Items<u64>) -> MemDisk
         requires { first ≡ bytes.items }
         ensures content { content_of result ≡ Some bytes.items }
         ensures settled { Only (content_of result) (may_leave_of result) }
-        ensures fails { fails_of result ≡ listed }
-        ensures unasked { asked_of result ≡ 0 }
-        ensures faultless { faults_of result ≡ 0 }
+        ensures plan { plan_of result ≡ no_call_made fails }
     {
         MemDisk {
             calls: Vec::new(first.allocator()),
             synced: 0,
             bytes,
-            plan: Plan {
-                listed,
-                asked: 0,
-                count: 0,
-            },
+            plan: Calls::new(fails),
             first,
         }
     }
@@ -71,9 +64,7 @@ impl MemDisk {
         ensures image { IfOk result (λ image. content_of image ≡ Some (image_of self.now choice)) }
         ensures possible { IfOk result (λ _. may_leave_of self.now (image_of self.now choice)) }
         ensures settled { IfOk result (λ image. Only (content_of image) (may_leave_of image)) }
-        ensures fails { IfOk result (λ image. fails_of image ≡ []) }
-        ensures unasked { IfOk result (λ image. asked_of image ≡ 0) }
-        ensures faultless { IfOk result (λ image. faults_of image ≡ 0) }
+        ensures plan { IfOk result (λ image. plan_of image ≡ no_call_made []) }
     {
         let alloc = *self.bytes.allocator();
         let mut image = copy_of(alloc, self.first.as_slice())?.into_vec();
@@ -111,10 +102,11 @@ impl MemDisk {
 }
 
 impl Disk for MemDisk {
-    ghost use Rattle.std.specs.Prelude.{◌≡◌, ◌≤◌, ◌+◌, ◌/◌, ◌^◌, ◌⊎◌, List, ℕ, max, length, take, option_map, refl, Contains, IfSome, IsOk, OnOk, OnErr};
-    ghost use Rattle.up_disk.specs.Disk.{CutShort, Elapses, Follows, HasCause, Only, Steps, Torn, part, written};
-    ghost use Rattle.up_disk.specs.Plan.{IsAsked};
-    ghost use Rattle.up_disk.specs.Memory.{asked_of, content_of, fails_of, faults_of, left_since_of, length_of, may_leave_of, moment_of, IsCut, IsSynced, IsUntouched, IsWritten};
+    ghost use Rattle.std.specs.Prelude.{◌≡◌, ◌≤◌, ◌+◌, ◌/◌, ◌^◌, ◌⊎◌, List, ℕ, max, length, take, option_map, refl, true, IfSome, IsErr, OnOk, OnErr};
+    ghost use Rattle.up_disk.specs.Disk.{CutShort, Elapses, Follows, Only, Steps, Torn, part, written};
+    ghost use Rattle.up_faults.specs.Counts.{HasCause};
+    ghost use Rattle.up_faults.specs.Calls.{IsCalled, fails_next};
+    ghost use Rattle.up_disk.specs.Memory.{content_of, faults_of, left_since_of, length_of, may_leave_of, moment_of, plan_of, IsCut, IsSynced, IsUntouched, IsWritten};
     ghost use Rattle.up_disk.specs.MemoryLaws.{leaves_bytes, now_only, since_now};
 
     ghost content = { content_of };
@@ -151,12 +143,14 @@ impl Disk for MemDisk {
         ensures size { length_of self.new ≡ length_of self.old }
         ensures crash { (image : List ℕ) → may_leave_of self.new image → may_leave_of self.old image }
         ensures time { Elapses (moment_of self.old) (moment_of self.new) (left_since_of self.old) (left_since_of self.new) (may_leave_of self.new) }
-        ensures cause { HasCause (faults_of self.old) (faults_of self.new) result }
-        ensures asked { IsAsked (fails_of self.old) (asked_of self.old) (fails_of self.new) (asked_of self.new) result }
-        ensures only_listed { OnErr result (Contains (fails_of self.old) (asked_of self.old)) }
+        ensures cause { HasCause (faults_of self.old) (faults_of self.new) (IsErr result) }
+        ensures asked { IsCalled (plan_of self.old) (plan_of self.new) result }
+        ensures only_listed { OnErr result (fails_next (plan_of self.old) ≡ true) }
         ensures untouched { IsUntouched self.old self.new }
     {
-        self.plan.ask()?;
+        if self.plan.next_fails() {
+            return Err(Failed);
+        }
         let at = at as usize;
         buf.copy_from_slice(&self.bytes[at..at + buf.len()]);
         Ok(())
@@ -174,18 +168,19 @@ impl Disk for MemDisk {
         ensures no_longer { length_of self.new ≤ max (length_of self.old) (at + length bytes.now) }
         ensures crash { Follows (Torn at (length bytes.now)) (may_leave_of self.old) (may_leave_of self.new) }
         ensures time { Elapses (moment_of self.old) (moment_of self.new) (left_since_of self.old) (left_since_of self.new) (may_leave_of self.new) }
-        ensures cause { HasCause (faults_of self.old) (faults_of self.new) result }
-        ensures asked { IsAsked (fails_of self.old) (asked_of self.old) (fails_of self.new) (asked_of self.new) result }
+        ensures cause { HasCause (faults_of self.old) (faults_of self.new) (IsErr result) }
+        ensures asked { IsCalled (plan_of self.old) (plan_of self.new) result }
         ensures lands { OnOk result (IsWritten at bytes.now (length bytes.now) self.old self.new) }
         ensures half { OnErr result (IsWritten at bytes.now (length bytes.now / 2) self.old self.new ⊎ IsUntouched self.old self.new) }
     {
-        if let Err(failed) = self.plan.ask() {
+        if self.plan.next_fails() {
             // Where there is no memory to note the front half, nothing of the write has landed.
             let _ = self.write(at, bytes, bytes.len() / 2);
-            return Err(failed);
+            return Err(Failed);
         }
         if self.write(at, bytes, bytes.len()).is_err() {
-            return Err(self.plan.fail());
+            self.plan.fail();
+            return Err(Failed);
         }
         Ok(())
     }
@@ -200,14 +195,17 @@ impl Disk for MemDisk {
         ensures no_longer { length_of self.new ≤ length_of self.old }
         ensures crash { Follows (CutShort size) (may_leave_of self.old) (may_leave_of self.new) }
         ensures time { Elapses (moment_of self.old) (moment_of self.new) (left_since_of self.old) (left_since_of self.new) (may_leave_of self.new) }
-        ensures cause { HasCause (faults_of self.old) (faults_of self.new) result }
-        ensures asked { IsAsked (fails_of self.old) (asked_of self.old) (fails_of self.new) (asked_of self.new) result }
+        ensures cause { HasCause (faults_of self.old) (faults_of self.new) (IsErr result) }
+        ensures asked { IsCalled (plan_of self.old) (plan_of self.new) result }
         ensures lands { OnOk result (IsCut size self.old self.new) }
         ensures untouched { OnErr result (IsUntouched self.old self.new) }
     {
-        self.plan.ask()?;
+        if self.plan.next_fails() {
+            return Err(Failed);
+        }
         if self.calls.reserve(1).is_err() {
-            return Err(self.plan.fail());
+            self.plan.fail();
+            return Err(Failed);
         }
         self.bytes.truncate(size as usize);
         self.calls.push_reserved(Call::Cut(size));
@@ -221,14 +219,17 @@ impl Disk for MemDisk {
         ensures size { length_of self.new ≡ length_of self.old }
         ensures crash { (image : List ℕ) → may_leave_of self.new image → may_leave_of self.old image }
         ensures time { Elapses (moment_of self.old) (moment_of self.new) (left_since_of self.old) (left_since_of self.new) (may_leave_of self.new) }
-        ensures cause { HasCause (faults_of self.old) (faults_of self.new) result }
-        ensures asked { IsAsked (fails_of self.old) (asked_of self.old) (fails_of self.new) (asked_of self.new) result }
+        ensures cause { HasCause (faults_of self.old) (faults_of self.new) (IsErr result) }
+        ensures asked { IsCalled (plan_of self.old) (plan_of self.new) result }
         ensures lands { OnOk result (IsSynced self.old self.new) }
         ensures untouched { OnErr result (IsUntouched self.old self.new) }
     {
-        self.plan.ask()?;
+        if self.plan.next_fails() {
+            return Err(Failed);
+        }
         if self.calls.reserve(1).is_err() {
-            return Err(self.plan.fail());
+            self.plan.fail();
+            return Err(Failed);
         }
         self.calls.push_reserved(Call::Sync);
         self.synced = self.calls.len();

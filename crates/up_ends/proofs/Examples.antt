@@ -1,23 +1,8 @@
 -- Worked examples of the definitions.
-use Rattle.std.proofs.Common.{◌≡◌, ◌-◌, ◌^◌, true, false, [], ◌∷◌, refl}
-use Rattle.up_ends.specs.Counts.{count_after, fails_after}
+use Rattle.std.proofs.Common.{◌≡◌, [], ◌∷◌, refl}
+use Rattle.up_faults.specs.Calls.{no_call_made}
 use Rattle.up_ends.specs.Sources.{MemInput, piece_of, read_size, after_read, after_failed_read}
 use Rattle.up_ends.specs.Sinks.{MemOutput, after_write, after_failed_write}
-
-count_goes_on : count_after 3 2 ≡ 5
-count_goes_on = refl
-
-count_stops_at_its_end : count_after (2 ^ 64 - 2) 7 ≡ 2 ^ 64 - 1
-count_stops_at_its_end = refl
-
-count_stays_at_its_end : count_after (2 ^ 64 - 1) 1 ≡ 2 ^ 64 - 1
-count_stays_at_its_end = refl
-
-third_call_fails : fails_after (0 ∷ 2 ∷ []) 2 ≡ true
-third_call_fails = refl
-
-second_call_does_not : fails_after (0 ∷ 2 ∷ []) 1 ≡ false
-second_call_does_not = refl
 
 piece_within_the_room : piece_of (4 ∷ 1 ∷ []) 9 ≡ 4
 piece_within_the_room = refl
@@ -35,22 +20,22 @@ empty_buffer : piece_of (4 ∷ []) 0 ≡ 0
 empty_buffer = refl
 
 abbrev five : MemInput
-five = record { left = 1 ∷ 2 ∷ 3 ∷ 4 ∷ 5 ∷ []; pieces = 2 ∷ 0 ∷ []; fails = 1 ∷ []; calls = 0; given = 0; faults = 0 }
+five = record { left = 1 ∷ 2 ∷ 3 ∷ 4 ∷ 5 ∷ []; pieces = 2 ∷ 0 ∷ []; given = 0; plan = no_call_made (1 ∷ []) }
 
 read_of_a_piece : read_size five 9 ≡ 2
 read_of_a_piece = refl
 
-after_that_read : after_read five 2 ≡ record { left = 3 ∷ 4 ∷ 5 ∷ []; pieces = 0 ∷ []; fails = 1 ∷ []; calls = 1; given = 2; faults = 0 }
+after_that_read : after_read five 2 ≡ record { left = 3 ∷ 4 ∷ 5 ∷ []; pieces = 0 ∷ []; given = 2; plan = record { fails = 1 ∷ []; made = 1; faults = 0 } }
 after_that_read = refl
 
-failed_read_uses_no_piece : after_failed_read five ≡ record five { calls = 1; faults = 1 }
+failed_read_uses_no_piece : after_failed_read five ≡ record five { plan = record { fails = 1 ∷ []; made = 1; faults = 1 } }
 failed_read_uses_no_piece = refl
 
 abbrev two : MemOutput
-two = record { held = 1 ∷ 2 ∷ []; fails = []; calls = 1; faults = 0 }
+two = record { held = 1 ∷ 2 ∷ []; plan = record { fails = []; made = 1; faults = 0 } }
 
-write_of_a_piece : after_write two (3 ∷ []) ≡ record { held = 1 ∷ 2 ∷ 3 ∷ []; fails = []; calls = 2; faults = 0 }
+write_of_a_piece : after_write two (3 ∷ []) ≡ record { held = 1 ∷ 2 ∷ 3 ∷ []; plan = record { fails = []; made = 2; faults = 0 } }
 write_of_a_piece = refl
 
-failed_write_holds_the_same : after_failed_write two ≡ record two { calls = 2; faults = 1 }
+failed_write_holds_the_same : after_failed_write two ≡ record two { plan = record { fails = []; made = 2; faults = 1 } }
 failed_write_holds_the_same = refl

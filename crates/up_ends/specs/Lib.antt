@@ -1,4 +1,3 @@
-pub mod Counts
 pub mod Sources
 pub mod Sinks
 pub mod Writing

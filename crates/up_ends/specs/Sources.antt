@@ -1,8 +1,9 @@
 -- What a source gives, and how the sources of this crate are seen. This project's own.
-use Rattle.std.specs.Prelude.{◌≡◌, ℕ, ◌+◌, List, [], ◌∷◌, length, drop, min, max, Result, MatchResult}
+use Rattle.std.specs.Prelude.{◌≡◌, ℕ, true, false, ◌+◌, List, [], ◌∷◌, length, drop, min, max, Result, MatchResult}
 use Rattle.std.specs.Io.KnownBytes.{Consumes}
 use Rattle.std.specs.declared.option.Option.{Option}
-use Rattle.up_ends.specs.Counts.{count_after}
+use Rattle.up_faults.specs.Counts.{count_after}
+use Rattle.up_faults.specs.Calls.{CallPlan, after_call}
 
 -- the count of bytes given grew by what a read gave, and stayed where the read failed
 abbrev pub CountsGiven : {E : Type 0} → ℕ → ℕ → Result ℕ E → Type 0
@@ -19,15 +20,13 @@ pub record CountedReader (R : Type 0) : Type 0 where
   pub given : ℕ
   pub faults : ℕ
 
--- a source in memory: the bytes left, at most how much each next read gives, the numbers of the calls that fail,
--- how many calls there were, how many bytes they gave, and how many of them failed
+-- a source in memory: the bytes left, at most how much each next read gives, how many bytes it gave, and which of
+-- its calls fail
 pub record MemInput : Type 0 where
   pub left : List ℕ
   pub pieces : List ℕ
-  pub fails : List ℕ
-  pub calls : ℕ
   pub given : ℕ
-  pub faults : ℕ
+  pub plan : CallPlan
 
 -- how many of room bytes the next piece lets through: at least one, and all once the pieces are used up
 abbrev pub piece_of : List ℕ → ℕ → ℕ
@@ -40,13 +39,13 @@ read_size input room = min (piece_of input.pieces room) (length input.left)
 
 -- after a read that failed
 abbrev pub after_failed_read : MemInput → MemInput
-after_failed_read input = record input { calls = count_after input.calls 1; faults = count_after input.faults 1 }
+after_failed_read input = record input { plan = after_call input.plan true }
 
 -- after a read that gave n bytes
 abbrev pub after_read : MemInput → ℕ → MemInput
 after_read input n = record input {
   left = drop n input.left;
   pieces = drop 1 input.pieces;
-  calls = count_after input.calls 1;
   given = input.given + n;
+  plan = after_call input.plan false;
 }

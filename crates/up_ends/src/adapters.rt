@@ -1,8 +1,8 @@
 //! Sources and sinks over the readers and writers of std.
-ghost use Rattle.std.specs.Prelude.{◌≡◌, ◌<◌, ◌≤◌, length, is_err, if◌then◌else◌, IfOk, OnErr};
+ghost use Rattle.std.specs.Prelude.{◌≡◌, ◌<◌, length, is_err, if◌then◌else◌, IfOk, IsErr};
 ghost use Rattle.std.specs.Io.{ReadsAtMost, WritesAtMost};
 ghost use Rattle.std.specs.Io.KnownBytes.{ReadConsumes, WriteAppends};
-ghost use Rattle.up_ends.specs.Counts.{count_after, Rose};
+ghost use Rattle.up_faults.specs.Counts.{count_after, HasCause};
 ghost use Rattle.up_ends.specs.Sources.{CountsGiven};
 
 use crate::ends::{Failed, Sink, Source};
@@ -53,8 +53,7 @@ impl<R: Read> Source for StdSource<R> {
         // A fault is one error of the reader.
         ensures faults { self.new.faults ≡
             (if is_err result then count_after self.old.faults 1 else self.old.faults) }
-        ensures later { self.old.faults ≤ self.new.faults }
-        ensures cause { OnErr result (Rose self.old.faults self.new.faults) }
+        ensures cause { HasCause self.old.faults self.new.faults (IsErr result) }
     {
         match self.reader.read(buf) {
             Ok(n) => {
@@ -107,8 +106,7 @@ impl<W: Write> Sink for StdSink<W> {
         // A fault is one error of the writer, or one write of nothing.
         ensures faults { self.new.faults ≡
             (if is_err result then count_after self.old.faults 1 else self.old.faults) }
-        ensures later { self.old.faults ≤ self.new.faults }
-        ensures cause { OnErr result (Rose self.old.faults self.new.faults) }
+        ensures cause { HasCause self.old.faults self.new.faults (IsErr result) }
     {
         match self.writer.write(piece) {
             Ok(n) if n > 0 || piece.is_empty() => return Ok(n),

@@ -1,9 +1,9 @@
 //! What a source of bytes and a sink for bytes promise.
-ghost use Rattle.std.specs.Prelude.{ℕ, ◌<◌, ◌≤◌, List, length, IfOk, OnErr};
+ghost use Rattle.std.specs.Prelude.{ℕ, ◌<◌, List, length, IfOk, IsErr};
 ghost use Rattle.std.specs.declared.option.Option.{Option};
 ghost use Rattle.std.specs.Io.{ReadsAtMost, WritesAtMost};
 ghost use Rattle.std.specs.Io.KnownBytes.{ReadConsumes, WriteAppends};
-ghost use Rattle.up_ends.specs.Counts.{Rose};
+ghost use Rattle.up_faults.specs.Counts.{HasCause};
 ghost use Rattle.up_ends.specs.Sources.{CountsGiven};
 
 /// A source or a sink failed, and its count of faults rose.
@@ -27,8 +27,7 @@ pub trait Source {
         ensures bound { ReadsAtMost result buf.new }
         ensures bytes { ReadConsumes (left self.old) (left self.new) result buf.new }
         ensures counted { CountsGiven (given self.old) (given self.new) result }
-        ensures later { faults self.old ≤ faults self.new }
-        ensures cause { OnErr result (Rose (faults self.old) (faults self.new)) };
+        ensures cause { HasCause (faults self.old) (faults self.new) (IsErr result) };
 }
 
 /// Where bytes go.
@@ -45,6 +44,5 @@ pub trait Sink {
         ensures bound { WritesAtMost result piece.now }
         ensures some { IfOk result (λ n. 0 < length piece.now → 0 < n) }
         ensures bytes { WriteAppends (held self.old) (held self.new) result piece.now }
-        ensures later { faults self.old ≤ faults self.new }
-        ensures cause { OnErr result (Rose (faults self.old) (faults self.new)) };
+        ensures cause { HasCause (faults self.old) (faults self.new) (IsErr result) };
 }

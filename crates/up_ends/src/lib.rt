@@ -5,7 +5,6 @@
 #![tactic(auto)]
 
 mod adapters;
-mod calls;
 mod ends;
 mod mem_sink;
 mod mem_source;

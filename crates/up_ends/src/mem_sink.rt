@@ -1,14 +1,15 @@
 //! A sink in memory.
-ghost use Rattle.std.specs.Prelude.{◌≡◌, ◌<◌, ◌≤◌, [], ◌++◌, length, true, is_ok, if◌then◌else◌, IfOk, OnErr, Err};
+ghost use Rattle.std.specs.Prelude.{◌≡◌, ◌<◌, [], ◌++◌, length, true, is_ok, if◌then◌else◌, IfOk, IsErr, Err};
 ghost use Rattle.std.specs.Io.{WritesAtMost};
 ghost use Rattle.std.specs.Io.KnownBytes.{WriteAppends};
-ghost use Rattle.up_ends.specs.Counts.{fails_after, Rose};
+ghost use Rattle.up_faults.specs.Counts.{HasCause};
+ghost use Rattle.up_faults.specs.Calls.{fails_next, no_call_made};
 ghost use Rattle.up_ends.specs.Sinks.{after_write, after_failed_write};
 
-use crate::calls::Calls;
 use crate::ends::{Failed, Sink};
 use std::alloc::Global;
 use std::marker::Model;
+use up_faults::Calls;
 use up_lists::Items;
 
 /// A sink in memory.
@@ -28,16 +29,14 @@ impl Model for MemSink {
 
     ghost view = { λ s. record {
       held = s.bytes.items;
-      fails = s.calls.fails;
-      calls = s.calls.made;
-      faults = s.calls.failed;
+      plan = s.calls;
     } };
 }
 
 impl MemSink {
     /// A sink that holds nothing. It takes no memory.
     pub fn new(alloc: Global, fails: Items<u64>) -> Self
-        ensures { result ≡ record { held = []; fails = fails; calls = 0; faults = 0 } }
+        ensures { result ≡ record { held = []; plan = no_call_made fails } }
     {
         MemSink {
             bytes: Vec::new(alloc),
@@ -58,11 +57,11 @@ impl Sink for MemSink {
 
     ghost held = { λ s. Some s.held };
 
-    ghost faults = { λ s. s.faults };
+    ghost faults = { λ s. s.plan.faults };
 
     fn write(&mut self, piece: &[u8]) -> Result<usize, Failed>
         // Which calls fail, beside those that find no memory, and that each other one takes the whole piece.
-        ensures fails { fails_after self.old.fails self.old.calls ≡ true → result ≡ Err record {} }
+        ensures fails { fails_next self.old.plan ≡ true → result ≡ Err record {} }
         ensures whole { IfOk result (λ n. n ≡ length piece.now) }
         ensures after { self.new ≡
             (if is_ok result then after_write self.old piece.now else after_failed_write self.old) }
@@ -70,11 +69,14 @@ impl Sink for MemSink {
         ensures bound { WritesAtMost result piece.now }
         ensures some { IfOk result (λ n. 0 < length piece.now → 0 < n) }
         ensures bytes { WriteAppends (Some self.old.held) (Some self.new.held) result piece.now }
-        ensures later { self.old.faults ≤ self.new.faults }
-        ensures cause { OnErr result (Rose self.old.faults self.new.faults) }
+        ensures cause { HasCause self.old.plan.faults self.new.plan.faults (IsErr result) }
     {
-        if self.calls.next_fails() || self.bytes.extend_from_slice(piece).is_err() {
-            return Err(self.calls.fault());
+        if self.calls.next_fails() {
+            return Err(Failed);
+        }
+        if self.bytes.extend_from_slice(piece).is_err() {
+            self.calls.fail();
+            return Err(Failed);
         }
         Ok(piece.len())
     }

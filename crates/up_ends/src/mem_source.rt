@@ -1,15 +1,16 @@
 //! A source over bytes in memory.
-ghost use Rattle.std.specs.Prelude.{◌≡◌, ◌<◌, ◌≤◌, ◌++◌, length, take, drop, min, if◌then◌else◌, OnErr, Ok, Err};
+ghost use Rattle.std.specs.Prelude.{◌≡◌, ◌<◌, ◌≤◌, ◌++◌, length, take, drop, min, if◌then◌else◌, IsErr, Ok, Err};
 ghost use Rattle.std.specs.Vec.Iter.{into_iter_items};
 ghost use Rattle.std.specs.Io.{ReadsAtMost};
 ghost use Rattle.std.specs.Io.KnownBytes.{ReadConsumes};
-ghost use Rattle.up_ends.specs.Counts.{fails_after, Rose};
+ghost use Rattle.up_faults.specs.Counts.{HasCause};
+ghost use Rattle.up_faults.specs.Calls.{fails_next, no_call_made};
 ghost use Rattle.up_ends.specs.Sources.{CountsGiven, piece_of, read_size, after_read, after_failed_read};
 
-use crate::calls::Calls;
 use crate::ends::{Failed, Source};
 use std::marker::Model;
 use std::vec::IntoIter;
+use up_faults::Calls;
 use up_lists::Items;
 
 /// A source over bytes in memory, whose reads are as large as its pieces and fail where it is told.
@@ -36,10 +37,8 @@ impl Model for MemSource {
     ghost view = { λ s. record {
       left = drop s.place s.bytes.items;
       pieces = into_iter_items s.pieces;
-      fails = s.calls.fails;
-      calls = s.calls.made;
       given = s.place;
-      faults = s.calls.failed;
+      plan = s.calls;
     } };
 
     ghost invariant = { λ s. s.place ≤ length s.bytes.items };
@@ -51,10 +50,8 @@ impl MemSource {
         ensures { result ≡ record {
           left = bytes.items;
           pieces = pieces;
-          fails = fails;
-          calls = 0;
           given = 0;
-          faults = 0;
+          plan = no_call_made fails;
         } }
     {
         MemSource {
@@ -73,24 +70,23 @@ impl Source for MemSource {
 
     ghost given = { λ s. s.given };
 
-    ghost faults = { λ s. s.faults };
+    ghost faults = { λ s. s.plan.faults };
 
     fn read(&mut self, buf: &mut [u8]) -> Result<usize, Failed>
         // Which calls fail, and how much each other one gives.
-        ensures answer { result ≡ (if fails_after self.old.fails self.old.calls
+        ensures answer { result ≡ (if fails_next self.old.plan
             then Err record {} else Ok (read_size self.old (length buf.old))) }
-        ensures after { self.new ≡ (if fails_after self.old.fails self.old.calls
+        ensures after { self.new ≡ (if fails_next self.old.plan
             then after_failed_read self.old
             else after_read self.old (read_size self.old (length buf.old))) }
 
         ensures bound { ReadsAtMost result buf.new }
         ensures bytes { ReadConsumes (Some self.old.left) (Some self.new.left) result buf.new }
         ensures counted { CountsGiven self.old.given self.new.given result }
-        ensures later { self.old.faults ≤ self.new.faults }
-        ensures cause { OnErr result (Rose self.old.faults self.new.faults) }
+        ensures cause { HasCause self.old.plan.faults self.new.plan.faults (IsErr result) }
     {
         if self.calls.next_fails() {
-            return Err(self.calls.fault());
+            return Err(Failed);
         }
         let most = next_piece(&mut self.pieces, buf.len());
         let count = give(&self.bytes[self.place..], buf, most);

@@ -1,7 +1,7 @@
 //! Reading a source to its end, and writing a piece whole.
-ghost use Rattle.std.specs.Prelude.{◌≡◌, ◌≢◌, ◌+◌, ◌-◌, ◌^◌, ◌<◌, ◌≤◌, ◌↔◌, length, vec_len, IfOk, OnOk, OnErr, IfSome, IsErrOf};
+ghost use Rattle.std.specs.Prelude.{◌≡◌, ◌+◌, ◌-◌, ◌^◌, ◌<◌, ◌≤◌, ◌↔◌, length, vec_len, IfOk, OnOk, IfSome, IsErr, IsErrOf};
 ghost use Rattle.std.specs.Io.KnownBytes.{Appends, IsAtEnd};
-ghost use Rattle.up_ends.specs.Counts.{count_after, Rose};
+ghost use Rattle.up_faults.specs.Counts.{count_after, HasCause};
 ghost use Rattle.up_ends.specs.Sources.{LosesFront};
 ghost use Rattle.up_ends.specs.Writing.{WritesPart};
 
@@ -69,9 +69,8 @@ pub fn read_all<S: Source>(alloc: Global, source: &mut S, limit: u64) -> Result<
     ensures exact { S.given source.old + limit < 2 ^ 64 - 1 →
         (IsErrOf result ReadFault.TooLong ↔ (S.given source.old + limit < S.given source.new)) }
 
-    ensures cause { IsErrOf result ReadFault.Failed →
-        Rose (S.faults source.old) (S.faults source.new) }
-    ensures later { S.faults source.old ≤ S.faults source.new }
+    ensures cause { HasCause (S.faults source.old) (S.faults source.new)
+        (IsErrOf result ReadFault.Failed) }
 
     // Whatever the answer, the source lost what was read and nothing else.
     ensures front { LosesFront (S.left source.old) (S.left source.new) }
@@ -96,8 +95,7 @@ pub fn read_all<S: Source>(alloc: Global, source: &mut S, limit: u64) -> Result<
 pub fn write_all<K: Sink>(sink: &mut K, piece: &[u8]) -> Result<(), Failed>
     ensures whole { OnOk result (Appends (K.held sink.old) (K.held sink.new) piece.now) }
     ensures part { WritesPart (K.held sink.old) (K.held sink.new) piece.now }
-    ensures cause { OnErr result (Rose (K.faults sink.old) (K.faults sink.new)) }
-    ensures later { K.faults sink.old ≤ K.faults sink.new }
+    ensures cause { HasCause (K.faults sink.old) (K.faults sink.new) (IsErr result) }
 {
     let mut rest = piece;
     while !rest.is_empty() {

@@ -1,6 +1,7 @@
 //! What stands on a device: the gates are read, or a new device is begun.
 ghost use Rattle.std.specs.Prelude.{◌≡◌, ◌⊎◌, ◌<◌, ◌≤◌, ◌+◌, ℕ, List, None, Some, Ok, Err, false, take, drop, is_some, option_map, IfOk, IfSome, IsErr, IsErrOf, OnOk};
-ghost use Rattle.up_disk.specs.Disk.{HasCause, LeavesOnly, Only};
+ghost use Rattle.up_faults.specs.Counts.{HasCause};
+ghost use Rattle.up_disk.specs.Disk.{LeavesOnly, Only};
 ghost use Rattle.up_journal.specs.Cells.{Closed, OnlyRead, Rises};
 ghost use Rattle.up_journal.specs.Format.{first_gate, is_open, log_of, name, new_size};
 ghost use Rattle.up_journal.specs.Journal.{AreLimits, IsReadAs};
@@ -55,7 +56,7 @@ fn start<D: Disk>(disk: &mut D) -> Result<(), Failed>
     requires { D.size_of disk.old ≤ new_size }
     ensures size { OnOk result (first_gate < D.size_of disk.new) }
     ensures told { is_some (D.content disk.new) ≡ is_some (D.content disk.old) }
-    ensures cause { HasCause (D.faults disk.old) (D.faults disk.new) result }
+    ensures cause { HasCause (D.faults disk.old) (D.faults disk.new) (IsErr result) }
     ensures started { OnOk result ((image : List ℕ) → D.may_leave disk.new image → Closed name image) }
     ensures any_moment { Only (D.content disk.old) (D.may_leave disk.old) → (largest : ℕ)
         → LeavesOnly D.moment D.left_since disk.old disk.new (IsReadAs largest (D.content disk.old)) }

@@ -1,6 +1,7 @@
 //! The writes of one record, and of its gate.
 ghost use Rattle.std.specs.Prelude.{◌≡◌, ◌⊎◌, ◌<◌, ◌≤◌, ◌+◌, ◌^◌, ℕ, List, length, Option, None, Some, is_ok, is_some, option_map, if◌then◌else◌, IfOk, IsErr, IsNone, IsSome, OnOk, OnErr};
-ghost use Rattle.up_disk.specs.Disk.{HasCause, LeavesOnly};
+ghost use Rattle.up_faults.specs.Counts.{HasCause};
+ghost use Rattle.up_disk.specs.Disk.{LeavesOnly};
 ghost use Rattle.up_journal.specs.Format.{behind_gate};
 ghost use Rattle.up_journal.specs.Cells.{EachAsOne, EachShape, EachWhole, Rests, RestsAsOne, Rises, Stands};
 
@@ -28,7 +29,7 @@ fn set_gate<D: Disk>(disk: &mut D, gate: u64, byte: u8) -> Result<(), Failed>
     requires end { gate < 2 ^ 62 }
     ensures size { D.size_of disk.new ≡ D.size_of disk.old }
     ensures told { is_some (D.content disk.new) ≡ is_some (D.content disk.old) }
-    ensures cause { HasCause (D.faults disk.old) (D.faults disk.new) result }
+    ensures cause { HasCause (D.faults disk.old) (D.faults disk.new) (IsErr result) }
     ensures any_moment { (payload front : List ℕ) → length front ≡ gate → EachShape (Some payload) front (D.may_leave disk.old)
         → LeavesOnly D.moment D.left_since disk.old disk.new (Rests (D.content disk.old) (Some payload) front) }
     ensures set { OnOk result ((payload front : List ℕ) → length front ≡ gate → EachShape (Some payload) front (D.may_leave disk.old)
@@ -45,7 +46,7 @@ fn write_behind<D: Disk>(disk: &mut D, gate: u64, framed: &[u8]) -> Result<(), F
     ensures size { OnOk result (gate + 1 + length framed.now ≤ D.size_of disk.new) }
     ensures no_shorter { D.size_of disk.old ≤ D.size_of disk.new }
     ensures told { is_some (D.content disk.new) ≡ is_some (D.content disk.old) }
-    ensures cause { HasCause (D.faults disk.old) (D.faults disk.new) result }
+    ensures cause { HasCause (D.faults disk.old) (D.faults disk.new) (IsErr result) }
     ensures any_moment { (front : List ℕ) → length front ≡ gate → EachShape None front (D.may_leave disk.old)
         → LeavesOnly D.moment D.left_since disk.old disk.new (Rests (D.content disk.old) None front) }
     ensures written { OnOk result ((payload front : List ℕ) → framed.now ≡ behind_gate payload → length front ≡ gate → EachShape None front (D.may_leave disk.old)

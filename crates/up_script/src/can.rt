@@ -2,7 +2,7 @@
 ghost use Rattle.std.specs.Prelude.{◌≡◌, ◌+◌, ◌-◌, ◌<◌, ◌≤◌, ◌^◌, ◌↔◌, ◌∷◌, [], ◌==◌, ◌++◌, map, false, OnOk, IfSome, IfOk, IsErrOf, IsTrue, string_bytes};
 ghost use Rattle.std.specs.List.{list_any};
 ghost use Rattle.std.specs.Io.KnownBytes.{Appends};
-ghost use Rattle.up_ends.specs.Counts.{Rose};
+ghost use Rattle.up_faults.specs.Counts.{Rose};
 ghost use Rattle.up_ends.specs.Writing.{WritesPart};
 ghost use Rattle.up_text.specs.Lines.{script_lines};
 ghost use Rattle.up_script.specs.CanRuns.{bad_line, run_from, run_of};

@@ -1,7 +1,7 @@
 //! Output that is gathered and written in large pieces.
 ghost use Rattle.std.specs.Prelude.{◌≤◌, ◌++◌, OnOk, IsErrOf};
 ghost use Rattle.std.specs.Io.KnownBytes.{Appends};
-ghost use Rattle.up_ends.specs.Counts.{Rose};
+ghost use Rattle.up_faults.specs.Counts.{Rose};
 ghost use Rattle.up_ends.specs.Writing.{Going, WritesPart};
 
 use std::alloc::AllocError;
