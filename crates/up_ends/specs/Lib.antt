@@ -1,3 +1,7 @@
-pub mod Sources
+pub mod Growing
+pub mod Nonces
 pub mod Sinks
+pub mod Sources
+pub mod Telling
+pub mod Verdicts
 pub mod Writing
