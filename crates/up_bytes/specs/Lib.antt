@@ -1,5 +1,6 @@
 pub mod Num
 pub mod Input
 pub mod Spelling
+pub mod Sizes
 pub mod Reading
 pub mod Forms

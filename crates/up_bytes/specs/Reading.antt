@@ -23,6 +23,10 @@ abbrev pub Gives : {X Y : Type 0} → (X → Y) → Result X FieldFault → Resu
 Gives view (Ok x) meant = meant ≡ Ok (view x)
 Gives view (Err e) meant = e ≢ OutOfMemory → meant ≡ Err e
 
+-- where a fault is meant, it is answered, however much memory there is
+abbrev pub FaultFirst : {X Y : Type 0} → Result Y FieldFault → Result X FieldFault → Type 0
+FaultFirst meant result = (fault : FieldFault) → meant ≡ Err fault → result ≡ Err fault
+
 -- n bytes as they stand
 abbrev pub bytes_at : ℕ → Input → Result (List ℕ × Input) FieldFault
 bytes_at n input = if nat_lt (length input.left) n then Err Short else Ok (take n input.left, past n input)

@@ -4,7 +4,7 @@ ghost use Rattle.std.specs.Prelude.{◌≡◌, ◌⊎◌, ◌+◌, ◌*◌, ◌^
 ghost use Rattle.std.specs.Bool.{OnTrue, OnFalse};
 ghost use Rattle.up_bytes.specs.Num.{num};
 ghost use Rattle.up_bytes.specs.Input.{Input, past};
-ghost use Rattle.up_bytes.specs.Spelling.{int, zigzag, from_zigzag};
+ghost use Rattle.up_bytes.specs.Spelling.{int, text, zigzag, from_zigzag};
 ghost use Rattle.up_bytes.specs.Reading.{Answers, num_at};
 
 use crate::fault::FieldFault;
@@ -28,6 +28,14 @@ pub fn int_len(z: i64) -> u64
     ensures { result ≡ length (int z) }
 {
     num_len(to_zigzag(z))
+}
+
+/// How many bytes the spelling of a text has. It takes no memory.
+#[tactic(auto, using(crate::proofs::Numbers::nums))]
+pub fn text_len(bytes: &[u8]) -> u64
+    ensures { result ≡ length (text bytes.now) }
+{
+    num_len(bytes.len() as u64) + bytes.len() as u64
 }
 
 /// Appends the spelling of a number, for which there is room.

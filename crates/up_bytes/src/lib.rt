@@ -3,15 +3,17 @@
 
 use up_lists::Items;
 
+mod copying;
 mod fault;
 mod laws;
 mod leb128;
 mod reader;
 mod writer;
 
+pub use copying::copy_of;
 pub use fault::FieldFault;
 pub use laws::{fields_are_forms, num_has_one_spelling};
-pub use leb128::{int_len, num_len};
+pub use leb128::{int_len, num_len, text_len};
 pub use reader::Reader;
 pub use writer::Writer;
 

@@ -2,15 +2,15 @@
 
 ghost use Rattle.std.specs.Prelude.{◌≡◌, ◌+◌, ◌≤◌, ◌==◌, length, IfOk, OnErr};
 ghost use Rattle.up_bytes.specs.Input.{place};
-ghost use Rattle.up_bytes.specs.Reading.{Answers, Gives, byte_at, bytes_at, num_at, int_at, text_at};
+ghost use Rattle.up_bytes.specs.Reading.{Answers, FaultFirst, Gives, byte_at, bytes_at, num_at, int_at, text_at};
 ghost use Rattle.up_bytes.specs.Forms.{IsBytes};
 
 use crate::Bytes;
+use crate::copying::copy_of;
 use crate::fault::FieldFault;
 use crate::leb128::{num_in, of_zigzag};
 use std::alloc::Global;
 use std::marker::Model;
-use up_lists::Items;
 
 /// Takes fields from the front of bytes. A refused call leaves the place where it was.
 #[derive(Debug, Drop)]
@@ -70,15 +70,17 @@ impl<'a> Reader<'a> {
         Ok(of_zigzag(self.num()?))
     }
 
-    /// A text, as bytes of its own. Its length reserves nothing before the bytes are there.
+    /// A text, as bytes of its own. Its length reserves nothing before the bytes are there: memory is asked for once the
+    /// whole text is.
     pub fn text(&mut self, alloc: Global) -> Result<Bytes, FieldFault>
         ensures exact { Gives (λ v. (v, self.new)) result (text_at self.old) }
+        ensures fault { FaultFirst (text_at self.old) result }
         ensures err { OnErr result (self.new ≡ self.old) }
     {
         let mut ahead = self.fork();
-        let text = Vec::from_slice(alloc, ahead.slice()?)?;
+        let text = copy_of(alloc, ahead.slice()?)?;
         *self = ahead;
-        Ok(Items::from_vec(text))
+        Ok(text)
     }
 
     /// A text, as a part of the input. It takes no memory.

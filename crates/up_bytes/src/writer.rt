@@ -1,6 +1,6 @@
 //! Writing fields.
 
-ghost use Rattle.std.specs.Prelude.{◌≡◌, ◌==◌, [], ◌++◌, length, take, is_ok, if◌then◌else◌};
+ghost use Rattle.std.specs.Prelude.{◌≡◌, ◌==◌, [], ◌++◌, length, take, is_ok, if◌then◌else◌, IfOk};
 ghost use Rattle.up_bytes.specs.Num.{num};
 ghost use Rattle.up_bytes.specs.Spelling.{byte, int, text};
 
@@ -32,6 +32,15 @@ impl Writer {
         Writer {
             bytes: Vec::new(alloc),
         }
+    }
+
+    /// A writer with no byte yet and room for so many.
+    pub fn with_capacity(alloc: Global, bytes: u64) -> Result<Self, AllocError>
+        ensures { IfOk result (λ writer. writer ≡ []) }
+    {
+        Ok(Writer {
+            bytes: Vec::with_capacity(alloc, bytes as usize)?,
+        })
     }
 
     /// Appends a byte.

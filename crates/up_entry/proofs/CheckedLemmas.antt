@@ -1,29 +1,29 @@
 -- What an entry that keeps all rules of Put is: its link and the addresses of its blocks are as its format asks for, and
 -- all else is what was handed in.
-use Rattle.std.proofs.Common.{◌≡◌, ℕ, Bool, true, false, List, [], ◌∷◌, length, Option, Some, None, Result, Ok, Err, cond, refl, ap, subst, leb-true, eqb-true, arith, bytes_eq}
-use Rattle.std.specs.Prelude.{◌&&◌, ◌==◌, IsSome, ⊤}
-use Rattle.std.specs.List.{list_all, AllByRecursion}
+use Rattle.std.proofs.Common.{◌≡◌, ℕ, ℤ, negsuc, int_le, ◌≤ℤ◌, T, Bool, true, false, List, length, Option, Some, None, Result, Ok, Err, cond, refl, ap, subst, eqb-true, bytes_eq}
+use Rattle.std.specs.Prelude.{◌==◌, IsSome, ⊤}
 use Rattle.std.proofs.lemmas.List.{nil_from_length}
 use Rattle.std.proofs.lemmas.Slice.Eq.{bytes_eq-Decides}
 use Rattle.up_names.specs.declared.faults.NameFault.{NameFault}
 use Rattle.up_entry.specs.declared.entries.Attr.{Attr}
-use Rattle.up_entry.specs.declared.entries.Block.{Block}
-use Rattle.up_entry.specs.declared.entries.Endpoint.{Endpoint}
-use Rattle.up_entry.specs.declared.entries.Endpoint.TheVariants.{Local, Address}
-use Rattle.up_names.specs.PathNames.{PathName, path_of}
+use Rattle.up_entry.specs.declared.entries.Entry.{Entry}
+use Rattle.up_names.specs.PathNames.{PathName, control_of, path_of}
 use Rattle.up_names.specs.PathOrder.{path_eq}
 use Rattle.up_names.specs.PathOrderLaws.{path_eq-Decides}
 use Rattle.up_entry.specs.declared.entries.Kind.{Kind}
 use Rattle.up_entry.specs.declared.entries.Kind.TheVariants.{File, Directory, Link}
 use Rattle.up_entry.specs.declared.puts.Checked.{Checked}
 use Rattle.up_entry.specs.declared.puts.PutEntry.{PutEntry}
-use Rattle.up_entry.specs.declared.what.EntryFault.{EntryFault}
-use Rattle.up_entry.specs.declared.what.EntryFault.TheVariants.{Invalid}
+use Rattle.up_entry.specs.declared.fault.EntryFault.{EntryFault}
+use Rattle.up_entry.specs.declared.fault.EntryFault.TheVariants.{Invalid}
 use Rattle.up_entry.specs.declared.what.What.{What}
 use Rattle.up_entry.specs.declared.what.What.TheVariants as what
 use Rattle.up_entry.specs.Attrs.{attr_of}
-use Rattle.up_entry.specs.Checking.{◌>>=◌, rule, path_or, link_or, is_address, endpoint_fits, block_fits, are_joined, blocks_fit, signed_name_of, writer_of, kind_of, content_rules, whole_kind, checked_as, IsLinkText, IsChecked}
-use Rattle.up_entry.specs.Spelling.{HasAddress, HasItsLink}
+use Rattle.up_entry.specs.Checking.{◌>>=◌, rule, path_or, link_or, signed_name_of, writer_of, kind_of, content_rules, whole_kind, checked_as, IsLinkText, IsChecked}
+use Rattle.up_entry.specs.FixedForm.{HasFixedForm}
+use Rattle.up_entry.specs.Rules.{blocks_fit, control_fits, control_size_fits, packdata_fits, packing_fits, root_fits}
+use Rattle.up_entry.specs.Spelling.{HasItsLink}
+use Rattle.up_entry.proofs.FixedFormLemmas.{form_spelled}
 
 -- what has P, where it is given
 pub record Holds {A : Type 0} (P : A → Type 0) (r : Result A EntryFault) : Type 0 where
@@ -49,14 +49,6 @@ rule_held : (what : What) (holds : Bool) (x : ⊤) → rule what holds ≡ Ok x 
 rule_held what true x e = refl
 rule_held what false x e = absurd cc
 
-both_first : (a b : Bool) → (a && b) ≡ true → a ≡ true
-both_first true b e = refl
-both_first false b e = absurd cc
-
-both_last : (a b : Bool) → (a && b) ≡ true → b ≡ true
-both_last true b e = e
-both_last false b e = absurd cc
-
 -- ---- links
 
 target_kept : (text : List ℕ) → Holds (λ (target : Option PathName). IsSome target) (link_or Link text)
@@ -70,37 +62,43 @@ link_kept Link text target e = (target_kept text).at target e
 link_kept File text target e = (none_kept text).at target e
 link_kept Directory text target e = (none_kept text).at target e
 
--- ---- addresses
-
-address_kept : (endpoint : Endpoint) → endpoint_fits endpoint ≡ true → HasAddress endpoint
-unfolding is_address
-address_kept Local e = tt
-address_kept (Address address) e = leb-true 1 (length address) (both_first _ _ (both_first _ _ e))
-
-block_kept : (block : Block) → block_fits block ≡ true → HasAddress block.location.endpoint
-unfolding block_fits
-block_kept block e = address_kept block.location.endpoint (both_last _ _ e)
-
-addresses_kept : (blocks : List Block) → list_all block_fits blocks ≡ true → AllByRecursion (λ b. HasAddress b.location.endpoint) blocks
-addresses_kept [] e = tt
-addresses_kept (block ∷ blocks) e = (block_kept block (both_first (block_fits block) (list_all block_fits blocks) e), addresses_kept blocks (both_last (block_fits block) (list_all block_fits blocks) e))
-
-no_addresses : (blocks : List Block) → (length blocks == 0) ≡ true → AllByRecursion (λ b. HasAddress b.location.endpoint) blocks
-no_addresses [] e = tt
-no_addresses (block ∷ blocks) e = absurd (omega (arith, eqb-true (length (block ∷ blocks)) 0 e))
-
-blocks_kept : (kind : Kind) (blocks : List Block) → blocks_fit kind blocks ≡ true → AllByRecursion (λ b. HasAddress b.location.endpoint) blocks
-blocks_kept File blocks e = addresses_kept blocks (both_first (list_all block_fits blocks) (are_joined 0 blocks) e)
-blocks_kept Directory blocks e = no_addresses blocks e
-blocks_kept Link blocks e = no_addresses blocks e
-
 -- ---- an entry
 
--- the rule of blocks held
-blocks_held : (put : PutEntry) (kind : Kind) (name : PathName) → Holds (λ done. blocks_fit kind put.blocks ≡ true) (content_rules put kind name)
+-- what is known once the rules of all else held
+pub record ContentFits (put : PutEntry) (kind : Kind) (name : PathName) : Type 0 where
+  pub blocks : blocks_fit kind put.blocks ≡ true
+  pub packdata : packdata_fits kind put.packdata ≡ true
+  pub root : root_fits kind name ≡ true
+  pub control : control_fits kind (control_of name) ≡ true
+  pub control_size : control_size_fits kind name put.blocks ≡ true
+  pub sequence : int_le (negsuc 0) put.sequence ≡ true
+
+content_held : (put : PutEntry) (kind : Kind) (name : PathName) → Holds (λ done. ContentFits put kind name) (content_rules put kind name)
 unfolding content_rules
-blocks_held put kind name =
-    Holds-then (λ (done : ⊤). blocks_fit kind put.blocks ≡ true) _ _ (λ blocks is. record { at = λ x e. rule_held what.Blocks (blocks_fit kind put.blocks) blocks is })
+content_held put kind name =
+    let P : ⊤ → Type 0 = λ done. ContentFits put kind name in
+    Holds-then P (rule what.Blocks (blocks_fit kind put.blocks)) _ (λ a one.
+    Holds-then P (rule what.Packdata (packdata_fits kind put.packdata)) _ (λ b two.
+    Holds-then P (rule what.Root (root_fits kind name)) _ (λ c three.
+    Holds-then P (rule what.Control (control_fits kind (control_of name))) _ (λ d four.
+    Holds-then P (rule what.ControlSize (control_size_fits kind name put.blocks)) _ (λ e five.
+    record {
+      at = λ f six. record {
+        blocks = rule_held what.Blocks (blocks_fit kind put.blocks) a one;
+        packdata = rule_held what.Packdata (packdata_fits kind put.packdata) b two;
+        root = rule_held what.Root (root_fits kind name) c three;
+        control = rule_held what.Control (control_fits kind (control_of name)) d four;
+        control_size = rule_held what.ControlSize (control_size_fits kind name put.blocks) e five;
+        sequence = rule_held what.Sequence (int_le (negsuc 0) put.sequence) f six;
+      };
+    })))))
+
+at_least : (a b : ℤ) → int_le a b ≡ true → a ≤ℤ b
+at_least a b e = record { le = known (int_le a b) e }
+  where
+    known : (t : Bool) → t ≡ true → T t
+    known true e = tt
+    known false e = absurd cc
 
 -- the signed name is that of the name
 signed_held : (put : PutEntry) (name : PathName) → Holds (λ signed_name. signed_name ≡ name) (signed_name_of put name)
@@ -153,9 +151,19 @@ whole_held (Some attr) = of_mark attr.kind attr.incomplete
     of_mark kind true = record { at = λ k e. absurd cc }
     of_mark kind false = Holds-ok (λ (k : Kind). ◌≡◌ {A = Option Attr} (Some (whole_attr kind)) (Some (whole_attr k))) kind refl
 
-kind_held : (put : PutEntry) (name : PathName) → Holds (λ kind. attr_of put.attr ≡ Some (whole_attr kind)) (kind_of put name)
+-- a kind, and a packing that it may have
+abbrev KindFits : PutEntry → PathName → Kind → Type 0
+KindFits put name kind = (attr_of put.attr ≡ Some (whole_attr kind)) × (packing_fits (Some (whole_attr kind)) name put.packing ≡ true)
+
+kind_held : (put : PutEntry) (name : PathName) → Holds (KindFits put name) (kind_of put name)
 unfolding kind_of
-kind_held put name = Holds-then (λ (kind : Kind). attr_of put.attr ≡ Some (whole_attr kind)) _ _ (λ packed is. whole_held (attr_of put.attr))
+kind_held put name =
+    Holds-then (KindFits put name) (rule what.Packing (packing_fits (attr_of put.attr) name put.packing)) (λ packed. whole_kind (attr_of put.attr)) (λ packed is. record {
+      at = λ kind e.
+          let marked = (whole_held (attr_of put.attr)).at kind e in
+          let fits = rule_held what.Packing (packing_fits (attr_of put.attr) name put.packing) packed is in
+          (marked, subst (λ (attr : Option Attr). packing_fits attr name put.packing ≡ true) marked fits);
+    })
 
 -- what is given once the link, the kind and so on are known
 abbrev with_link : PutEntry → PathName → PathName → List ℕ → Kind → Option PathName → Result Checked EntryFault
@@ -189,23 +197,47 @@ with_name put user name = signed_name_of put name >>= with_signed_name put user 
 
 -- the entry, of all that the rules gave
 all_held : (put : PutEntry) (user : List ℕ) (name signed_name : PathName) (writer : List ℕ) (kind : Kind) (link : Option PathName)
-    → path_of put.name ≡ Ok name → signed_name ≡ name → writer ≡ user → attr_of put.attr ≡ Some (whole_attr kind) → HasItsLink kind link → IsLinkText put.link link → Holds (IsChecked put user) (with_link put name signed_name writer kind link)
+    → path_of put.name ≡ Ok name → signed_name ≡ name → writer ≡ user → KindFits put name kind → HasItsLink kind link → IsLinkText put.link link → Holds (IsChecked put user) (with_link put name signed_name writer kind link)
 all_held put user name signed_name writer kind link named signed written marked linked link_text =
     Holds-then (IsChecked put user) (content_rules put kind name) _ (λ content content_is.
-    Holds-ok (IsChecked put user) _ (record {
-      spelled = record { link = linked; addresses = blocks_kept kind put.blocks ((blocks_held put kind name).at content content_is) };
-      attr = marked;
-      whole = refl;
-      sequence = refl;
-      given = refl;
-      name = named;
+    let fits = (content_held put kind name).at content content_is in
+    let entry : Entry = record {
+      signed_name = signed_name;
+      packing = put.packing;
+      time = put.time;
+      blocks = put.blocks;
+      packdata = put.packdata;
+      link = link;
+      writer = writer;
+      name = name;
+      attr = whole_attr kind;
+      sequence = 0;
+    } in
+    let form : HasFixedForm entry = record {
       signed_name = signed;
+      packing = marked.1;
+      whole = refl;
+      link = linked;
+      blocks = fits.blocks;
+      packdata = fits.packdata;
+      root = fits.root;
+      control = fits.control;
+      control_size = fits.control_size;
+    } in
+    Holds-ok (IsChecked put user) _ (record {
+      form = form;
+      spelled = form_spelled entry form;
+      name = named;
       writer = written;
+      attr = marked.0;
       link = link_text;
       blocks = refl;
       packdata = refl;
       packing = refl;
       time = refl;
+      sequence = refl;
+      given = refl;
+      least = at_least (negsuc 0) put.sequence fits.sequence;
     }))
 
 pub checked_kept : (put : PutEntry) (user : List ℕ) → Holds (IsChecked put user) (checked_as put user)

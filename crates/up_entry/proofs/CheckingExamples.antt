@@ -8,11 +8,12 @@ use Rattle.up_entry.specs.declared.entries.Block.{Block}
 use Rattle.up_entry.specs.declared.entries.Endpoint.TheVariants.{Local, Address}
 use Rattle.up_entry.specs.declared.entries.Kind.TheVariants.{File}
 use Rattle.up_entry.specs.declared.puts.PutEntry.{PutEntry}
-use Rattle.up_entry.specs.declared.what.EntryFault.TheVariants.{Invalid, OutOfMemory}
+use Rattle.up_entry.specs.declared.fault.EntryFault.TheVariants.{Invalid, OutOfMemory}
 use Rattle.up_entry.specs.declared.what.What.{What}
 use Rattle.up_entry.specs.declared.what.What.TheVariants as what
 use Rattle.up_entry.specs.Attrs.{attr_of}
-use Rattle.up_entry.specs.Checking.{checked_as, signed_name_of, writer_of, kind_of, content_rules, is_address, block_fits}
+use Rattle.up_entry.specs.Checking.{checked_as, signed_name_of, writer_of, kind_of, content_rules}
+use Rattle.up_entry.specs.Rules.{is_address, block_fits}
 
 abbrev user : List ℕ
 user = codes "a@x.example"

@@ -1,4 +1,5 @@
 mod Examples
+pub mod FixedFormLemmas
 pub mod CheckedLemmas
 mod CheckingExamples
 pub mod Blocks

@@ -1,6 +1,8 @@
 pub mod Attrs
 pub mod ControlFiles
 pub mod Showing
+pub mod Rules
+pub mod FixedForm
 pub mod Checking
 pub mod Spelling
 pub mod Reading

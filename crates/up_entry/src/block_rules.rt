@@ -2,7 +2,7 @@
 
 ghost use Rattle.std.specs.Prelude.{◌≡◌, map, nat_le, ◌&&◌};
 ghost use Rattle.std.specs.List.{list_all, sum};
-ghost use Rattle.up_entry.specs.Checking.{are_joined, block_fits, blocks_fit, control_size_fits, endpoint_fits, is_address};
+ghost use Rattle.up_entry.specs.Rules.{are_joined, block_fits, blocks_fit, control_size_fits, endpoint_fits, is_address};
 
 use crate::entries::{Block, Endpoint, Kind};
 use crate::kind_rules::is_control_file;
@@ -31,7 +31,7 @@ fn all_fit(blocks: &[Block]) -> bool
 }
 
 /// Whether a block has 1 to 1,048,576 bytes, and its store an address.
-#[tactic(auto, unfolding(crate::specs::Checking::block_fits))]
+#[tactic(auto, unfolding(crate::specs::Rules::block_fits))]
 fn block_fits(block: &Block) -> bool
     ensures { result ≡ block_fits block.now }
 {
@@ -47,9 +47,9 @@ fn endpoint_fits(endpoint: &Endpoint) -> bool
     }
 }
 
-/// Whether an address has 1 to 255 bytes from 0x21 to 0x7E.
-#[tactic(auto, unfolding(crate::specs::Checking::is_address))]
-fn is_address(address: &[u8]) -> bool
+/// Whether an address is one that a store or a directory may have: 1 to 255 bytes from 0x21 to 0x7E. It takes no memory.
+#[tactic(auto, unfolding(crate::specs::Rules::is_address))]
+pub fn is_address(address: &[u8]) -> bool
     ensures { result ≡ is_address address.now }
 {
     (1..=255).contains(&address.len()) && has_address_bytes(address)

@@ -3,15 +3,16 @@
 ghost use Rattle.std.specs.Prelude.{◌≡◌};
 ghost use Rattle.up_entry.specs.Checking.{Gives, checked_as, content_rules, kind_of, link_or, path_or, rule, signed_name_of, user_or, writer_of};
 
+use crate::attrs::attr_of;
 use crate::block_rules::{blocks_fit, control_size_fits};
-use crate::copying::{copied_blocks, copied_bytes};
+use crate::copying::copied_blocks;
 use crate::entries::{Attr, Entry, Kind};
-use crate::kind_rules::{
-    attr_of, control_fits, packdata_fits, packing_fits, root_fits, whole_kind,
-};
+use crate::fault::EntryFault;
+use crate::kind_rules::{control_fits, packdata_fits, packing_fits, root_fits, whole_kind};
 use crate::puts::{Checked, PutEntry};
-use crate::what::{EntryFault, What};
+use crate::what::What;
 use std::alloc::Global;
+use up_bytes::copy_of;
 use up_names::{NameFault, Path, User, parse_path, parse_user};
 
 /// The entry that a user hands to Put, or the first rule that it breaks:
@@ -37,7 +38,7 @@ pub fn check_entry(alloc: Global, put: &PutEntry, user: &User) -> Result<Checked
             packing: put.packing,
             time: put.time,
             blocks: copied_blocks(alloc, put.blocks.as_slice())?,
-            packdata: copied_bytes(alloc, put.packdata.as_slice())?,
+            packdata: copy_of(alloc, put.packdata.as_slice())?,
             link,
             writer,
             name,

@@ -1,6 +1,9 @@
 //! What a fetch of a block answers.
 
-use up_bytes::Bytes;
+ghost use Rattle.std.specs.Prelude.{◌≡◌};
+
+use std::alloc::AllocError;
+use up_bytes::{Bytes, copy_of};
 
 /// The answer for a block that was asked of its store.
 #[derive(Debug, Drop, PartialEq, Eq)]
@@ -11,4 +14,16 @@ pub enum Fetch {
     Missing,
     /// The store could not be asked, or failed.
     Failed,
+}
+
+impl Clone for Fetch {
+    ghost is_clone = { λ fetch copy. copy ≡ fetch };
+
+    fn clone(&self) -> Result<Fetch, AllocError> {
+        match self {
+            Fetch::Got(bytes) => Ok(Fetch::Got(copy_of(bytes.allocator(), bytes.as_slice())?)),
+            Fetch::Missing => Ok(Fetch::Missing),
+            Fetch::Failed => Ok(Fetch::Failed),
+        }
+    }
 }

@@ -1,36 +1,19 @@
 //! What the kind of an entry and its path ask for.
 
 ghost use Rattle.std.specs.Prelude.{◌≡◌};
-ghost use Rattle.up_entry.specs.Attrs.{attr_of};
-ghost use Rattle.up_entry.specs.Checking.{is_plain_only, packing_fits, whole_kind, packdata_fits, root_fits, control_fits};
+ghost use Rattle.up_entry.specs.Checking.{whole_kind};
 ghost use Rattle.up_entry.specs.ControlFiles.{is_control_file};
+ghost use Rattle.up_entry.specs.Rules.{is_plain_only, packing_fits, packdata_fits, root_fits, control_fits};
 
 use crate::entries::{Attr, Kind};
-use crate::what::{EntryFault, What};
+use crate::fault::EntryFault;
+use crate::what::What;
 use up_bytes::Bytes;
 use up_names::Path;
 use up_names::paths::Control;
 
-/// The attributes that a byte stands for: 0 a file, 1 a directory, 2 a link, and 4 more with the mark. `None` exactly for
-/// any other byte.
-#[tactic(auto, unfolding(crate::specs::Attrs::attr_of))]
-pub(crate) fn attr_of(byte: u8) -> Option<Attr>
-    ensures { result ≡ attr_of byte }
-{
-    let kind = match byte {
-        0 | 4 => Kind::File,
-        1 | 5 => Kind::Directory,
-        2 | 6 => Kind::Link,
-        _ => return None,
-    };
-    Some(Attr {
-        kind,
-        incomplete: byte >= 4,
-    })
-}
-
-/// Whether an entry is a control file: a file at an Access or a Group path.
-pub(crate) fn is_control_file(kind: Kind, path: &Path) -> bool
+/// Whether an entry of this kind at this path is a control file: a file at an Access or a Group path. It takes no memory.
+pub fn is_control_file(kind: Kind, path: &Path) -> bool
     ensures { result ≡ is_control_file kind path.now }
 {
     kind == Kind::File && path.control_kind() != Control::Ordinary

@@ -1,20 +1,22 @@
 //! What holds of the spellings of entries, their parts and records, and of how they are read, whatever the input; and of an
 //! entry that was checked.
 
-ghost use Rattle.std.specs.Prelude.{◌≡◌, ◌↔◌, ◌++◌, ℕ, List, length, Ok, true, false};
+ghost use Rattle.std.specs.Prelude.{◌≡◌, ◌↔◌, ◌++◌, ℕ, List, length, Ok, true, false, IsTrue};
 ghost use Rattle.std.specs.List.{flat_map};
 ghost use Rattle.up_bytes.specs.Forms.{IsBytes};
 ghost use Rattle.up_bytes.specs.Num.{num};
 ghost use Rattle.up_bytes.specs.Spelling.{text};
 ghost use Rattle.up_names.specs.PathNames.{canonical, IsCanonical};
+ghost use Rattle.up_entry.specs.declared.entries.Entry.{Entry};
 ghost use Rattle.up_entry.specs.declared.puts.Checked.{Checked};
 ghost use Rattle.up_entry.specs.declared.puts.PutEntry.{PutEntry};
 ghost use Rattle.up_entry.specs.declared.records.Rec.{Rec};
 ghost use Rattle.up_entry.specs.Checking.{checked_as, IsChecked};
+ghost use Rattle.up_entry.specs.FixedForm.{has_fixed_form, HasFixedForm};
 ghost use Rattle.up_entry.specs.Reading.{blocks_at, endpoint_at, entry_at, path_at, rec_at, rec_of, user_at};
 ghost use Rattle.up_entry.specs.Sequences.{AreFields};
 ghost use Rattle.up_entry.specs.Spelling as spelling;
-ghost use Rattle.up_entry.specs.Spelling.{endpoint_text, FitsBlocks, FitsEndpoint, FitsEntry, FitsRec, FitsUser, FitsWhole};
+ghost use Rattle.up_entry.specs.Spelling.{endpoint_text, FitsBlocks, FitsEndpoint, FitsEntry, FitsRec, FitsUser, FitsWhole, IsSpelled};
 
 /// Each path, user, endpoint and list of blocks has one spelling.
 pub fn parts_have_one_spelling()
@@ -36,8 +38,14 @@ pub fn records_have_one_spelling()
     ensures whole { (bytes : List ℕ) (r : Rec) → IsBytes bytes → (rec_of bytes ≡ Ok r) ↔ (FitsRec r × (bytes ≡ spelling.rec r)) }
 {}
 
-/// An entry that keeps the rules of Put keeps those of its format. It is what was handed in, under the path that it was
-/// signed for, by this user, without marks and with no sequence of its own yet.
-pub fn checked_entries_are_spelled()
+/// The form of each entry of a tree is told by its rules, one by one. An entry that has it keeps its format's rules too.
+pub fn fixed_form_is_told_by_rules()
+    ensures rules { (e : Entry) → IsTrue (has_fixed_form e) ↔ HasFixedForm e }
+    ensures spelled { (e : Entry) → HasFixedForm e → IsSpelled e }
+{}
+
+/// An entry that keeps the rules of Put has the form of each entry of a tree. It is what was handed in, under the path that
+/// it was signed for, by this user, with no sequence of its own yet.
+pub fn checked_entries_keep_each_rule()
     ensures { (put : PutEntry) (user : List ℕ) (checked : Checked) → checked_as put user ≡ Ok checked → IsChecked put user checked }
 {}

@@ -2,11 +2,14 @@
 //! user is shown of one, and how entries and the records of a tree's log are spelled in bytes.
 #![tactic(auto)]
 
+mod attrs;
 mod block_rules;
 mod checking;
 mod copying;
 mod entries;
+mod fault;
 mod fetch;
+mod forms;
 mod kind_rules;
 mod laws;
 mod puts;
@@ -16,16 +19,20 @@ mod showing;
 mod what;
 mod writing;
 
+pub use block_rules::is_address;
 pub use checking::check_entry;
 pub use entries::{Attr, Block, Endpoint, Entry, Kind, Location};
+pub use fault::EntryFault;
 pub use fetch::Fetch;
+pub use forms::has_fixed_form;
+pub use kind_rules::is_control_file;
 pub use laws::{
-    checked_entries_are_spelled, entries_have_one_spelling, parts_have_one_spelling,
-    records_have_one_spelling,
+    checked_entries_keep_each_rule, entries_have_one_spelling, fixed_form_is_told_by_rules,
+    parts_have_one_spelling, records_have_one_spelling,
 };
 pub use puts::{Checked, PutEntry};
 pub use reading::{read_blocks, read_endpoint, read_entry, read_path, read_user};
 pub use records::{Rec, read_rec, write_rec};
 pub use showing::shown;
-pub use what::{EntryFault, What};
+pub use what::What;
 pub use writing::{write_blocks, write_endpoint, write_entry};

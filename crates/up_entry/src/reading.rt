@@ -4,8 +4,8 @@ ghost use Rattle.std.specs.Prelude.{◌≡◌, IfOk, OnErr, true};
 ghost use Rattle.up_bytes.specs.Reading.{Answers, Gives};
 ghost use Rattle.up_entry.specs.Reading.{attr_at, block_at, blocks_at, canonical_path, canonical_user, endpoint_at, entry_at, heading_at, link_at, link_in, path_at, user_at};
 
+use crate::attrs::attr_of;
 use crate::entries::{Attr, Block, Endpoint, Entry, Kind, Location};
-use crate::kind_rules::attr_of;
 use std::alloc::{AllocError, Global};
 use up_bytes::{FieldFault, Reader};
 use up_lists::Items;

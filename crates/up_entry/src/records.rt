@@ -12,7 +12,7 @@ use crate::laws::records_have_one_spelling;
 use crate::reading::{read_path, take_entry};
 use crate::writing::write_entry;
 use std::alloc::{AllocError, Global};
-use up_bytes::{Bytes, FieldFault, Reader, Writer};
+use up_bytes::{Bytes, FieldFault, Reader, Writer, copy_of};
 use up_names::Path;
 
 /// A record of a tree's log.
@@ -26,6 +26,21 @@ pub enum Rec {
     Snap(u64),
 }
 
+impl Clone for Rec {
+    ghost is_clone = { λ rec copy. copy ≡ rec };
+
+    fn clone(&self) -> Result<Rec, AllocError> {
+        match self {
+            Rec::Put(entry, control) => {
+                let copy = copy_of(control.allocator(), control.as_slice())?;
+                Ok(Rec::Put(entry.clone()?, copy))
+            }
+            Rec::Delete(path) => Ok(Rec::Delete(path.clone()?)),
+            Rec::Snap(time) => Ok(Rec::Snap(*time)),
+        }
+    }
+}
+
 /// A record's bytes, in their one spelling: 01 and an entry with its text, 02 and a path, or 03 and a time.
 pub fn write_rec(alloc: Global, rec: &Rec) -> Result<Bytes, AllocError>
     ensures written { IfOk result (λ bytes. bytes ≡ spelling.rec rec.now) }
@@ -34,7 +49,7 @@ pub fn write_rec(alloc: Global, rec: &Rec) -> Result<Bytes, AllocError>
     ensures again { IfOk result (λ bytes. IsSpelledRec rec.now → rec_of bytes ≡ Ok rec.now) }
 {
     let mut out = Writer::new(alloc);
-    put_rec(rec, &mut out)?;
+    append_rec(rec, &mut out)?;
     let bytes = out.finish();
     is_read_again(rec, bytes.as_slice());
     Ok(bytes)
@@ -49,8 +64,8 @@ fn is_read_again(rec: &Rec, bytes: &[u8])
 
 /// Appends a record. A call that finds no memory may leave a part of it.
 #[tactic(auto, unfolding(crate::specs::Spelling::rec))]
-fn put_rec(rec: &Rec, out: &mut Writer) -> Result<(), AllocError>
-    ensures put { OnOk result (out.new ≡ out.old ++ spelling.rec rec.now) }
+fn append_rec(rec: &Rec, out: &mut Writer) -> Result<(), AllocError>
+    ensures appended { OnOk result (out.new ≡ out.old ++ spelling.rec rec.now) }
     ensures typed { IfOk result (λ _. IsRec rec.now) }
 {
     match rec {
@@ -74,8 +89,28 @@ fn put_rec(rec: &Rec, out: &mut Writer) -> Result<(), AllocError>
 ///
 /// The fault is `Short` where the input ends within a field, else `Spelling` with the place of the first field that is no
 /// spelling of a value that may stand there, or, behind the last field, of the first byte that is left.
-#[tactic(auto, unfolding(crate::specs::Reading::rec_of))]
 pub fn read_rec(alloc: Global, bytes: &[u8]) -> Result<Rec, FieldFault>
+    ensures exact { Gives (λ r. r) result (rec_of bytes.now) }
+
+    // The bytes are the spelling of the record that is given.
+    ensures spelled { IfOk result (λ r. bytes.now ≡ spelling.rec r) }
+    ensures fits { IfOk result (λ r. FitsRec r) }
+{
+    let rec = take_whole(alloc, bytes)?;
+    is_spelled(&rec, bytes);
+    Ok(rec)
+}
+
+/// What is read as a record has a spelling, which is what was read.
+fn is_spelled(rec: &Rec, bytes: &[u8])
+    ensures { rec_of bytes.now ≡ Ok rec.now → FitsRec rec.now × (bytes.now ≡ spelling.rec rec.now) }
+{
+    records_have_one_spelling();
+}
+
+/// Takes the record that is the whole of these bytes.
+#[tactic(auto, unfolding(crate::specs::Reading::rec_of))]
+fn take_whole(alloc: Global, bytes: &[u8]) -> Result<Rec, FieldFault>
     ensures { Gives (λ r. r) result (rec_of bytes.now) }
 {
     let mut input = Reader::new(bytes);

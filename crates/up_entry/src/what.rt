@@ -1,10 +1,5 @@
 //! What of a request is not valid.
 
-ghost use Rattle.std.specs.Prelude.{◌≡◌};
-ghost use Rattle.up_entry.specs.declared.what.EntryFault.TheVariants.{OutOfMemory};
-
-use std::alloc::{AllocError, AllocFailed};
-
 /// What of a request is malformed, of all requests.
 #[derive(Clone, Copy, Debug, PartialEq, Eq)]
 pub enum What {
@@ -45,29 +40,4 @@ pub enum What {
     SnapshotWatch,
     /// A path is no group name.
     GroupName,
-}
-
-/// Why an entry was refused.
-#[derive(Clone, Copy, Debug, PartialEq, Eq)]
-pub enum EntryFault {
-    /// The first rule that fails.
-    Invalid(What),
-    /// Want of memory.
-    OutOfMemory,
-}
-
-impl From<AllocError> for EntryFault {
-    ghost from_gives = { λ _ fault. fault ≡ OutOfMemory };
-
-    fn from(_error: AllocError) -> EntryFault {
-        EntryFault::OutOfMemory
-    }
-}
-
-impl<T: Drop> From<AllocFailed<T>> for EntryFault {
-    ghost from_gives = { λ _ fault. fault ≡ OutOfMemory };
-
-    fn from(_error: AllocFailed<T>) -> EntryFault {
-        EntryFault::OutOfMemory
-    }
 }

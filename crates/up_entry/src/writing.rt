@@ -10,7 +10,8 @@ ghost use Rattle.up_entry.specs.Attrs.{attr_byte};
 ghost use Rattle.up_entry.specs.Spelling as spelling;
 ghost use Rattle.up_entry.specs.Spelling.{endpoint_text, link_text, IsBlock, IsEntry, IsTarget};
 
-use crate::entries::{Attr, Block, Endpoint, Entry, Kind};
+use crate::attrs::attr_byte;
+use crate::entries::{Block, Endpoint, Entry};
 use std::alloc::AllocError;
 use up_bytes::Writer;
 use up_lists::Items;
@@ -24,7 +25,7 @@ pub fn write_entry(entry: &Entry, out: &mut Writer) -> Result<(), AllocError>
     ensures typed { IfOk result (λ _. IsEntry entry.now) }
 {
     let len = out.len();
-    let written = put_entry(entry, out);
+    let written = append_entry(entry, out);
     if written.is_err() {
         out.truncate(len);
     }
@@ -33,12 +34,12 @@ pub fn write_entry(entry: &Entry, out: &mut Writer) -> Result<(), AllocError>
 
 /// Appends an entry. A call that finds no memory may leave a part of it.
 #[tactic(auto, unfolding(crate::specs::Spelling::entry))]
-fn put_entry(entry: &Entry, out: &mut Writer) -> Result<(), AllocError>
-    ensures put { OnOk result (out.new ≡ out.old ++ spelling.entry entry.now) }
+fn append_entry(entry: &Entry, out: &mut Writer) -> Result<(), AllocError>
+    ensures appended { OnOk result (out.new ≡ out.old ++ spelling.entry entry.now) }
     ensures kept { take (length out.old) out.new ≡ out.old }
     ensures typed { IfOk result (λ _. IsEntry entry.now) }
 {
-    put_heading(entry, out)?;
+    append_heading(entry, out)?;
     out.text(link_text(&entry.link))?;
     out.text(entry.packdata.as_slice())?;
     write_blocks(&entry.blocks, out)?;
@@ -46,8 +47,8 @@ fn put_entry(entry: &Entry, out: &mut Writer) -> Result<(), AllocError>
 }
 
 /// Appends what stands in front of an entry's link. A call that finds no memory may leave a part of it.
-fn put_heading(entry: &Entry, out: &mut Writer) -> Result<(), AllocError>
-    ensures put { let e = entry.now in
+fn append_heading(entry: &Entry, out: &mut Writer) -> Result<(), AllocError>
+    ensures appended { let e = entry.now in
         OnOk result (out.new ≡ out.old ++ text (canonical e.name) ++ text (canonical e.signed_name) ++ byte e.packing ++ int e.time ++ text e.writer ++ byte (attr_byte e.attr)) }
     ensures kept { take (length out.old) out.new ≡ out.old }
     ensures typed { let e = entry.now in
@@ -59,18 +60,6 @@ fn put_heading(entry: &Entry, out: &mut Writer) -> Result<(), AllocError>
     out.int(entry.time)?;
     out.text(entry.writer.text().as_bytes())?;
     out.byte(attr_byte(entry.attr))
-}
-
-/// The byte of an entry's attributes.
-fn attr_byte(attr: Attr) -> u8
-    ensures { result ≡ attr_byte attr }
-{
-    let kind = match attr.kind {
-        Kind::File => 0,
-        Kind::Directory => 1,
-        Kind::Link => 2,
-    };
-    if attr.incomplete { kind + 4 } else { kind }
 }
 
 /// The text of a link's target, empty where there is none.
@@ -92,7 +81,7 @@ pub fn write_blocks(blocks: &Items<Block>, out: &mut Writer) -> Result<(), Alloc
     ensures typed { IfOk result (λ _. IsU64 (length blocks.now) × AllByRecursion IsBlock blocks.now) }
 {
     let len = out.len();
-    let written = put_blocks(blocks, out);
+    let written = append_blocks(blocks, out);
     if written.is_err() {
         out.truncate(len);
     }
@@ -100,8 +89,8 @@ pub fn write_blocks(blocks: &Items<Block>, out: &mut Writer) -> Result<(), Alloc
 }
 
 /// Appends the number of blocks and the blocks. A call that finds no memory may leave a part of them.
-fn put_blocks(blocks: &Items<Block>, out: &mut Writer) -> Result<(), AllocError>
-    ensures put { OnOk result (out.new ≡ out.old ++ num (length blocks.now) ++ flat_map spelling.block blocks.now) }
+fn append_blocks(blocks: &Items<Block>, out: &mut Writer) -> Result<(), AllocError>
+    ensures appended { OnOk result (out.new ≡ out.old ++ num (length blocks.now) ++ flat_map spelling.block blocks.now) }
     ensures kept { take (length out.old) out.new ≡ out.old }
     ensures typed { IfOk result (λ _. IsU64 (length blocks.now) × AllByRecursion IsBlock blocks.now) }
 {
@@ -118,7 +107,7 @@ fn write_block(block: &Block, out: &mut Writer) -> Result<(), AllocError>
     ensures typed { IfOk result (λ _. IsBlock block.now) }
 {
     let len = out.len();
-    let written = put_block(block, out);
+    let written = append_block(block, out);
     if written.is_err() {
         out.truncate(len);
     }
@@ -127,8 +116,8 @@ fn write_block(block: &Block, out: &mut Writer) -> Result<(), AllocError>
 
 /// Appends a block. A call that finds no memory may leave a part of it.
 #[tactic(auto, unfolding(crate::specs::Spelling::block))]
-fn put_block(block: &Block, out: &mut Writer) -> Result<(), AllocError>
-    ensures put { OnOk result (out.new ≡ out.old ++ spelling.block block.now) }
+fn append_block(block: &Block, out: &mut Writer) -> Result<(), AllocError>
+    ensures appended { OnOk result (out.new ≡ out.old ++ spelling.block block.now) }
     ensures kept { take (length out.old) out.new ≡ out.old }
     ensures typed { IfOk result (λ _. IsBlock block.now) }
 {

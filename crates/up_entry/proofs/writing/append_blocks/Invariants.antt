@@ -3,10 +3,10 @@ use Rattle.std.proofs.Common.{◌≡◌, ◌++◌, take}
 use Rattle.std.specs.List.{flat_map, AllByRecursion}
 use Rattle.up_entry.specs.Spelling as spelling
 use Rattle.up_entry.specs.Spelling.{IsBlock}
-use Rattle.up_entry.proofs.writing.put_blocks.Given as goal
+use Rattle.up_entry.proofs.writing.append_blocks.Given as goal
 
 abbrev pub invariant-loop-block : goal.invariant-loop-block
 invariant-loop-block l = record {
-  put : l.out ≡ l.initial.out ++ flat_map spelling.block (take l.block-index l.blocks);
+  appended : l.out ≡ l.initial.out ++ flat_map spelling.block (take l.block-index l.blocks);
   typed : AllByRecursion IsBlock (take l.block-index l.blocks);
 }
