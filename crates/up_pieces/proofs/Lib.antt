@@ -1,0 +1,4 @@
+pub mod Finds
+pub mod Flats
+pub mod Lists
+pub mod Moves
