@@ -7,7 +7,7 @@ use Rattle.std.proofs.lemmas.Bool.{and_parts, and_from, not_from_false, not_from
 use Rattle.std.proofs.lemmas.Str.{is_utf8-from_IsUtf8}
 use Rattle.std.proofs.lemmas.Slice.Eq.{bytes_eq-Decides}
 use Rattle.up_names.specs.PathNames.{PathName, is_slash, is_skipped, is_up, is_allowed_byte, is_element, is_name, cleaned, staying, pieces_of, first_bad, path_from, path_of, canonical, IsCanonical}
-use Rattle.up_names.specs.PathParts.{elements_behind, read_off}
+use Rattle.up_names.specs.PathParts.{elements_behind, path_in, read_off}
 use Rattle.up_names.specs.UserNames.{user_of}
 use Rattle.up_names.specs.declared.faults.NameFault.{NameFault}
 use Rattle.up_names.specs.declared.faults.NameFault.TheVariants.{TooLong, Element}
@@ -189,6 +189,13 @@ elements-read path p =
 
 pub read_off-canonical : (path : PathName) → IsProper path → read_off path.owner (canonical path) ≡ path
 read_off-canonical path p = ap (λ elements. record { owner = path.owner; elements = elements }) (elements-read path p)
+
+-- a canonical text says whose path it is
+pub path_in-canonical : (path : PathName) → IsCanonical path → path_in (canonical path) ≡ path
+path_in-canonical path c =
+    let p = canonical-proper path c in
+    ap (λ owner. read_off owner (canonical path)) (before_first-at is_slash path.owner 47 (joined_text path.elements) (no_slash path.owner path.owner p.owner) refl)
+    ∙ read_off-canonical path p
 
 -- canonical paths with one text are one path
 pub canonical-injective : (p q : PathName) → IsProper p → IsProper q → canonical p ≡ canonical q → p ≡ q

@@ -1,6 +1,6 @@
 -- How a path is kept: its owner, its canonical text, and the places where its elements end (this project's own).
 use Rattle.std.specs.Prelude.{◌≡◌, ℕ, zero, suc, ◌+◌, ◌-◌, if◌then◌else◌, List, [], ◌∷◌, length}
-use Rattle.std.specs.List.{after_first, slice_split}
+use Rattle.std.specs.List.{after_first, before_first, slice_split}
 use Rattle.up_names.specs.PathNames.{PathName, is_slash, IsCanonical, is_skipped, is_up, canonical, cut, extended}
 
 -- what stands between the slashes behind the owner; nothing stands there at a root
@@ -11,6 +11,10 @@ elements_behind (b ∷ rest) = slice_split is_slash (b ∷ rest)
 -- the path of an owner and a canonical text
 abbrev pub read_off : List ℕ → List ℕ → PathName
 read_off owner text = record { owner = owner; elements = elements_behind (after_first is_slash text) }
+
+-- the path whose canonical text this is
+abbrev pub path_in : List ℕ → PathName
+path_in text = read_off (before_first is_slash text) text
 
 -- the places where the elements of a text end, the first of which begins at `place`
 abbrev pub ends_from : ℕ → List (List ℕ) → List ℕ

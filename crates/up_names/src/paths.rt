@@ -105,6 +105,29 @@ impl Path {
         self.text.clone()
     }
 
+    /// The canonical text of the first `n` elements, which is a front of the path's own; so `front(0)` is that of the root.
+    pub fn front(&self, n: u64) -> &str
+        requires { n ≤ length self.now.elements }
+        ensures text { result.now ≡ canonical (cut n self.now) }
+
+        // The texts parse to these paths.
+        ensures again { path_of (canonical self.now) ≡ Ok self.now }
+        ensures front_again { path_of (canonical (cut n self.now)) ≡ Ok (cut n self.now) }
+    {
+        let end = self.front_len(n as usize);
+        &self.text[..end]
+    }
+
+    /// The canonical text, in the memory that the path had.
+    pub fn into_text(self) -> String
+        ensures text { string_bytes result ≡ canonical self }
+
+        // The text parses to this path.
+        ensures again { path_of (canonical self) ≡ Ok self }
+    {
+        self.text
+    }
+
     /// The element at place `i`, from 0, or `None` exactly where `i` is at least the length.
     pub fn element(&self, i: u64) -> Option<&str>
         ensures { option_copied result ≡ slice_get self.now.elements i }
@@ -171,7 +194,7 @@ impl Path {
         ensures { result ≡ is_under self.now other.now }
     {
         let len = other.len();
-        len <= self.len() && self.front(len as usize) == other.as_str()
+        len <= self.len() && self.front(len) == other.as_str()
     }
 
     /// What kind of file the path is for. It takes no memory.
@@ -212,16 +235,6 @@ impl Path {
             Some(first) => first == "Group",
             None => false,
         }
-    }
-
-    /// The canonical text of the first `n` elements.
-    fn front(&self, n: usize) -> &str
-        requires { n ≤ length self.now.elements }
-        ensures text { result.now ≡ canonical (cut n self.now) }
-        ensures again { path_of (canonical self.now) ≡ Ok self.now }
-    {
-        let end = self.front_len(n);
-        &self.text[..end]
     }
 
     /// How many bytes the canonical text of the first `n` elements has.

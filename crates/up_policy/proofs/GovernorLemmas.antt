@@ -6,7 +6,7 @@ use Rattle.std.proofs.lemmas.Bool.{cases_lt, cases_order}
 use Rattle.std.proofs.lemmas.List.{take-take, take_all, length-take-le}
 use Rattle.up_names.specs.PathNames.{PathName, cut}
 use Rattle.up_access.specs.declared.Rule.{Rule}
-use Rattle.up_policy.specs.Trees.{TreeFacts, owns_snapshots}
+use Rattle.up_policy.specs.Trees.{AccessTexts, TreeFacts, owns_snapshots}
 use Rattle.up_policy.specs.Governors.{Governs, IsGovernor, prefixes_to, prefixes, first_text, governor}
 
 module _ (access : PathName → Option (List Rule)) (path : PathName) where
@@ -75,57 +75,9 @@ pub governor_is_one : (tree : TreeFacts) (path : PathName) (text : Option (List 
 unfolding governor
 governor_is_one tree path text = governor_by (owns_snapshots tree.owner) tree.access path text
 
--- on the way up
-
-le_self : (n : ℕ) → n ≤ n
-le_self n = omega arith
-
-whole_cut : (path : PathName) → cut (length path.elements) path ≡ path
-whole_cut path = ap (λ elements. record { owner = path.owner; elements = elements }) (take_all (length path.elements) path.elements (le_self (length path.elements)))
-
--- the prefixes of a prefix
-prefixes_of_cut : (n m : ℕ) (path : PathName) → n ≤ m → prefixes_to n (cut m path) ≡ prefixes_to n path
-prefixes_of_cut zero m path le = ap (λ elements. record { owner = path.owner; elements = elements } ∷ []) (take-take 0 m path.elements le)
-prefixes_of_cut (suc n) m path le =
-    ap (λ dirs. cut (suc n) (cut m path) ∷ dirs) (prefixes_of_cut n m path (omega arith))
-    ∙ ap (λ elements. record { owner = path.owner; elements = elements } ∷ prefixes_to n path) (take-take (suc n) m path.elements le)
-
-module _ (access : PathName → Option (List Rule)) where
-  -- what the prefixes of fewer elements have
-  abbrev behind : ℕ → PathName → Option (List Rule)
-  behind zero path = None
-  behind (suc n) path = first_text access (prefixes_to n path)
-
-  first_or_behind : (n : ℕ) (path : PathName) → first_text access (prefixes_to n path) ≡ option_or (access (cut n path)) (behind n path)
-  first_or_behind zero path = refl
-  first_or_behind (suc n) path = refl
-
-  path_or_behind : (path : PathName) → first_text access (prefixes path) ≡ option_or (access path) (behind (length path.elements) path)
-  path_or_behind path =
-      first_or_behind (length path.elements) path ∙ ap (λ dir. option_or (access dir) (behind (length path.elements) path)) (whole_cut path)
-
-  -- the path has a text
-  pub first_text_here : (path : PathName) (text : List Rule) → access path ≡ Some text → first_text access (prefixes path) ≡ Some text
-  first_text_here path text h =
-      path_or_behind path ∙ ap (λ found. option_or found (behind (length path.elements) path)) h
-
-  -- the path has none, and it is a root
-  pub first_text_root : (path : PathName) → access path ≡ None → length path.elements ≡ 0 → first_text access (prefixes path) ≡ None
-  first_text_root path h root =
-      path_or_behind path
-      ∙ (ap (λ found. option_or found (behind (length path.elements) path)) h ∙ ap (λ n. behind n path) root)
-
-  up_from : (path : PathName) (n : ℕ) → length path.elements ≡ n → 0 < n → behind n path ≡ first_text access (prefixes (cut (n - 1) path))
-  up_from path zero len some = absurd (omega arith)
-  up_from path (suc n) len some =
-      let one_less : suc n - 1 ≡ n = omega arith in
-      let short : length (take n path.elements) ≡ n = length-take-le n path.elements (omega arith) in
-      sym (ap (λ m. first_text access (prefixes (cut m path))) one_less
-      ∙ (ap (λ m. first_text access (prefixes_to m (cut n path))) short
-      ∙ ap (first_text access) (prefixes_of_cut n n path (le_self n))))
-
-  -- the path has none: the same as above it
-  pub first_text_up : (path : PathName) → access path ≡ None → 0 < length path.elements → first_text access (prefixes path) ≡ first_text access (prefixes (cut (length path.elements - 1) path))
-  first_text_up path h some =
-      path_or_behind path
-      ∙ (ap (λ found. option_or found (behind (length path.elements) path)) h ∙ up_from path (length path.elements) refl some)
+-- on the way up: a directory that has no text leaves what those above it have
+pub first_text_above : (access : AccessTexts) (path : PathName) (n : ℕ) → 0 < n → access (cut n path) ≡ None → first_text access (prefixes_to n path) ≡ first_text access (prefixes_to (n - 1) path)
+first_text_above access path zero some none = absurd (omega arith)
+first_text_above access path (suc n) some none =
+    let one_less : suc n - 1 ≡ n = omega arith in
+    ap (λ found. option_or found (first_text access (prefixes_to n path))) none ∙ ap (λ m. first_text access (prefixes_to m path)) (sym one_less)

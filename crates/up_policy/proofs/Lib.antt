@@ -1,6 +1,7 @@
 pub mod PathLists
 pub mod ReachedLemmas
 pub mod GovernorLemmas
+pub mod DirectoryLemmas
 pub mod VerdictLemmas
 pub mod LoadingLemmas
 pub mod MetLemmas

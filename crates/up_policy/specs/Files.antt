@@ -8,20 +8,20 @@ use Rattle.up_names.specs.declared.items.Item.{Item}
 use Rattle.up_names.specs.PathNames.{PathName}
 use Rattle.up_names.specs.PathOrder.{path_eq}
 use Rattle.up_names.specs.PathOrderLaws.{path_eq-Decides}
-use Rattle.up_access.specs.declared.Rule.{Rule}
+use Rattle.up_policy.specs.Directories.{AccessList, text_at}
 use Rattle.up_policy.specs.Trees.{TreeFacts}
 
 -- the owner, the directories that have an Access text, and the paths that have a Group text
 pub record Files : Type 0 where
   pub owner : List ℕ
-  pub access : List (PathName × List Rule)
+  pub access : AccessList
   pub groups : List (PathName × List Item)
 
 -- what the files say of rights
 abbrev pub facts_of : Files → TreeFacts
 facts_of files = record {
   owner = files.owner;
-  access = λ dir. lookup (path_eq dir) files.access;
+  access = text_at files.access;
   group = λ path. lookup (path_eq path) files.groups;
 }
 

@@ -4,11 +4,11 @@ use Rattle.std.specs.Prelude.{◌≡◌, ℕ, zero, suc, ◌<◌, ◌≤◌, Mat
 use Rattle.std.specs.Option.{option_or}
 use Rattle.up_names.specs.PathNames.{PathName, cut}
 use Rattle.up_access.specs.declared.Rule.{Rule}
-use Rattle.up_policy.specs.Trees.{TreeFacts, owns_snapshots}
+use Rattle.up_policy.specs.Trees.{AccessTexts, TreeFacts, owns_snapshots}
 
 -- The text is that of the longest prefix of the path, the path itself included, that has one; there is none exactly
 -- where no prefix has one.
-abbrev pub Governs : (PathName → Option (List Rule)) → PathName → Option (List Rule) → Type 0
+abbrev pub Governs : AccessTexts → PathName → Option (List Rule) → Type 0
 Governs access path None = (n : ℕ) → n ≤ length path.elements → access (cut n path) ≡ None
 Governs access path (Some text) = (n : ℕ) × (n ≤ length path.elements) × (access (cut n path) ≡ Some text)
     × ((m : ℕ) → n < m → m ≤ length path.elements → access (cut m path) ≡ None)
@@ -27,7 +27,7 @@ abbrev pub prefixes : PathName → List PathName
 prefixes path = prefixes_to (length path.elements) path
 
 -- the text of the first of these directories that has one
-abbrev pub first_text : (PathName → Option (List Rule)) → List PathName → Option (List Rule)
+abbrev pub first_text : AccessTexts → List PathName → Option (List Rule)
 first_text access [] = None
 first_text access (dir ∷ dirs) = option_or (access dir) (first_text access dirs)
 

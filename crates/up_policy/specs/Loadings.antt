@@ -15,10 +15,14 @@ text_in Missing = None
 text_in (BadText line) = None
 text_in Failed = None
 
+-- a loading: names of groups, each with the answer of its load
+abbrev pub Loading : Type 0
+Loading = List (PathName × LoadAnswer)
+
 -- the answer of a loading for a name
-abbrev pub answer_for : List (PathName × LoadAnswer) → PathName → Option LoadAnswer
+abbrev pub answer_for : Loading → PathName → Option LoadAnswer
 answer_for loaded name = lookup (path_eq name) loaded
 
 -- the text that a loading has for a group
-abbrev pub loaded_text : List (PathName × LoadAnswer) → PathName → Option (List Item)
+abbrev pub loaded_text : Loading → PathName → Option (List Item)
 loaded_text loaded group = option_and_then text_in (answer_for loaded group)

@@ -6,12 +6,11 @@ use Rattle.up_names.specs.declared.items.Item.{Item}
 use Rattle.up_names.specs.declared.items.Item.TheVariants.{Everyone, Domain, User, Group}
 use Rattle.up_names.specs.UserNames.{domain_part}
 use Rattle.up_names.specs.PathNames.{PathName}
-use Rattle.up_policy.specs.declared.load_answer.LoadAnswer.{LoadAnswer}
-use Rattle.up_policy.specs.Trees.{TreeFacts}
-use Rattle.up_policy.specs.Loadings.{loaded_text}
+use Rattle.up_policy.specs.Trees.{GroupTexts, TreeFacts}
+use Rattle.up_policy.specs.Loadings.{Loading, loaded_text}
 
 -- the text of a group: the tree's own for a group of the tree's owner, and for any other the text that was loaded
-abbrev pub text_of : TreeFacts → List (PathName × LoadAnswer) → PathName → Option (List Item)
+abbrev pub text_of : TreeFacts → Loading → PathName → Option (List Item)
 text_of tree loaded group = if bytes_eq group.owner tree.owner then tree.group group else loaded_text loaded group
 
 -- an item that is the user, the user's domain or everyone
@@ -33,23 +32,23 @@ abbrev pub groups_in : List Item → List PathName
 groups_in items = filter_map group_in items
 
 -- the items of the text of a group; none where it has no text
-abbrev pub items_in : (PathName → Option (List Item)) → PathName → List Item
+abbrev pub items_in : GroupTexts → PathName → List Item
 items_in texts group = unwrap_or (texts group) []
 
 -- the groups that the text of a group names, in order
-abbrev pub names_in : (PathName → Option (List Item)) → PathName → List PathName
+abbrev pub names_in : GroupTexts → PathName → List PathName
 names_in texts group = groups_in (items_in texts group)
 
 -- whether the text of a group names the user, the user's domain or everyone
-abbrev pub has_user : (PathName → Option (List Item)) → List ℕ → PathName → Bool
+abbrev pub has_user : GroupTexts → List ℕ → PathName → Bool
 has_user texts user group = list_any (is_user user) (items_in texts group)
 
 -- A list of groups, the first and those behind it, that shows that the user belongs to the first: the text of each but
 -- the last names the next, and the text of the last names the user, the user's domain or everyone.
-abbrev pub Chain : (PathName → Option (List Item)) → List ℕ → PathName → List PathName → Type 0
+abbrev pub Chain : GroupTexts → List ℕ → PathName → List PathName → Type 0
 Chain texts user first [] = IsTrue (has_user texts user first)
 Chain texts user first (next ∷ behind) = Contains (names_in texts first) next × Chain texts user next behind
 
 -- The user belongs to the group: there is such a list that begins with it. A cycle of groups adds nobody.
-abbrev pub IsMember : (PathName → Option (List Item)) → List ℕ → PathName → Type 0
+abbrev pub IsMember : GroupTexts → List ℕ → PathName → Type 0
 IsMember texts user group = (behind : List PathName) × Chain texts user group behind

@@ -2,6 +2,7 @@
 ghost use Rattle.std.specs.Prelude.{◌≡◌, List, IsSome, Contains};
 ghost use Rattle.std.specs.Option.{option_copied};
 ghost use Rattle.up_names.specs.PathNames.{PathName};
+ghost use Rattle.up_policy.specs.Governors.{first_text, prefixes};
 ghost use Rattle.up_policy.specs.Trees.{TreeFacts};
 
 use up_access::AccessText;
@@ -23,6 +24,11 @@ pub trait Facts {
     /// The text of the Access file in a directory, where there is one.
     fn access(&self, dir: &Path) -> Option<&AccessText>
         ensures { option_copied result ≡ (tree self.now).access dir.now };
+
+    /// The text of the Access file in the nearest directory that has one, on the way from the path, itself included, to
+    /// the root; none exactly where no directory on that way has one.
+    fn nearest(&self, path: &Path) -> Option<&AccessText>
+        ensures { option_copied result ≡ first_text (tree self.now).access (prefixes path.now) };
 
     /// The text of the Group file at a path, where there is one. At another owner's path there is none.
     fn group(&self, path: &Path) -> Option<&GroupText>

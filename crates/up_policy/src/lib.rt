@@ -1,6 +1,7 @@
 //! Who may do what: the evaluator of rights, over any facts of a tree and what was loaded of the groups of others.
 #![tactic(auto)]
 
+mod directories;
 mod facts;
 mod governors;
 pub mod laws;

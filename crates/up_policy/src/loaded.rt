@@ -10,35 +10,40 @@ ghost use Rattle.up_policy.specs.Loadings.{answer_for, loaded_text};
 use crate::load_answer::LoadAnswer;
 use indexmap::IndexMap;
 use std::alloc::{AllocError, Global};
+use std::hash::RandomState;
 use std::marker::Model;
 use up_group::GroupText;
 use up_names::Path;
 
 /// What was loaded in one call: names of groups, all different, each with the answer of its load, in the order in which
-/// they were added. It keeps the allocator that it was made with. An answer is found without a walk over the names.
+/// they were added. It keeps the allocator and the hash keys that it was made with. An answer is found without a walk over
+/// the names.
 #[derive(Drop)]
 pub struct Loaded {
-    answers: IndexMap<Path, LoadAnswer>,
+    answers: IndexMap<Path, LoadAnswer, RandomState>,
 }
 
 impl Model for Loaded {
-    ghost use Rattle.std.specs.Prelude.{List};
-    ghost use Rattle.up_names.specs.PathNames.{PathName};
-    ghost use Rattle.up_policy.specs.declared.load_answer.LoadAnswer.{LoadAnswer};
+    ghost use Rattle.up_policy.specs.Loadings.{Loading};
 
-    ghost Value = { List (PathName × LoadAnswer) };
+    ghost Value = { Loading };
 
     ghost view = { λ loaded. loaded.answers.entries };
 }
 
 impl Loaded {
     /// Nothing loaded. It takes no memory.
-    pub fn new(alloc: Global) -> Loaded
+    pub fn new(alloc: Global, random: RandomState) -> Loaded
         ensures { result ≡ [] }
     {
         Loaded {
-            answers: IndexMap::new(alloc),
+            answers: IndexMap::with_hasher(alloc, random),
         }
+    }
+
+    /// The hash keys that it was made with.
+    pub(crate) fn random(&self) -> RandomState {
+        *self.answers.hasher()
     }
 
     /// The number of names.

@@ -5,21 +5,23 @@ ghost use Rattle.indexmap.specs.IndexMap.{insert_entry};
 ghost use Rattle.up_names.specs.PathOrder.{path_eq};
 ghost use Rattle.up_policy.specs.Files.{facts_of, group_listed};
 
+use crate::directories::Directories;
 use crate::facts::Facts;
 use indexmap::IndexMap;
 use std::alloc::{AllocError, Global};
+use std::hash::RandomState;
 use std::marker::Model;
 use up_access::AccessText;
 use up_group::GroupText;
 use up_names::{Path, User};
 
 /// The files of a tree that say who may do what: the Access texts by their directories, and the Group texts by their
-/// paths. It keeps the allocator that it was made with. A text is found without a walk over all.
+/// paths. It keeps the allocator and the hash keys that it was made with. A text is found without a walk over all.
 #[derive(Drop)]
 pub struct MapFacts {
     owner: User,
-    access: IndexMap<Path, AccessText>,
-    groups: IndexMap<Path, GroupText>,
+    access: Directories,
+    groups: IndexMap<Path, GroupText, RandomState>,
 }
 
 impl Model for MapFacts {
@@ -27,18 +29,18 @@ impl Model for MapFacts {
 
     ghost Value = { Files };
 
-    ghost view = { λ facts. record { owner = facts.owner; access = facts.access.entries; groups = facts.groups.entries } };
+    ghost view = { λ facts. record { owner = facts.owner; access = facts.access; groups = facts.groups.entries } };
 }
 
 impl MapFacts {
     /// A tree without a file. It takes no memory.
-    pub fn new(alloc: Global, owner: User) -> MapFacts
+    pub fn new(alloc: Global, random: RandomState, owner: User) -> MapFacts
         ensures { result ≡ record { owner = owner; access = []; groups = [] } }
     {
         MapFacts {
             owner,
-            access: IndexMap::new(alloc),
-            groups: IndexMap::new(alloc),
+            access: Directories::new(alloc, random),
+            groups: IndexMap::with_hasher(alloc, random),
         }
     }
 
@@ -47,8 +49,7 @@ impl MapFacts {
     pub fn set_access(&mut self, dir: Path, text: AccessText) -> Result<(), AllocError>
         ensures { self.new ≡ (if is_ok result then record self.old { access = insert_entry path_eq self.old.access dir text } else self.old) }
     {
-        self.access.insert(dir, text)?;
-        Ok(())
+        self.access.set(dir, text)
     }
 
     /// Sets the text of the Group file at a path. It takes the place of the one that is there. An `Err` changes nothing.
@@ -71,6 +72,10 @@ impl Facts for MapFacts {
 
     fn access(&self, dir: &Path) -> Option<&AccessText> {
         self.access.get(dir)
+    }
+
+    fn nearest(&self, path: &Path) -> Option<&AccessText> {
+        self.access.nearest(path)
     }
 
     fn group(&self, path: &Path) -> Option<&GroupText> {

@@ -7,6 +7,7 @@ ghost use Rattle.up_policy.specs.Verdicts.{items_by, items_for};
 
 use indexmap::IndexSet;
 use std::alloc::{AllocError, Global};
+use std::hash::RandomState;
 use std::marker::Model;
 use up_access::Rule;
 use up_names::{Item, Path};
@@ -16,7 +17,7 @@ use up_rights::Right;
 /// one that was met is found without a walk over all.
 #[derive(Drop)]
 pub(crate) struct Met<'a> {
-    groups: IndexSet<&'a Path>,
+    groups: IndexSet<&'a Path, RandomState>,
 }
 
 impl<'a> Model for Met<'a> {
@@ -30,11 +31,11 @@ impl<'a> Model for Met<'a> {
 
 impl<'a> Met<'a> {
     /// No group. It takes no memory.
-    pub(crate) fn new(alloc: Global) -> Met<'a>
+    pub(crate) fn new(alloc: Global, random: RandomState) -> Met<'a>
         ensures { result ≡ [] }
     {
         Met {
-            groups: IndexSet::new(alloc),
+            groups: IndexSet::with_hasher(alloc, random),
         }
     }
 

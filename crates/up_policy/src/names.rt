@@ -7,13 +7,15 @@ ghost use Rattle.up_policy.specs.Reached.{with_path};
 
 use indexmap::IndexSet;
 use std::alloc::{AllocError, Global};
+use std::hash::RandomState;
 use std::marker::Model;
 use up_names::Path;
 
-/// Names of groups in order of first mention, without repeats. It keeps the allocator that it was made with.
+/// Names of groups in order of first mention, without repeats. It keeps the allocator and the hash keys that it was made
+/// with.
 #[derive(Drop)]
 pub struct Names {
-    names: IndexSet<Path>,
+    names: IndexSet<Path, RandomState>,
 }
 
 impl Model for Names {
@@ -27,11 +29,11 @@ impl Model for Names {
 
 impl Names {
     /// No names. It takes no memory.
-    pub fn new(alloc: Global) -> Names
+    pub fn new(alloc: Global, random: RandomState) -> Names
         ensures { result ≡ [] }
     {
         Names {
-            names: IndexSet::new(alloc),
+            names: IndexSet::with_hasher(alloc, random),
         }
     }
 

@@ -33,7 +33,7 @@ pub fn needs<F: Facts>(
     ensures added { OnOk result (out.new ≡ with_paths out.old (needed (F.tree facts.now) (F.group_paths facts.now) loaded.now path.now)) }
     ensures part { OnErr result (AddsPart out.old out.new (needed (F.tree facts.now) (F.group_paths facts.now) loaded.now path.now)) }
 {
-    match governor(facts, path)? {
+    match governor(facts, path) {
         Some(text) => add_needed(alloc, facts, loaded, text.rules(), out),
         None => Ok(()),
     }
@@ -50,7 +50,7 @@ fn add_needed<F: Facts>(
     ensures added { OnOk result (out.new ≡ with_paths out.old (needed_by (F.tree facts.now) (F.group_paths facts.now) loaded.now rules.now)) }
     ensures part { OnErr result (AddsPart out.old out.new (needed_by (F.tree facts.now) (F.group_paths facts.now) loaded.now rules.now)) }
 {
-    let mut met = Met::new(alloc);
+    let mut met = Met::new(alloc, loaded.random());
     met.add_named(rules)?;
     let mut next = 0;
     while let Some(group) = met.get(next) {

@@ -63,7 +63,7 @@ fn right_test<F: Facts>(
     if let Some(answer) = early {
         return Ok(answer);
     }
-    let text = governor(facts, path)?;
+    let text = governor(facts, path);
     text_decides(alloc, facts, loaded, user, right, text)
 }
 
@@ -94,7 +94,7 @@ fn rights_held<F: Facts>(
 ) -> Result<RightSet, AllocError>
     ensures { IfOk result (λ rights. rights ≡ rights_held (F.tree facts.now) (F.group_paths facts.now) loaded.now user.now path.now) }
 {
-    let text = governor(facts, path)?;
+    let text = governor(facts, path);
     let read = right_by(alloc, facts, loaded, user, Right::Read, path, text)?;
     let write = right_by(alloc, facts, loaded, user, Right::Write, path, text)?;
     let list = right_by(alloc, facts, loaded, user, Right::List, path, text)?;
@@ -227,7 +227,7 @@ fn reaches_user<F: Facts>(
     ensures { IfOk result (λ yes. yes ≡ list_any (has_user (text_of (F.tree facts.now) loaded.now) user.now)
         (reached (text_of (F.tree facts.now) loaded.now) (F.group_paths facts.now ++ keys_of loaded.now) (groups_in (items_for right rules.now)))) }
 {
-    let mut met = Met::new(alloc);
+    let mut met = Met::new(alloc, loaded.random());
     met.add_granted(rules, right)?;
     let mut next = 0;
     while let Some(group) = met.get(next) {

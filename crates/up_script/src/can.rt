@@ -13,6 +13,7 @@ use crate::can_lines::turn;
 use crate::output::{Stop, finish, print};
 use crate::status::Status;
 use std::alloc::{AllocError, Global};
+use std::hash::RandomState;
 use up_ends::{ReadFault, Sink, Source, read_all, write_all};
 use up_text::next_line;
 
@@ -29,9 +30,10 @@ const USAGE: &str =
 /// It answers a status: 0 at the end of the input, 1 at the first malformed line, with `bad line N` printed last, 2 and
 /// 3 where the source or the sink failed, 4 for want of memory, 7 for an input of over 67,108,864 bytes, and 64 where
 /// the words are not `can` alone, with the usage line printed. After 2 and 7 nothing was written, after 3 and 4 a front
-/// of the text.
+/// of the text. The names that the script chooses are hashed with these keys.
 pub fn can_run<S: Source, K: Sink>(
     alloc: Global,
+    random: RandomState,
     words: &[String],
     source: &mut S,
     sink: &mut K,
@@ -53,11 +55,12 @@ pub fn can_run<S: Source, K: Sink>(
     ensures source_counts { S.faults source.old ≤ S.faults source.new }
     ensures sink_counts { K.faults sink.old ≤ K.faults sink.new }
 {
-    can_status(alloc, words, source, sink).code()
+    can_status(alloc, random, words, source, sink).code()
 }
 
 fn can_status<S: Source, K: Sink>(
     alloc: Global,
+    random: RandomState,
     words: &[String],
     source: &mut S,
     sink: &mut K,
@@ -79,7 +82,7 @@ fn can_status<S: Source, K: Sink>(
         return usage(sink);
     }
     match read_all(alloc, source, INPUT_LIMIT) {
-        Ok(input) => script_status(alloc, &input, sink),
+        Ok(input) => script_status(alloc, random, &input, sink),
         Err(ReadFault::TooLong) => Status::TooLong,
         Err(ReadFault::Failed) => Status::ReadFault,
         Err(ReadFault::OutOfMemory) => Status::OutOfMemory,
@@ -111,13 +114,13 @@ fn usage<K: Sink>(sink: &mut K) -> Status
 }
 
 /// Runs a script that was read whole, and answers how that ended.
-fn script_status<K: Sink>(alloc: Global, input: &[u8], sink: &mut K) -> Status
+fn script_status<K: Sink>(alloc: Global, random: RandomState, input: &[u8], sink: &mut K) -> Status
     ensures answers { Answers (K.held sink.old) (K.held sink.new) (answer_of (run_of input.now)) (code_of result) }
     ensures status { IsOneOf (0 ∷ 1 ∷ 3 ∷ 4 ∷ []) (code_of result) }
     ensures cause { code_of result ≡ 3 → Rose (K.faults sink.old) (K.faults sink.new) }
     ensures later { K.faults sink.old ≤ K.faults sink.new }
 {
-    match run(alloc, input, sink) {
+    match run(alloc, random, input, sink) {
         Ok(status) => status,
         Err(Stop::WriteFault) => Status::WriteFault,
         Err(Stop::OutOfMemory) => Status::OutOfMemory,
@@ -126,7 +129,12 @@ fn script_status<K: Sink>(alloc: Global, input: &[u8], sink: &mut K) -> Status
 
 /// Runs a script's lines, and prints what they say.
 #[tactic(auto, unfolding(crate::specs::CanRuns::run_of))]
-fn run<K: Sink>(alloc: Global, input: &[u8], sink: &mut K) -> Result<Status, Stop>
+fn run<K: Sink>(
+    alloc: Global,
+    random: RandomState,
+    input: &[u8],
+    sink: &mut K,
+) -> Result<Status, Stop>
     ensures whole { IfOk result (λ status. Appends (K.held sink.old) (K.held sink.new) (run_of input.now).text) }
     ensures status { IfOk result (λ status. code_of status ≡ (run_of input.now).status) }
     ensures kind { IfOk result (λ status. IsOneOf (0 ∷ 1 ∷ []) (code_of status)) }
@@ -136,12 +144,13 @@ fn run<K: Sink>(alloc: Global, input: &[u8], sink: &mut K) -> Result<Status, Sto
 {
     let mut tree = None;
     let mut gathered = Vec::new(alloc);
-    run_lines(alloc, input, &mut tree, &mut gathered, sink)
+    run_lines(alloc, random, input, &mut tree, &mut gathered, sink)
 }
 
 /// Runs lines from a tree on, and prints what they say behind what is gathered.
 fn run_lines<K: Sink>(
     alloc: Global,
+    random: RandomState,
     lines: &[u8],
     tree: &mut Option<CanFiles>,
     gathered: &mut Vec<u8>,
@@ -159,7 +168,7 @@ fn run_lines<K: Sink>(
     let mut number: u64 = 1;
     let mut rest = lines;
     while let Some((line, after)) = next_line(rest) {
-        let Some(reply) = turn(alloc, tree, line)? else {
+        let Some(reply) = turn(alloc, random, tree, line)? else {
             let last = bad_line(alloc, number)?;
             finish(sink, gathered, &last)?;
             return Ok(Status::BadLine);

@@ -3,6 +3,7 @@ ghost use Rattle.std.specs.Prelude.{◌≡◌, OnOk};
 ghost use Rattle.up_script.specs.CanFiles.{bare_tree, with_text};
 
 use std::alloc::AllocError;
+use std::hash::RandomState;
 use up_group::GroupText;
 use up_names::{Path, User};
 use up_policy::{Facts, LoadAnswer, Loaded, MapFacts};
@@ -15,14 +16,15 @@ pub struct CanFiles {
 }
 
 impl CanFiles {
-    /// A tree of this owner, without any of these files. It takes no memory.
-    pub fn new(owner: User) -> CanFiles
+    /// A tree of this owner, without any of these files. It takes no memory. The paths that lines name are hashed with
+    /// these keys.
+    pub fn new(random: RandomState, owner: User) -> CanFiles
         ensures { result ≡ bare_tree owner }
     {
         let alloc = owner.allocator();
         CanFiles {
-            tree: MapFacts::new(alloc, owner),
-            loaded: Loaded::new(alloc),
+            tree: MapFacts::new(alloc, random, owner),
+            loaded: Loaded::new(alloc, random),
         }
     }
 

@@ -10,6 +10,7 @@ ghost use Rattle.up_script.specs.CanLines.{access_dir, access_line, can_line, fi
 
 use crate::can_files::CanFiles;
 use std::alloc::{AllocError, Global};
+use std::hash::RandomState;
 use up_access::{AccessText, parse_access};
 use up_group::{GroupText, parse_group};
 use up_names::{Control, NameFault, Path, TextFault, User, parse_path, parse_user};
@@ -38,7 +39,12 @@ pub enum CanKind {
 
 /// What a line prints, or `None` where it is malformed and changes nothing. There is no tree before its `tree` line.
 #[tactic(auto, unfolding(crate::specs::CanLines::turn_of, crate::specs::CanLines::words_turn))]
-pub fn turn(alloc: Global, tree: &mut Option<CanFiles>, line: &[u8]) -> Result<Reply, AllocError>
+pub fn turn(
+    alloc: Global,
+    random: RandomState,
+    tree: &mut Option<CanFiles>,
+    line: &[u8],
+) -> Result<Reply, AllocError>
     ensures reply { IfOk result (λ reply. option_copied reply ≡ reply_of (turn_of tree.old line.now)) }
     ensures after { OnOk result (tree.new ≡ tree_after tree.old (turn_of tree.old line.now)) }
 {
@@ -47,7 +53,7 @@ pub fn turn(alloc: Global, tree: &mut Option<CanFiles>, line: &[u8]) -> Result<R
     }
     let (keyword, arguments) = cut_word(line);
     match kind_of(keyword) {
-        Some(kind) => kind_turn(alloc, tree, kind, arguments),
+        Some(kind) => kind_turn(alloc, random, tree, kind, arguments),
         None => Ok(None),
     }
 }
@@ -72,6 +78,7 @@ fn kind_of(keyword: &[u8]) -> Option<CanKind>
 
 fn kind_turn(
     alloc: Global,
+    random: RandomState,
     tree: &mut Option<CanFiles>,
     kind: CanKind,
     arguments: Option<&[u8]>,
@@ -81,7 +88,7 @@ fn kind_turn(
 {
     match tree {
         Some(files) => files_turn(alloc, files, kind, arguments),
-        None => first_turn(alloc, tree, kind, arguments),
+        None => first_turn(alloc, random, tree, kind, arguments),
     }
 }
 
@@ -89,6 +96,7 @@ fn kind_turn(
 #[tactic(auto, unfolding(crate::specs::CanLines::first_turn))]
 fn first_turn(
     alloc: Global,
+    random: RandomState,
     tree: &mut Option<CanFiles>,
     kind: CanKind,
     arguments: Option<&[u8]>,
@@ -100,7 +108,7 @@ fn first_turn(
     if kind != CanKind::Tree {
         return Ok(None);
     }
-    let Some(files) = tree_line(alloc, arguments)? else {
+    let Some(files) = tree_line(alloc, random, arguments)? else {
         return Ok(None);
     };
     *tree = Some(files);
@@ -128,7 +136,11 @@ fn files_turn(
 
 // `tree USER`
 #[tactic(auto, unfolding(crate::specs::CanLines::tree_line))]
-fn tree_line(alloc: Global, arguments: Option<&[u8]>) -> Result<Option<CanFiles>, AllocError>
+fn tree_line(
+    alloc: Global,
+    random: RandomState,
+    arguments: Option<&[u8]>,
+) -> Result<Option<CanFiles>, AllocError>
     ensures { IfOk result (λ files. files ≡ tree_line (words_left (option_copied arguments.entry))) }
 {
     let Some(word) = one_word(arguments) else {
@@ -137,7 +149,7 @@ fn tree_line(alloc: Global, arguments: Option<&[u8]>) -> Result<Option<CanFiles>
     let Some(owner) = user_named(alloc, word)? else {
         return Ok(None);
     };
-    Ok(Some(CanFiles::new(owner)))
+    Ok(Some(CanFiles::new(random, owner)))
 }
 
 // `access PATH TEXT`

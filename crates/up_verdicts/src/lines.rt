@@ -7,16 +7,22 @@ use crate::told::{
 };
 use crate::tree::Tree;
 use std::alloc::Global;
+use std::hash::RandomState;
 use up_text::{cut_word, is_silent};
 
 /// What a line answers, or `None` where it asks nothing. `tree USER` begins with a new tree; there is none before.
-pub fn turn(alloc: Global, tree: &mut Option<Tree>, line: &[u8]) -> Result<Option<String>, Fault> {
+pub fn turn(
+    alloc: Global,
+    random: RandomState,
+    tree: &mut Option<Tree>,
+    line: &[u8],
+) -> Result<Option<String>, Fault> {
     if is_silent(line) {
         return Ok(None);
     }
     let (keyword, arguments) = cut_word(line);
     if keyword == b"tree".as_slice() {
-        *tree = Some(tree_line(alloc, arguments)?);
+        *tree = Some(tree_line(alloc, random, arguments)?);
         return Ok(None);
     }
     match tree {

@@ -14,6 +14,7 @@ mod words;
 use fault::Fault;
 use lines::turn;
 use std::alloc::{AllocError, Global};
+use std::hash::RandomState;
 use std::process::ExitCode;
 use tree::Tree;
 use up_ends::{Sink, Source, StdSink, StdSource, read_all, write_all};
@@ -25,28 +26,36 @@ const INPUT_LIMIT: u64 = 1_048_576;
 fn main(rt: HostRuntime) -> ExitCode {
     let mut source = StdSource::new(rt.stdin());
     let mut sink = StdSink::new(rt.stdout());
-    match run(rt.alloc(), &mut source, &mut sink) {
+    let Ok(random) = RandomState::new(&rt) else {
+        return ExitCode::FAILURE;
+    };
+    match run(rt.alloc(), random, &mut source, &mut sink) {
         Ok(()) => ExitCode::SUCCESS,
         Err(_) => ExitCode::FAILURE,
     }
 }
 
 /// Reads all lines, and then writes them with their answers.
-fn run<S: Source, K: Sink>(alloc: Global, source: &mut S, sink: &mut K) -> Result<(), Fault> {
+fn run<S: Source, K: Sink>(
+    alloc: Global,
+    random: RandomState,
+    source: &mut S,
+    sink: &mut K,
+) -> Result<(), Fault> {
     let lines = read_all(alloc, source, INPUT_LIMIT)?;
-    let answered = answer_lines(alloc, &lines)?;
+    let answered = answer_lines(alloc, random, &lines)?;
     write_all(sink, &answered)?;
     Ok(())
 }
 
 /// Lines with their answers.
-fn answer_lines(alloc: Global, lines: &[u8]) -> Result<Vec<u8>, Fault> {
+fn answer_lines(alloc: Global, random: RandomState, lines: &[u8]) -> Result<Vec<u8>, Fault> {
     let mut tree = None;
     let mut text = Vec::new(alloc);
     let mut rest = lines;
     while let Some((line, after)) = next_line(rest) {
         text.extend_from_slice(line)?;
-        answer_line(alloc, &mut tree, line, &mut text)?;
+        answer_line(alloc, random, &mut tree, line, &mut text)?;
         text.push(b'\n')?;
         rest = after;
     }
@@ -56,11 +65,12 @@ fn answer_lines(alloc: Global, lines: &[u8]) -> Result<Vec<u8>, Fault> {
 /// Adds the answer of a line behind the text, where it has one.
 fn answer_line(
     alloc: Global,
+    random: RandomState,
     tree: &mut Option<Tree>,
     line: &[u8],
     text: &mut Vec<u8>,
 ) -> Result<(), Fault> {
-    match turn(alloc, tree, line) {
+    match turn(alloc, random, tree, line) {
         Ok(None) => {}
         Ok(Some(answer)) => add_answer(text, answer.as_str())?,
         Err(Fault::BadLine) => add_answer(text, "bad line")?,

@@ -4,14 +4,19 @@ use crate::many::{set_chain, set_pair};
 use crate::tree::Tree;
 use crate::words::{access_of, group_of, number_of, own_path, path_of, user_of};
 use std::alloc::Global;
+use std::hash::RandomState;
 use up_names::{Control, User};
-use up_policy::{Facts, LoadAnswer, Names};
+use up_policy::{Facts, LoadAnswer};
 use up_text::{cut_word, one_word, two_words};
 
 /// `tree USER`: a tree of this owner, without a file.
-pub fn tree_line(alloc: Global, arguments: Option<&[u8]>) -> Result<Tree, Fault> {
+pub fn tree_line(
+    alloc: Global,
+    random: RandomState,
+    arguments: Option<&[u8]>,
+) -> Result<Tree, Fault> {
     let owner = one_word(arguments).ok_or(Fault::BadLine)?;
-    Ok(Tree::new(alloc, user_of(alloc, owner)?))
+    Ok(Tree::new(alloc, random, user_of(alloc, owner)?))
 }
 
 /// `access PATH TEXT`: the text of the Access file at a path of the tree.
@@ -128,7 +133,7 @@ pub fn forget_line(
     if arguments.is_some() {
         return Err(Fault::BadLine);
     }
-    tree.needed = Names::new(alloc);
+    tree.forget(alloc);
     Ok(None)
 }
 

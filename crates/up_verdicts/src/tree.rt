@@ -3,6 +3,7 @@ ghost use Rattle.std.specs.Prelude.{◌≡◌};
 ghost use Rattle.up_policy.specs.Files.{facts_of};
 
 use std::alloc::{AllocError, Global};
+use std::hash::RandomState;
 use up_names::{Path, User};
 use up_policy::{Facts, LoadAnswer, Loaded, MapFacts, Names, can, needs, rights_of};
 use up_rights::{Right, RightSet};
@@ -13,16 +14,24 @@ pub struct Tree {
     pub facts: MapFacts,
     pub loaded: Loaded,
     pub needed: Names,
+    /// The keys that names are hashed with.
+    random: RandomState,
 }
 
 impl Tree {
     /// A tree of this owner without a file, with nothing loaded and nothing needed. It takes no memory.
-    pub fn new(alloc: Global, owner: User) -> Tree {
+    pub fn new(alloc: Global, random: RandomState, owner: User) -> Tree {
         Tree {
-            facts: MapFacts::new(alloc, owner),
-            loaded: Loaded::new(alloc),
-            needed: Names::new(alloc),
+            facts: MapFacts::new(alloc, random, owner),
+            loaded: Loaded::new(alloc, random),
+            needed: Names::new(alloc, random),
+            random,
         }
+    }
+
+    /// Forgets which names are needed.
+    pub fn forget(&mut self, alloc: Global) {
+        self.needed = Names::new(alloc, self.random);
     }
 
     /// Keeps what a load gave: a new name is added, and one that has an answer gets this one in its place.

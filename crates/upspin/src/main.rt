@@ -1,11 +1,15 @@
 //! The program `upspin`: it makes the real source and sink, and hands them to a command's top call.
 #![tactic(auto)]
 
+use std::hash::RandomState;
 use std::process::ExitCode;
 use std::rt::Env;
 use std::{env, io};
 use up_ends::{StdSink, StdSource};
 use up_script::can_run;
+
+/// The status where the system gives no random keys to hash names with; nothing was read or written.
+const READ_FAULT: u8 = 2;
 
 /// The status for want of memory before a command runs.
 const OUT_OF_MEMORY: u8 = 4;
@@ -19,14 +23,19 @@ fn words(rt: &(impl Env + AllocGlobal)) -> io::Result<Vec<String>> {
     Ok(words)
 }
 
-fn main(rt: HostRuntime) -> ExitCode {
-    let status = match words(&rt) {
-        Ok(words) => {
-            let mut source = StdSource::new(rt.stdin());
-            let mut sink = StdSink::new(rt.stdout());
-            can_run(rt.alloc(), &words, &mut source, &mut sink)
-        }
-        Err(_) => OUT_OF_MEMORY,
+/// Runs the command that the words name, and answers its status.
+fn status(rt: &HostRuntime) -> u8 {
+    let Ok(words) = words(rt) else {
+        return OUT_OF_MEMORY;
     };
-    ExitCode::from(status)
+    let Ok(random) = RandomState::new(rt) else {
+        return READ_FAULT;
+    };
+    let mut source = StdSource::new(rt.stdin());
+    let mut sink = StdSink::new(rt.stdout());
+    can_run(rt.alloc(), random, &words, &mut source, &mut sink)
+}
+
+fn main(rt: HostRuntime) -> ExitCode {
+    ExitCode::from(status(&rt))
 }

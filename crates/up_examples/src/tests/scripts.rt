@@ -1,5 +1,6 @@
 //! `can_run` where its ends fail, and where its words do not fit.
 use std::alloc::{AllocError, Global};
+use std::hash::RandomState;
 use std::test::Fail;
 use up_ends::{MemSink, MemSource};
 use up_lists::Items;
@@ -8,6 +9,7 @@ use up_script::can_run;
 /// What `can_run` answers for these words, and what its sink holds then; the source or the sink fails at these calls.
 fn answer(
     alloc: Global,
+    random: RandomState,
     words: &[&str],
     source_fails: &[u64],
     sink_fails: &[u64],
@@ -23,7 +25,7 @@ fn answer(
     for word in words {
         texts.push(word.to_string(alloc)?)?;
     }
-    let status = can_run(alloc, &texts, &mut source, &mut sink);
+    let status = can_run(alloc, random, &texts, &mut source, &mut sink);
     Ok((status, sink.bytes().to_vec(alloc)?))
 }
 
@@ -40,8 +42,9 @@ fn each_status_comes(rt: HostRuntime) -> Result<(), Fail> {
         (&[], none, none, 64, usage),
         (&["storm"], none, &[0], 3, ""),
     ];
+    let random = RandomState::new(&rt)?;
     for (words, source_fails, sink_fails, status, text) in table {
-        let (answered, written) = answer(rt.alloc(), words, source_fails, sink_fails)?;
+        let (answered, written) = answer(rt.alloc(), random, words, source_fails, sink_fails)?;
         assert_eq!(rt; answered, status);
         assert_eq!(rt; written.as_slice(), text.as_bytes());
     }

@@ -1,0 +1,67 @@
+-- Access texts that are kept by canonical texts are the list that is seen.
+use Rattle.std.proofs.Common.{◌≡◌, Bool, true, false, cond, ◌&&◌, List, [], ◌∷◌, refl, sym, ap, subst, ◌∙◌, ℕ, Global, Some}
+use Rattle.std.specs.List.{list_all}
+use Rattle.std.specs.Map.{lookup}
+use Rattle.std.specs.Str.{bytes_eq}
+use Rattle.std.specs.String.{string_bytes, string_eq}
+use Rattle.std.specs.declared.string.String.{String}
+use Rattle.std.proofs.lemmas.Bool.{and_parts, and_from, cond_both}
+use Rattle.std.proofs.lemmas.Bool.Decides.{same_from_decides}
+use Rattle.std.proofs.lemmas.Slice.Eq.{bytes_eq-Decides}
+use Rattle.indexmap.specs.IndexMap.{insert_entry}
+use Rattle.up_access.specs.declared.Rule.{Rule}
+use Rattle.up_names.specs.PathNames.{PathName, IsCanonical, canonical}
+use Rattle.up_names.specs.PathOrder.{path_eq}
+use Rattle.up_names.specs.PathOrderLaws.{path_eq-Decides}
+use Rattle.up_names.specs.PathParts.{path_in}
+use Rattle.up_names.proofs.PathLaws.{path_in-canonical}
+use Rattle.up_policy.specs.Directories.{are_canonical, by_path, is_canonical, text_at}
+
+-- Two canonical texts are one exactly where their paths are one.
+same_text : (path : PathName) → IsCanonical path → (text : List ℕ) → bytes_eq text (canonical (path_in text)) ≡ true → path_eq path (path_in text) ≡ bytes_eq (canonical path) text
+same_text path c text kept =
+    let written : text ≡ canonical (path_in text) = (bytes_eq-Decides text (canonical (path_in text))).0 kept in
+    let paths = path_eq-Decides path (path_in text) in
+    let texts = bytes_eq-Decides (canonical path) text in
+    same_from_decides (path_eq path (path_in text)) (bytes_eq (canonical path) text) paths (
+      λ same. sym (path_in-canonical path c) ∙ ap path_in (texts.0 same),
+      λ same. texts.1 (ap canonical same ∙ sym written),
+    )
+
+-- a look-up by the text finds what is seen at the path
+pub found_by_text : (texts : List (String Global × List Rule)) → are_canonical texts ≡ true → (path : PathName) → IsCanonical path →
+    lookup (λ key. bytes_eq (canonical path) (string_bytes key)) texts ≡ text_at (by_path texts) path
+found_by_text [] all path c = refl
+found_by_text (kept ∷ texts) all path c =
+    let both = and_parts (is_canonical kept) (are_canonical texts) all in
+    ap (λ same. cond same (Some kept.1) (lookup (λ key. bytes_eq (canonical path) (string_bytes key)) texts)) (sym (same_text path c (string_bytes kept.0) both.0))
+    ∙ ap (cond (path_eq path (path_in (string_bytes kept.0))) (Some kept.1)) (found_by_text texts both.1 path c)
+
+-- a text that is set by the canonical text of a path is set at the path
+pub set_by_text : (texts : List (String Global × List Rule)) → are_canonical texts ≡ true → (path : PathName) → IsCanonical path → (key : String Global) → string_bytes key ≡ canonical path → (rules : List Rule) →
+    by_path (insert_entry string_eq texts key rules) ≡ insert_entry path_eq (by_path texts) path rules
+set_by_text [] all path c key is rules = ap (λ p. (p, rules) ∷ []) (ap path_in is ∙ path_in-canonical path c)
+set_by_text (kept ∷ texts) all path c key is rules =
+    let both = and_parts (is_canonical kept) (are_canonical texts) all in
+    let seen : PathName × List Rule = (path_in (string_bytes kept.0), kept.1) in
+    let same : string_eq key kept.0 ≡ path_eq path seen.0 = ap (λ text. bytes_eq text (string_bytes kept.0)) is ∙ sym (same_text path c (string_bytes kept.0) both.0) in
+    ap (λ b. by_path (cond b ((kept.0, rules) ∷ texts) (kept ∷ insert_entry string_eq texts key rules))) same
+    ∙ by_cases (path_eq path seen.0) ∙ ap (λ rest. cond (path_eq path seen.0) ((seen.0, rules) ∷ by_path texts) (seen ∷ rest)) (set_by_text texts both.1 path c key is rules)
+  where
+    by_cases : (b : Bool) → by_path (cond b ((kept.0, rules) ∷ texts) (kept ∷ insert_entry string_eq texts key rules))
+        ≡ cond b ((path_in (string_bytes kept.0), rules) ∷ by_path texts) ((path_in (string_bytes kept.0), kept.1) ∷ by_path (insert_entry string_eq texts key rules))
+    by_cases true = refl
+    by_cases false = refl
+
+-- and all are kept by canonical texts still
+pub set_canonical : (texts : List (String Global × List Rule)) → are_canonical texts ≡ true → (path : PathName) → IsCanonical path → (key : String Global) → string_bytes key ≡ canonical path → (rules : List Rule) →
+    are_canonical (insert_entry string_eq texts key rules) ≡ true
+set_canonical [] all path c key is rules = and_from (is_canonical (key, rules)) true (own_text path c (string_bytes key) is) refl
+  where
+    own_text : (path : PathName) → IsCanonical path → (text : List ℕ) → text ≡ canonical path → bytes_eq text (canonical (path_in text)) ≡ true
+    own_text path c text is = (bytes_eq-Decides text (canonical (path_in text))).1 (is ∙ ap canonical (sym (ap path_in is ∙ path_in-canonical path c)))
+set_canonical (kept ∷ texts) all path c key is rules =
+    let both = and_parts (is_canonical kept) (are_canonical texts) all in
+    cond_both (string_eq key kept.0) ((kept.0, rules) ∷ texts) (kept ∷ insert_entry string_eq texts key rules) (λ set. are_canonical set ≡ true)
+    (λ _. and_from (is_canonical (kept.0, rules)) _ both.0 both.1)
+    (λ _. and_from (is_canonical kept) _ both.0 (set_canonical texts both.1 path c key is rules))

@@ -1,0 +1,17 @@
+use Rattle.std.proofs.Common.{◌≡◌, ap, ◌∙◌}
+use Rattle.std.specs.Map.{lookup}
+use Rattle.std.specs.Str.{bytes_eq}
+use Rattle.std.specs.String.{string_bytes}
+use Rattle.up_names.specs.PathNames.{cut}
+use Rattle.up_policy.specs.Directories.{text_at}
+use Rattle.up_policy.proofs.DirectoryLemmas.{found_by_text}
+use Rattle.up_policy.proofs.directories.Directories.at.Goals as goal
+
+pub returns : goal.returns
+returns c =
+    let texts = c.self.inside.texts.entries in
+    let dir = cut c.args.len c.args.path.now in
+    c.get.ensures.value
+    ∙ ap (λ text. lookup (λ key. bytes_eq text (string_bytes key)) texts) c.front.ensures.text
+    ∙ found_by_text texts c.self.invariant dir c.front.ensures.front_again
+    ∙ ap (λ seen. text_at seen dir) c.self.view_is
