@@ -1,1 +1,2 @@
 pub mod CanFolds
+pub mod Answering

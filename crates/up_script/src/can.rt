@@ -1,14 +1,12 @@
 //! `upspin can`: a script in, verdicts out.
 ghost use Rattle.std.specs.Prelude.{◌≡◌, ◌+◌, ◌-◌, ◌<◌, ◌≤◌, ◌^◌, ◌↔◌, ◌∷◌, [], ◌==◌, ◌++◌, map, false, OnOk, IfSome, IfOk, IsErrOf, IsTrue, string_bytes};
 ghost use Rattle.std.specs.List.{list_any};
-ghost use Rattle.std.specs.Io.KnownBytes.{Appends};
+ghost use Rattle.std.specs.Io.KnownBytes.{Appends, IsAtEnd};
 ghost use Rattle.up_faults.specs.Counts.{Rose};
 ghost use Rattle.up_ends.specs.Writing.{WritesPart};
-ghost use Rattle.up_text.specs.Lines.{script_lines};
-ghost use Rattle.up_script.specs.CanRuns.{bad_line, run_from, run_of};
+ghost use Rattle.up_script.specs.CanRuns.{bad_line, run_of};
 ghost use Rattle.up_script.specs.Statuses.{Answers, IsOneOf, answer_of, can_answer, code_of, input_limit, is_can, usage_line};
 
-use crate::can_files::CanFiles;
 use crate::can_lines::turn;
 use crate::output::{Stop, finish, print};
 use crate::status::Status;
@@ -31,6 +29,7 @@ const USAGE: &str =
 /// 3 where the source or the sink failed, 4 for want of memory, 7 for an input of over 67,108,864 bytes, and 64 where
 /// the words are not `can` alone, with the usage line printed. After 2 and 7 nothing was written, after 3 and 4 a front
 /// of the text. The names that the script chooses are hashed with these keys.
+#[tactic(auto, using(crate::proofs::Answering::answers_nothing))]
 pub fn can_run<S: Source, K: Sink>(
     alloc: Global,
     random: RandomState,
@@ -54,38 +53,20 @@ pub fn can_run<S: Source, K: Sink>(
     ensures unwritten { result ≡ 7 → K.held sink.new ≡ K.held sink.old }
     ensures source_counts { S.faults source.old ≤ S.faults source.new }
     ensures sink_counts { K.faults sink.old ≤ K.faults sink.new }
-{
-    can_status(alloc, random, words, source, sink).code()
-}
 
-fn can_status<S: Source, K: Sink>(
-    alloc: Global,
-    random: RandomState,
-    words: &[String],
-    source: &mut S,
-    sink: &mut K,
-) -> Status
-    ensures meaning { IfSome (S.left source.old) (λ input.
-        Answers (K.held sink.old) (K.held sink.new) (can_answer (map string_bytes words.now) input) (code_of result)) }
-    ensures usage { is_can (map string_bytes words.now) ≡ false → IsOneOf (3 ∷ 64 ∷ []) (code_of result) × (source.new ≡ source.old) }
-    ensures usage_only { code_of result ≡ 64 → is_can (map string_bytes words.now) ≡ false }
-    ensures read_fault { code_of result ≡ 2 → Rose (S.faults source.old) (S.faults source.new) }
-    ensures write_fault { code_of result ≡ 3 → Rose (K.faults sink.old) (K.faults sink.new) }
-    ensures too_long { code_of result ≡ 7 → S.given source.old + input_limit < 2 ^ 64 - 1 → S.given source.old + input_limit < S.given source.new }
-    ensures too_long_always { S.given source.old + input_limit < 2 ^ 64 - 1 → S.given source.old + input_limit < S.given source.new → code_of result ≡ 7 }
-    ensures unread { code_of result ≡ 2 → K.held sink.new ≡ K.held sink.old }
-    ensures unwritten { code_of result ≡ 7 → K.held sink.new ≡ K.held sink.old }
-    ensures source_counts { S.faults source.old ≤ S.faults source.new }
-    ensures sink_counts { K.faults sink.old ≤ K.faults sink.new }
+    // And what is left of them, also where they tell nothing.
+    ensures at_end { IsOneOf (0 ∷ 1 ∷ []) result → IsAtEnd (S.left source.new) }
+    ensures untouched { IsOneOf (2 ∷ 7 ∷ []) result → sink.new ≡ sink.old }
+    ensures usage_written { result ≡ 64 → Appends (K.held sink.old) (K.held sink.new) usage_line }
 {
     if !is_can(words) {
-        return usage(sink);
+        return usage(sink).code();
     }
     match read_all(alloc, source, INPUT_LIMIT) {
-        Ok(input) => script_status(alloc, random, &input, sink),
-        Err(ReadFault::TooLong) => Status::TooLong,
-        Err(ReadFault::Failed) => Status::ReadFault,
-        Err(ReadFault::OutOfMemory) => Status::OutOfMemory,
+        Ok(input) => run_script(alloc, random, &input, sink).code(),
+        Err(ReadFault::TooLong) => Status::TooLong.code(),
+        Err(ReadFault::Failed) => Status::ReadFault.code(),
+        Err(ReadFault::OutOfMemory) => Status::OutOfMemory.code(),
     }
 }
 
@@ -114,70 +95,50 @@ fn usage<K: Sink>(sink: &mut K) -> Status
 }
 
 /// Runs a script that was read whole, and answers how that ended.
-fn script_status<K: Sink>(alloc: Global, random: RandomState, input: &[u8], sink: &mut K) -> Status
-    ensures answers { Answers (K.held sink.old) (K.held sink.new) (answer_of (run_of input.now)) (code_of result) }
+fn run_script<K: Sink>(alloc: Global, random: RandomState, input: &[u8], sink: &mut K) -> Status
+    ensures answers { Answers (K.held sink.old) (K.held sink.new)
+        (answer_of (run_of input.now)) (code_of result) }
     ensures status { IsOneOf (0 ∷ 1 ∷ 3 ∷ 4 ∷ []) (code_of result) }
     ensures cause { code_of result ≡ 3 → Rose (K.faults sink.old) (K.faults sink.new) }
     ensures later { K.faults sink.old ≤ K.faults sink.new }
 {
-    match run(alloc, random, input, sink) {
+    match run_lines(alloc, random, input, sink) {
         Ok(status) => status,
         Err(Stop::WriteFault) => Status::WriteFault,
         Err(Stop::OutOfMemory) => Status::OutOfMemory,
     }
 }
 
-/// Runs a script's lines, and prints what they say.
+/// Runs a script's lines in turn, and prints what they say.
 #[tactic(auto, unfolding(crate::specs::CanRuns::run_of))]
-fn run<K: Sink>(
+fn run_lines<K: Sink>(
     alloc: Global,
     random: RandomState,
-    input: &[u8],
+    lines: &[u8],
     sink: &mut K,
 ) -> Result<Status, Stop>
-    ensures whole { IfOk result (λ status. Appends (K.held sink.old) (K.held sink.new) (run_of input.now).text) }
-    ensures status { IfOk result (λ status. code_of status ≡ (run_of input.now).status) }
+    ensures whole { OnOk result (Appends (K.held sink.old) (K.held sink.new) (run_of lines.now).text) }
+    ensures status { IfOk result (λ status. code_of status ≡ (run_of lines.now).status) }
     ensures kind { IfOk result (λ status. IsOneOf (0 ∷ 1 ∷ []) (code_of status)) }
-    ensures part { WritesPart (K.held sink.old) (K.held sink.new) (run_of input.now).text }
+    ensures part { WritesPart (K.held sink.old) (K.held sink.new) (run_of lines.now).text }
     ensures cause { IsErrOf result Stop.WriteFault → Rose (K.faults sink.old) (K.faults sink.new) }
     ensures later { K.faults sink.old ≤ K.faults sink.new }
 {
     let mut tree = None;
     let mut gathered = Vec::new(alloc);
-    run_lines(alloc, random, input, &mut tree, &mut gathered, sink)
-}
-
-/// Runs lines from a tree on, and prints what they say behind what is gathered.
-fn run_lines<K: Sink>(
-    alloc: Global,
-    random: RandomState,
-    lines: &[u8],
-    tree: &mut Option<CanFiles>,
-    gathered: &mut Vec<u8>,
-    sink: &mut K,
-) -> Result<Status, Stop>
-    ensures whole { IfOk result (λ status. Appends (K.held sink.old) (K.held sink.new)
-        (gathered.old.items ++ (run_from 1 tree.old (script_lines lines.now)).text)) }
-    ensures status { IfOk result (λ status. code_of status ≡ (run_from 1 tree.old (script_lines lines.now)).status) }
-    ensures kind { IfOk result (λ status. IsOneOf (0 ∷ 1 ∷ []) (code_of status)) }
-    ensures part { WritesPart (K.held sink.old) (K.held sink.new)
-        (gathered.old.items ++ (run_from 1 tree.old (script_lines lines.now)).text) }
-    ensures cause { IsErrOf result Stop.WriteFault → Rose (K.faults sink.old) (K.faults sink.new) }
-    ensures later { K.faults sink.old ≤ K.faults sink.new }
-{
     let mut number: u64 = 1;
     let mut rest = lines;
     while let Some((line, after)) = next_line(rest) {
-        let Some(reply) = turn(alloc, random, tree, line)? else {
+        let Some(reply) = turn(alloc, random, &mut tree, line)? else {
             let last = bad_line(alloc, number)?;
-            finish(sink, gathered, &last)?;
+            finish(sink, &mut gathered, &last)?;
             return Ok(Status::BadLine);
         };
-        print(sink, gathered, reply)?;
+        print(sink, &mut gathered, reply)?;
         number += 1;
         rest = after;
     }
-    finish(sink, gathered, b"")?;
+    finish(sink, &mut gathered, b"")?;
     Ok(Status::Done)
 }
 
