@@ -69,3 +69,8 @@ items_done {A} read front count i now total le sofar =
     let k : count - i ≡ 0 = omega arith in
     let step : with_front front (items_at read (count - i) now) ≡ Ok (front, now) = rw k (ap (λ (xs : List A). Ok (xs, now)) (append-nil front)) in
     sym sofar ∙ step
+
+-- nothing in front is no change
+pub nothing_in_front : {A : Type 0} (r : Result (List A × Input) FieldFault) → with_front [] r ≡ r
+nothing_in_front (Ok x) = refl
+nothing_in_front (Err e) = refl

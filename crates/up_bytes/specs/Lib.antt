@@ -4,3 +4,4 @@ pub mod Spelling
 pub mod Sizes
 pub mod Reading
 pub mod Forms
+pub mod Sequences

@@ -1,6 +1,6 @@
 -- Reading a field at the front of what is left: its value and what is left behind it, or the fault. Short is the
 -- fault where the input ends within the field, and Spelling with the field's place where no spelling begins there.
-use Rattle.std.specs.Prelude.{◌≡◌, ◌≢◌, ℕ, zero, suc, ℤ, List, [], ◌∷◌, length, take, Result, Ok, Err, nat_lt, ◌==◌, slice_index, if◌then◌else◌}
+use Rattle.std.specs.Prelude.{◌≡◌, ◌≢◌, ℕ, zero, suc, ℤ, List, [], ◌∷◌, length, take, Option, Some, None, Result, Ok, Err, nat_lt, ◌==◌, slice_index, if◌then◌else◌}
 use Rattle.up_bytes.specs.declared.fault.FieldFault.{FieldFault}
 use Rattle.up_bytes.specs.declared.fault.FieldFault.TheVariants.{Short, Spelling, OutOfMemory}
 use Rattle.up_bytes.specs.Num.{num_bytes, is_ended, is_misspelled, number}
@@ -57,3 +57,47 @@ items_at read (suc n) input = do
   first ← read input
   others ← items_at read n first.1
   Ok (first.0 ∷ others.0, others.1)
+
+-- a list: the number of its values, and then each
+unfoldable pub list_at : {A : Type 0} → (Input → Result (A × Input) FieldFault) → Input → Result (List A × Input) FieldFault
+list_at read input = do
+  count ← num_at input
+  items_at read count.0 count.1
+
+-- the value that a field's bytes stand for, or no spelling at the field's place
+abbrev pub known : {A : Type 0} → ℕ → Option A → Input → Result (A × Input) FieldFault
+known place (Some value) rest = Ok (value, rest)
+known place None rest = Err (Spelling place)
+
+-- the value that is made of one part, once that is read
+abbrev pub made : {A B : Type 0} → (A → B) → A × Input → Result (B × Input) FieldFault
+made make x = Ok (make x.0, x.1)
+
+-- the value that is made of one part
+abbrev pub made_of : {A B : Type 0} → (A → B) → (Input → Result (A × Input) FieldFault) → Input → Result (B × Input) FieldFault
+made_of make read input = read input >>= made make
+
+-- this value, which has no field
+abbrev pub plain : {A : Type 0} → A → Input → Result (A × Input) FieldFault
+plain x input = Ok (x, input)
+
+-- what stands behind a tag, by a table: the fields of the first row with that tag, or no spelling at the tag's place
+abbrev pub row_at : {A : Type 0} → List (ℕ × (Input → Result (A × Input) FieldFault)) → ℕ → ℕ → Input → Result (A × Input) FieldFault
+row_at [] place tag input = Err (Spelling place)
+row_at (row ∷ rows) place tag input = if tag == row.0 then row.1 input else row_at rows place tag input
+
+-- a byte, and the fields that the table has behind it
+unfoldable pub tagged_at : {A : Type 0} → List (ℕ × (Input → Result (A × Input) FieldFault)) → Input → Result (A × Input) FieldFault
+tagged_at table input = do
+  tag ← byte_at input
+  row_at table (place input) tag.0 tag.1
+
+-- the input that is all of these bytes
+abbrev pub from_start : List ℕ → Input
+from_start bytes = record { size = length bytes; left = bytes }
+
+-- the value that is the whole of these bytes: a byte behind its last field is Spelling with that byte's place
+unfoldable pub whole_of : {A : Type 0} → (Input → Result (A × Input) FieldFault) → List ℕ → Result A FieldFault
+whole_of read bytes = do
+  found ← read (from_start bytes)
+  if length found.1.left == 0 then Ok found.0 else Err (Spelling (place found.1))

@@ -2,6 +2,7 @@
 -- number (int), a text, and bytes of a fixed count, which stand as they are.
 use Rattle.std.specs.Prelude.{◌≡◌, ℕ, ◌<◌, ◌^◌, ◌+◌, ◌*◌, ◌/◌, ◌%◌, ℤ, pos, negsuc, List, [], ◌∷◌, ◌++◌, length, ◌==◌, if◌then◌else◌, FitsSigned}
 use Rattle.std.specs.Int.{w64}
+use Rattle.std.specs.List.{flat_map, AllByRecursion}
 use Rattle.up_bytes.specs.Num.{num}
 
 -- a signed number as an unsigned one: n at or above 0 as 2n, and below 0 as -2n - 1; negsuc n is -(n + 1)
@@ -44,3 +45,11 @@ HasLength n bytes = length bytes ≡ n
 -- bytes as they stand
 abbrev pub raw : List ℕ → List ℕ
 raw bytes = bytes
+
+-- a list: the number of its values, and then each
+abbrev pub list : {A : Type 0} → (A → List ℕ) → List A → List ℕ
+list spelling xs = num (length xs) ++ flat_map spelling xs
+
+-- fewer than 2 ^ 64 values, each of which fits
+abbrev pub IsList : {A : Type 0} → (A → Type 0) → List A → Type 0
+IsList Fits xs = IsU64 (length xs) × AllByRecursion Fits xs

@@ -5,6 +5,7 @@ use up_lists::Items;
 
 mod copying;
 mod fault;
+mod fields;
 mod laws;
 mod leb128;
 mod reader;
@@ -12,6 +13,7 @@ mod writer;
 
 pub use copying::copy_of;
 pub use fault::FieldFault;
+pub use fields::{Fields, list_size, read_list, read_whole, write_list, write_whole};
 pub use laws::{fields_are_forms, num_has_one_spelling};
 pub use leb128::{int_len, num_len, text_len};
 pub use reader::Reader;

@@ -18,8 +18,8 @@ use Rattle.up_entry.specs.declared.entries.Kind.TheVariants.{File, Directory, Li
 use Rattle.up_entry.specs.Attrs.{attr_byte, attr_of}
 use Rattle.up_entry.specs.Reading.{canonical_path, canonical_user, path_at, user_at, attr_in, attr_at, link_in, link_at, endpoint_in, endpoint_at}
 use Rattle.up_entry.specs.Spelling.{endpoint_text, link_text, IsTarget, HasItsLink, FitsEndpoint, FitsUser}
-use Rattle.up_entry.proofs.Parts.{IsPart, last, whole, known_part, none_is}
-use Rattle.up_entry.proofs.FieldParts.{byte_part, text_part}
+use Rattle.up_bytes.proofs.Parts.{IsPart, last, whole, known_part, none_is}
+use Rattle.up_bytes.proofs.FieldParts.{byte_part, text_part}
 
 -- a value that a test let through
 pub passed : {A : Type 0} (b : Bool) (x y : A) → cond b (Some x) None ≡ Some y → (b ≡ true) × (x ≡ y)

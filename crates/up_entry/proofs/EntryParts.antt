@@ -1,8 +1,7 @@
 -- A block, the blocks and an entry, by their parts.
-use Rattle.std.proofs.Common.{◌≡◌, ℕ, Bool, true, false, List, [], ◌∷◌, ◌++◌, length, Ok, refl, ap, ◌∙◌, append_assoc, arith}
-use Rattle.std.specs.List.{flat_map, AllByRecursion}
+use Rattle.std.proofs.Common.{◌≡◌, ℕ, Bool, true, false, List, ◌++◌, Ok, refl, ◌∙◌, append_assoc}
 use Rattle.up_bytes.specs.Num.{num}
-use Rattle.up_bytes.specs.Spelling.{byte, int, text, IsByte, IsU64, IsI64, IsText}
+use Rattle.up_bytes.specs.Spelling.{byte, int, text, list, IsByte, IsU64, IsI64, IsText}
 use Rattle.up_names.specs.PathNames.{canonical, IsCanonical}
 use Rattle.up_names.specs.UserNames.{user_of}
 use Rattle.up_entry.specs.declared.entries.Block.{Block}
@@ -11,8 +10,9 @@ use Rattle.up_entry.specs.declared.reading.Heading.{Heading}
 use Rattle.up_entry.specs.Attrs.{attr_byte}
 use Rattle.up_entry.specs.Reading.{block_at, blocks_at, heading_at, entry_at}
 use Rattle.up_entry.specs.Spelling.{block, entry, endpoint_text, link_text, IsBlock, HasAddress, FitsBlock, FitsBlocks, FitsEntry, FitsWhole}
-use Rattle.up_entry.proofs.Parts.{IsPart, then, last, whole, one_part, refit, items_part}
-use Rattle.up_entry.proofs.FieldParts.{byte_part, num_part, int_part, text_part, raw_part}
+use Rattle.up_bytes.proofs.Parts.{IsPart, then, last, whole, refit}
+use Rattle.up_bytes.proofs.Lists.{list_part, all_both, all_first, all_second}
+use Rattle.up_bytes.proofs.FieldParts.{byte_part, num_part, int_part, text_part, raw_part}
 use Rattle.up_entry.proofs.EntryFields.{path_part, user_part, attr_part, link_part, endpoint_part, MarkFits, LinkFits, true_is_false}
 
 -- ---- parts, each before those behind it
@@ -22,10 +22,6 @@ five a b c d e = append_assoc (a ++ b ++ c) d e ∙ append_assoc (a ++ b) c (d +
 
 six : (a b c d e f : List ℕ) → a ++ b ++ c ++ d ++ e ++ f ≡ a ++ (b ++ (c ++ (d ++ (e ++ f))))
 six a b c d e f = append_assoc (a ++ b ++ c ++ d) e f ∙ five a b c d (e ++ f)
-
--- the fourth and the fifth are one
-grouped : (a b c d e f : List ℕ) → a ++ b ++ c ++ d ++ e ++ f ≡ a ++ (b ++ (c ++ ((d ++ e) ++ f)))
-grouped a b c d e f = ap (λ (t : List ℕ). t ++ f) (append_assoc (a ++ b ++ c) d e) ∙ five a b c (d ++ e) f
 
 -- ---- blocks
 
@@ -43,27 +39,8 @@ block_part =
     ))
     (λ p fits. ((record { endpoint = fits.0.0; reference = fits.1.0; offset = fits.1.1.0; size = fits.1.1.1.0; packdata = fits.1.1.1.1 }, fits.0.1), five (text (endpoint_text p.0)) p.1.0 (num p.1.1.0) (num p.1.1.1.0) (text p.1.1.1.1)))
 
-abbrev pub spelled_blocks : List Block → List ℕ
-spelled_blocks blocks = num (length blocks) ++ flat_map block blocks
-
-pub blocks_part : IsPart FitsBlocks spelled_blocks blocks_at
-unfolding blocks_at
-blocks_part =
-    whole FitsBlocks spelled_blocks (then num_part λ _ n _. one_part (items_part block_part n))
-    (λ blocks fits. ((length blocks, blocks), (fits.0, (refl, fits.1)), refl, refl))
-    (λ p fits. ((omega (arith, fits.0, fits.1.0), fits.1.1), ap (λ (n : ℕ). num n ++ flat_map block p.1) fits.1.0))
-
-all_fit : (blocks : List Block) → AllByRecursion IsBlock blocks → AllByRecursion (λ b. HasAddress b.location.endpoint) blocks → AllByRecursion FitsBlock blocks
-all_fit [] are have = tt
-all_fit (b ∷ blocks) are have = ((are.0, have.0), all_fit blocks are.1 have.1)
-
-all_are : (blocks : List Block) → AllByRecursion FitsBlock blocks → AllByRecursion IsBlock blocks
-all_are [] fit = tt
-all_are (b ∷ blocks) fit = (fit.0.0, all_are blocks fit.1)
-
-all_have : (blocks : List Block) → AllByRecursion FitsBlock blocks → AllByRecursion (λ b. HasAddress b.location.endpoint) blocks
-all_have [] fit = tt
-all_have (b ∷ blocks) fit = (fit.0.1, all_have blocks fit.1)
+pub blocks_part : IsPart FitsBlocks (list block) blocks_at
+blocks_part = list_part block_part
 
 -- ---- what stands in front of an entry's link
 
@@ -104,9 +81,9 @@ FitsMarked marks e = FitsEntry e × MarkFits marks e.attr
 abbrev heading_of : Entry → Heading
 heading_of e = record { name = e.name; signed_name = e.signed_name; packing = e.packing; time = e.time; writer = e.writer; attr = e.attr }
 
-entry-parts : (e : Entry) → entry e ≡ spelled_heading (heading_of e) ++ (text (link_text e.link) ++ (text e.packdata ++ (spelled_blocks e.blocks ++ num e.sequence)))
+entry-parts : (e : Entry) → entry e ≡ spelled_heading (heading_of e) ++ (text (link_text e.link) ++ (text e.packdata ++ (list block e.blocks ++ num e.sequence)))
 unfolding entry
-entry-parts e = grouped (spelled_heading (heading_of e)) (text (link_text e.link)) (text e.packdata) (num (length e.blocks)) (flat_map block e.blocks) (num e.sequence)
+entry-parts e = five (spelled_heading (heading_of e)) (text (link_text e.link)) (text e.packdata) (list block e.blocks) (num e.sequence)
 
 entry_fits : (marks : Bool) (e : Entry) → HeadingFits marks (heading_of e) → LinkFits e.attr.kind e.link → IsText e.packdata → FitsBlocks e.blocks → IsU64 e.sequence → FitsMarked marks e
 entry_fits marks e heading link packdata blocks sequence = (
@@ -119,11 +96,10 @@ entry_fits marks e heading link packdata blocks sequence = (
       writer = heading.writer;
       link = link.0;
       packdata = packdata;
-      count = blocks.0;
-      blocks = all_are e.blocks blocks.1;
+      blocks = (blocks.0, all_first IsBlock (λ b. HasAddress b.location.endpoint) e.blocks blocks.1);
       sequence = sequence;
     },
-    record { link = link.1; addresses = all_have e.blocks blocks.1 },
+    record { link = link.1; addresses = all_second IsBlock (λ b. HasAddress b.location.endpoint) e.blocks blocks.1 },
   ),
   heading.mark,
 )
@@ -154,7 +130,7 @@ marked_part marks =
     let is = fits.0.0 in
     let spelled = fits.0.1 in (
       (heading_of e, (e.link, (e.packdata, (e.blocks, e.sequence)))),
-      (heading_fits marks e fits, ((is.link, spelled.link), (is.packdata, ((is.count, all_fit e.blocks is.blocks spelled.addresses), is.sequence)))),
+      (heading_fits marks e fits, ((is.link, spelled.link), (is.packdata, ((is.blocks.0, all_both IsBlock (λ b. HasAddress b.location.endpoint) e.blocks is.blocks.1 spelled.addresses), is.sequence)))),
       refl,
       entry-parts e,
     ))

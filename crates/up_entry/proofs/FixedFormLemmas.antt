@@ -1,11 +1,10 @@
 -- The form of each entry of a tree: as a test, by its rules, and what its format asks for.
-use Rattle.std.proofs.Common.{◌≡◌, ℕ, Bool, true, false, List, [], ◌∷◌, length, Option, Some, None, refl, subst, sym, leb-true, eqb-true, arith}
-use Rattle.std.specs.Prelude.{◌&&◌, ◌==◌, ◌↔◌, not, IsTrue}
+use Rattle.std.proofs.Common.{◌≡◌, true, List, [], ◌∷◌, length, Option, Some, None, refl, leb-true, eqb-true, arith}
+use Rattle.std.specs.Prelude.{◌==◌, ◌↔◌, IsTrue}
 use Rattle.std.specs.List.{list_all, AllByRecursion}
 use Rattle.std.specs.Cmp.Derive.{both_true}
 use Rattle.std.proofs.lemmas.Bool.{and_parts, not-true, not_from_false}
-use Rattle.up_names.specs.PathNames.{PathName, control_of}
-use Rattle.up_names.specs.PathOrder.{path_eq}
+use Rattle.up_names.specs.PathNames.{PathName}
 use Rattle.up_names.specs.PathOrderLaws.{path_eq-Decides}
 use Rattle.up_entry.specs.declared.entries.Block.{Block}
 use Rattle.up_entry.specs.declared.entries.Endpoint.{Endpoint}
@@ -14,7 +13,7 @@ use Rattle.up_entry.specs.declared.entries.Entry.{Entry}
 use Rattle.up_entry.specs.declared.entries.Kind.{Kind}
 use Rattle.up_entry.specs.declared.entries.Kind.TheVariants.{File, Directory, Link}
 use Rattle.up_entry.specs.FixedForm.{has_fixed_form, link_fits, HasFixedForm}
-use Rattle.up_entry.specs.Rules.{are_joined, block_fits, blocks_fit, control_fits, control_size_fits, endpoint_fits, is_address, packdata_fits, packing_fits, root_fits}
+use Rattle.up_entry.specs.Rules.{are_joined, block_fits, blocks_fit, endpoint_fits, is_address}
 use Rattle.up_entry.specs.Spelling.{HasAddress, HasItsLink, IsSpelled}
 
 -- ---- links

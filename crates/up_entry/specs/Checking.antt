@@ -1,6 +1,6 @@
 -- The rules of an entry that is handed to Put, in their order (Upspin overview and access control document; the order,
 -- the limits, a control file's packing and the session's user as the only writer are this project's own).
-use Rattle.std.specs.Prelude.{◌≡◌, ◌≢◌, ℕ, negsuc, int_le, ◌≤ℤ◌, Bool, true, false, ◌==◌, if◌then◌else◌, List, [], length, Option, Some, None, Result, Ok, Err, ⊤}
+use Rattle.std.specs.Prelude.{◌≡◌, ◌≢◌, ℕ, negsuc, int_le, ◌≤ℤ◌, Bool, false, ◌==◌, if◌then◌else◌, List, [], length, Option, Some, None, Result, Ok, Err, ⊤}
 use Rattle.std.specs.Str.{bytes_eq}
 use Rattle.up_names.specs.PathNames.{PathName, control_of, path_of}
 use Rattle.up_names.specs.PathOrder.{path_eq}

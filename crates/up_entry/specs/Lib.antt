@@ -6,5 +6,4 @@ pub mod FixedForm
 pub mod Checking
 pub mod Spelling
 pub mod Reading
-pub mod Sequences
 pub use Rattle.up_bytes.specs.Reading as FieldReading

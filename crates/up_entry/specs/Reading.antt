@@ -1,12 +1,11 @@
 -- Reading an entry or a record, field by field: its value and what is left behind it, or the first fault. A field that
 -- the input ends within is Short. A field whose bytes are no spelling of a value that may stand there is Spelling, with
 -- the field's place.
-use Rattle.std.specs.Prelude.{ℕ, Bool, false, not, ◌&&◌, ◌||◌, ◌==◌, if◌then◌else◌, List, length, Option, Some, None, option_map, Result, Ok, Err}
+use Rattle.std.specs.Prelude.{ℕ, Bool, false, not, ◌&&◌, ◌||◌, ◌==◌, if◌then◌else◌, List, [], ◌∷◌, length, Option, Some, None, option_map, Result, Ok, Err}
 use Rattle.std.specs.Str.{bytes_eq}
 use Rattle.up_bytes.specs.declared.fault.FieldFault.{FieldFault}
-use Rattle.up_bytes.specs.declared.fault.FieldFault.TheVariants.{Spelling}
 use Rattle.up_bytes.specs.Input.{Input, place}
-use Rattle.up_bytes.specs.Reading.{◌>>=◌, byte_at, bytes_at, num_at, int_at, text_at, items_at}
+use Rattle.up_bytes.specs.Reading.{◌>>=◌, byte_at, bytes_at, num_at, int_at, text_at, list_at, known, made_of, tagged_at, whole_of}
 use Rattle.up_names.specs.PathNames.{PathName, canonical, path_of}
 use Rattle.up_names.specs.UserNames.{user_of}
 use Rattle.up_entry.specs.declared.entries.Attr.{Attr}
@@ -21,11 +20,6 @@ use Rattle.up_entry.specs.declared.records.Rec.{Rec}
 use Rattle.up_entry.specs.declared.records.Rec.TheVariants.{Put, Delete, Snap}
 use Rattle.up_entry.specs.Attrs.{attr_of}
 use Rattle.up_entry.specs.ControlFiles.{is_control_file}
-
--- the value that a field's bytes stand for, or no spelling at the field's place
-abbrev pub known : {A : Type 0} → ℕ → Option A → Input → Result (A × Input) FieldFault
-known place (Some value) rest = Ok (value, rest)
-known place None rest = Err (Spelling place)
 
 -- the path that has this canonical text
 unfoldable pub canonical_path : List ℕ → Option PathName
@@ -92,10 +86,8 @@ block_at input = do
   packdata ← text_at size.1
   Ok (record { location = record { endpoint = endpoint.0; reference = reference.0 }; offset = offset.0; size = size.0; packdata = packdata.0 }, packdata.1)
 
-unfoldable pub blocks_at : Input → Result (List Block × Input) FieldFault
-blocks_at input = do
-  count ← num_at input
-  items_at block_at count.0 count.1
+abbrev pub blocks_at : Input → Result (List Block × Input) FieldFault
+blocks_at = list_at block_at
 
 -- what stands in front of an entry's link; with the incomplete mark only where marks may stand
 unfoldable pub heading_at : Bool → Input → Result (Heading × Input) FieldFault
@@ -154,31 +146,17 @@ put_at input = do
   control ← control_text_at entry.0 entry.1
   Ok (Put entry.0 control.0, control.1)
 
-unfoldable pub delete_at : Input → Result (Rec × Input) FieldFault
-delete_at input = do
-  path ← path_at input
-  Ok (Delete path.0, path.1)
+-- the fields behind each tag
+abbrev pub rec_table : List (ℕ × (Input → Result (Rec × Input) FieldFault))
+rec_table =
+    (1, put_at)
+    ∷ (2, made_of (λ path. Delete path) path_at)
+    ∷ (3, made_of (λ time. Snap time) num_at)
+    ∷ []
 
-unfoldable pub snap_at : Input → Result (Rec × Input) FieldFault
-snap_at input = do
-  time ← num_at input
-  Ok (Snap time.0, time.1)
+abbrev pub rec_at : Input → Result (Rec × Input) FieldFault
+rec_at = tagged_at rec_table
 
--- a record behind its tag, which stands at that place
-abbrev pub tagged_at : ℕ → ℕ → Input → Result (Rec × Input) FieldFault
-tagged_at place tag input =
-    if tag == 1 then put_at input
-    else if tag == 2 then delete_at input
-    else if tag == 3 then snap_at input
-    else Err (Spelling place)
-
-unfoldable pub rec_at : Input → Result (Rec × Input) FieldFault
-rec_at input = do
-  tag ← byte_at input
-  tagged_at (place input) tag.0 tag.1
-
--- the record that is the whole of these bytes: a byte behind its last field is Spelling with that byte's place
-unfoldable pub rec_of : List ℕ → Result Rec FieldFault
-rec_of bytes = do
-  found ← rec_at (record { size = length bytes; left = bytes })
-  if length found.1.left == 0 then Ok found.0 else Err (Spelling (place found.1))
+-- the record that is the whole of these bytes
+abbrev pub rec_of : List ℕ → Result Rec FieldFault
+rec_of = whole_of rec_at

@@ -1,8 +1,8 @@
 -- The one spelling of an entry and of a record of a tree's log, in the fields of up_bytes. This project's own format.
 use Rattle.std.specs.Prelude.{◌≡◌, ℕ, ◌<◌, false, List, [], ◌++◌, length, Option, Some, None, Ok, IsSome, ⊤}
-use Rattle.std.specs.List.{flat_map, AllByRecursion}
+use Rattle.std.specs.List.{AllByRecursion}
 use Rattle.up_bytes.specs.Num.{num}
-use Rattle.up_bytes.specs.Spelling.{byte, int, text, raw, IsByte, IsU64, IsI64, IsText, HasLength}
+use Rattle.up_bytes.specs.Spelling.{byte, int, text, raw, list, IsByte, IsU64, IsI64, IsText, IsList, HasLength}
 use Rattle.up_names.specs.PathNames.{PathName, canonical, IsCanonical}
 use Rattle.up_names.specs.UserNames.{user_of}
 use Rattle.up_entry.specs.declared.entries.Block.{Block}
@@ -37,26 +37,38 @@ abbrev pub link_text : Option PathName → List ℕ
 link_text None = []
 link_text (Some target) = canonical target
 
--- an entry: name, signed name, packing, time, writer, attr, link, packdata, number of blocks, blocks, sequence
-unfoldable pub entry : Entry → List ℕ
-entry e =
+-- what stands in front of an entry's link: name, signed name, packing, time, writer, attr
+abbrev pub heading : Entry → List ℕ
+heading e =
     text (canonical e.name)
     ++ text (canonical e.signed_name)
     ++ byte e.packing
     ++ int e.time
     ++ text e.writer
     ++ byte (attr_byte e.attr)
+
+-- an entry: that, and link, packdata, the list of blocks, sequence
+unfoldable pub entry : Entry → List ℕ
+entry e =
+    heading e
     ++ text (link_text e.link)
     ++ text e.packdata
-    ++ num (length e.blocks)
-    ++ flat_map block e.blocks
+    ++ list block e.blocks
     ++ num e.sequence
 
 -- a record: 01 and an entry with the text of a control file, 02 and a path, or 03 and a time
-unfoldable pub rec : Rec → List ℕ
-rec (Put e control) = byte 1 ++ entry e ++ text control
-rec (Delete path) = byte 2 ++ text (canonical path)
-rec (Snap time) = byte 3 ++ num time
+abbrev pub rec_tag : Rec → ℕ
+rec_tag (Put e control) = 1
+rec_tag (Delete path) = 2
+rec_tag (Snap time) = 3
+
+abbrev pub rec_fields : Rec → List ℕ
+rec_fields (Put e control) = entry e ++ text control
+rec_fields (Delete path) = text (canonical path)
+rec_fields (Snap time) = num time
+
+abbrev pub rec : Rec → List ℕ
+rec r = byte (rec_tag r) ++ rec_fields r
 
 -- ---- what each value of the program is, by its types
 
@@ -79,8 +91,7 @@ pub record IsEntry (e : Entry) : Type 0 where
   pub writer : user_of e.writer ≡ Ok e.writer
   pub link : IsTarget e.link
   pub packdata : IsText e.packdata
-  pub count : IsU64 (length e.blocks)
-  pub blocks : AllByRecursion IsBlock e.blocks
+  pub blocks : IsList IsBlock e.blocks
   pub sequence : IsU64 e.sequence
 
 abbrev pub IsRec : Rec → Type 0
@@ -126,7 +137,7 @@ FitsBlock b = IsBlock b × HasAddress b.location.endpoint
 
 -- fewer than 2 ^ 64 blocks, each with a spelling
 abbrev pub FitsBlocks : List Block → Type 0
-FitsBlocks blocks = IsU64 (length blocks) × AllByRecursion FitsBlock blocks
+FitsBlocks = IsList FitsBlock
 
 abbrev pub FitsEntry : Entry → Type 0
 FitsEntry e = IsEntry e × IsSpelled e

@@ -1,11 +1,8 @@
 //! What holds of the spellings of entries, their parts and records, and of how they are read, whatever the input; and of an
 //! entry that was checked.
 
-ghost use Rattle.std.specs.Prelude.{◌≡◌, ◌↔◌, ◌++◌, ℕ, List, length, Ok, true, false, IsTrue};
-ghost use Rattle.std.specs.List.{flat_map};
-ghost use Rattle.up_bytes.specs.Forms.{IsBytes};
-ghost use Rattle.up_bytes.specs.Num.{num};
-ghost use Rattle.up_bytes.specs.Spelling.{text};
+ghost use Rattle.std.specs.Prelude.{◌≡◌, ◌↔◌, ℕ, List, Ok, true, false, IsTrue};
+ghost use Rattle.up_bytes.specs.Spelling.{list, text};
 ghost use Rattle.up_names.specs.PathNames.{canonical, IsCanonical};
 ghost use Rattle.up_entry.specs.declared.entries.Entry.{Entry};
 ghost use Rattle.up_entry.specs.declared.puts.Checked.{Checked};
@@ -14,7 +11,7 @@ ghost use Rattle.up_entry.specs.declared.records.Rec.{Rec};
 ghost use Rattle.up_entry.specs.Checking.{checked_as, IsChecked};
 ghost use Rattle.up_entry.specs.FixedForm.{has_fixed_form, HasFixedForm};
 ghost use Rattle.up_entry.specs.Reading.{blocks_at, endpoint_at, entry_at, path_at, rec_at, rec_of, user_at};
-ghost use Rattle.up_entry.specs.Sequences.{AreFields};
+ghost use Rattle.up_bytes.specs.Sequences.{AreFields, AreMessages};
 ghost use Rattle.up_entry.specs.Spelling as spelling;
 ghost use Rattle.up_entry.specs.Spelling.{endpoint_text, FitsBlocks, FitsEndpoint, FitsEntry, FitsRec, FitsUser, FitsWhole, IsSpelled};
 
@@ -23,7 +20,7 @@ pub fn parts_have_one_spelling()
     ensures path { AreFields IsCanonical (λ path. text (canonical path)) path_at }
     ensures user { AreFields FitsUser text user_at }
     ensures endpoint { AreFields FitsEndpoint (λ endpoint. text (endpoint_text endpoint)) endpoint_at }
-    ensures blocks { AreFields FitsBlocks (λ blocks. num (length blocks) ++ flat_map spelling.block blocks) blocks_at }
+    ensures blocks { AreFields FitsBlocks (list spelling.block) blocks_at }
 {}
 
 /// Each entry that keeps its format's rules has one spelling; one that is read without marks is whole.
@@ -35,7 +32,7 @@ pub fn entries_have_one_spelling()
 /// Each record has one spelling, and exactly the bytes that spell a record are read as one.
 pub fn records_have_one_spelling()
     ensures fields { AreFields FitsRec spelling.rec rec_at }
-    ensures whole { (bytes : List ℕ) (r : Rec) → IsBytes bytes → (rec_of bytes ≡ Ok r) ↔ (FitsRec r × (bytes ≡ spelling.rec r)) }
+    ensures whole { AreMessages FitsRec spelling.rec rec_of }
 {}
 
 /// The form of each entry of a tree is told by its rules, one by one. An entry that has it keeps its format's rules too.

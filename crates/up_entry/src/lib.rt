@@ -9,9 +9,11 @@ mod copying;
 mod entries;
 mod fault;
 mod fetch;
+mod fields;
 mod forms;
 mod kind_rules;
 mod laws;
+mod names;
 mod puts;
 mod reading;
 mod records;
@@ -24,15 +26,17 @@ pub use checking::check_entry;
 pub use entries::{Attr, Block, Endpoint, Entry, Kind, Location};
 pub use fault::EntryFault;
 pub use fetch::Fetch;
+pub use fields::{read_blocks, read_endpoint, write_blocks, write_endpoint};
 pub use forms::has_fixed_form;
 pub use kind_rules::is_control_file;
 pub use laws::{
     checked_entries_keep_each_rule, entries_have_one_spelling, fixed_form_is_told_by_rules,
     parts_have_one_spelling, records_have_one_spelling,
 };
+pub use names::{read_path, read_user};
 pub use puts::{Checked, PutEntry};
-pub use reading::{read_blocks, read_endpoint, read_entry, read_path, read_user};
-pub use records::{Rec, read_rec, write_rec};
+pub use reading::read_entry;
+pub use records::{Rec, read_rec, rec_size, write_rec};
 pub use showing::shown;
 pub use what::What;
-pub use writing::{write_blocks, write_endpoint, write_entry};
+pub use writing::{entry_size, write_entry};

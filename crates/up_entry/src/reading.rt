@@ -1,16 +1,15 @@
 //! Reading entries.
 
 ghost use Rattle.std.specs.Prelude.{◌≡◌, IfOk, OnErr, true};
-ghost use Rattle.up_bytes.specs.Reading.{Answers, Gives};
-ghost use Rattle.up_entry.specs.Reading.{attr_at, block_at, blocks_at, canonical_path, canonical_user, endpoint_at, entry_at, heading_at, link_at, link_in, path_at, user_at};
+ghost use Rattle.up_bytes.specs.Reading.{Answers, FaultFirst, Gives, text_at};
+ghost use Rattle.up_entry.specs.Reading.{attr_at, entry_at, heading_at, link_at, link_in};
 
 use crate::attrs::attr_of;
-use crate::entries::{Attr, Block, Endpoint, Entry, Kind, Location};
+use crate::entries::{Attr, Entry, Kind};
+use crate::names::{canonical_path, read_path, read_user};
 use std::alloc::{AllocError, Global};
-use up_bytes::{FieldFault, Reader};
-use up_lists::Items;
-use up_names::{NameFault, Path, User, parse_path, parse_user};
-use up_refs::Reference;
+use up_bytes::{FieldFault, Fields, Reader, read_list};
+use up_names::{Path, User};
 
 /// Takes an entry from the front of the input, whole or with the incomplete mark. A refused call leaves the place where it
 /// was.
@@ -20,12 +19,12 @@ use up_refs::Reference;
 /// link's target is there exactly for a link. Packing, sizes and addresses may be any.
 pub fn read_entry(alloc: Global, input: &mut Reader) -> Result<Entry, FieldFault>
     ensures exact { Gives (λ entry. (entry, input.new)) result (entry_at true input.old) }
+
+    // Where the name's text is refused, so is the entry, before any memory is asked for.
+    ensures first { FaultFirst (text_at input.old) result }
     ensures err { OnErr result (input.new ≡ input.old) }
 {
-    let mut ahead = input.fork();
-    let entry = take_entry(alloc, &mut ahead, true)?;
-    *input = ahead;
-    Ok(entry)
+    Entry::read(alloc, input)
 }
 
 /// Takes an entry; one with the incomplete mark only where marks may stand. A refused call leaves the place anywhere.
@@ -35,12 +34,13 @@ pub(crate) fn take_entry(
     input: &mut Reader,
     marks: bool,
 ) -> Result<Entry, FieldFault>
-    ensures { Gives (λ entry. (entry, input.new)) result (entry_at marks input.old) }
+    ensures exact { Gives (λ entry. (entry, input.new)) result (entry_at marks input.old) }
+    ensures first { FaultFirst (text_at input.old) result }
 {
     let heading = take_heading(alloc, input, marks)?;
     let link = take_link(alloc, input, heading.attr.kind)?;
     let packdata = input.text(alloc)?;
-    let blocks = take_blocks(alloc, input)?;
+    let blocks = read_list(alloc, input)?;
     let sequence = input.num()?;
     Ok(Entry {
         signed_name: heading.signed_name,
@@ -71,7 +71,8 @@ struct Heading {
 /// leaves the place anywhere.
 #[tactic(auto, unfolding(crate::specs::Reading::heading_at))]
 fn take_heading(alloc: Global, input: &mut Reader, marks: bool) -> Result<Heading, FieldFault>
-    ensures { Gives (λ heading. (heading, input.new)) result (heading_at marks input.old) }
+    ensures exact { Gives (λ heading. (heading, input.new)) result (heading_at marks input.old) }
+    ensures first { FaultFirst (text_at input.old) result }
 {
     let name = read_path(alloc, input)?;
     let signed_name = read_path(alloc, input)?;
@@ -87,58 +88,6 @@ fn take_heading(alloc: Global, input: &mut Reader, marks: bool) -> Result<Headin
         writer,
         attr,
     })
-}
-
-/// Takes a path from the front of the input, by its canonical text. A refused call leaves the place where it was.
-#[tactic(auto, unfolding(crate::specs::Reading::path_at))]
-pub fn read_path(alloc: Global, input: &mut Reader) -> Result<Path, FieldFault>
-    ensures exact { Gives (λ path. (path, input.new)) result (path_at input.old) }
-    ensures err { OnErr result (input.new ≡ input.old) }
-{
-    let mut ahead = input.fork();
-    let Some(path) = canonical_path(alloc, ahead.slice()?)? else {
-        return Err(FieldFault::Spelling(input.place()));
-    };
-    *input = ahead;
-    Ok(path)
-}
-
-/// The path that has this canonical text.
-#[tactic(auto, unfolding(crate::specs::Reading::canonical_path))]
-fn canonical_path(alloc: Global, text: &[u8]) -> Result<Option<Path>, AllocError>
-    ensures { IfOk result (λ found. found ≡ canonical_path text.now) }
-{
-    match parse_path(alloc, text) {
-        Ok(path) if path.as_str().as_bytes() == text => Ok(Some(path)),
-        Err(NameFault::OutOfMemory) => Err(AllocError),
-        _ => Ok(None),
-    }
-}
-
-/// Takes a user from the front of the input, by its canonical name. A refused call leaves the place where it was.
-#[tactic(auto, unfolding(crate::specs::Reading::user_at))]
-pub fn read_user(alloc: Global, input: &mut Reader) -> Result<User, FieldFault>
-    ensures exact { Gives (λ user. (user, input.new)) result (user_at input.old) }
-    ensures err { OnErr result (input.new ≡ input.old) }
-{
-    let mut ahead = input.fork();
-    let Some(user) = canonical_user(alloc, ahead.slice()?)? else {
-        return Err(FieldFault::Spelling(input.place()));
-    };
-    *input = ahead;
-    Ok(user)
-}
-
-/// The user that has this canonical name.
-#[tactic(auto, unfolding(crate::specs::Reading::canonical_user))]
-fn canonical_user(alloc: Global, text: &[u8]) -> Result<Option<User>, AllocError>
-    ensures { IfOk result (λ found. found ≡ canonical_user text.now) }
-{
-    match parse_user(alloc, text) {
-        Ok(user) if user.text().as_bytes() == text => Ok(Some(user)),
-        Err(NameFault::OutOfMemory) => Err(AllocError),
-        _ => Ok(None),
-    }
 }
 
 /// Takes the byte of an entry's attributes; with the mark only where marks may stand.
@@ -175,64 +124,4 @@ fn link_in(alloc: Global, kind: Kind, text: &[u8]) -> Result<Option<Option<Path>
         Kind::File | Kind::Directory if text.is_empty() => Ok(Some(None)),
         Kind::File | Kind::Directory => Ok(None),
     }
-}
-
-/// Takes a number of blocks and the blocks from the front of the input. The number reserves nothing before they are there.
-/// A refused call leaves the place where it was.
-pub fn read_blocks(alloc: Global, input: &mut Reader) -> Result<Items<Block>, FieldFault>
-    ensures exact { Gives (λ blocks. (blocks, input.new)) result (blocks_at input.old) }
-    ensures err { OnErr result (input.new ≡ input.old) }
-{
-    let mut ahead = input.fork();
-    let blocks = take_blocks(alloc, &mut ahead)?;
-    *input = ahead;
-    Ok(blocks)
-}
-
-/// Takes a number of blocks and the blocks. A refused call leaves the place anywhere.
-#[tactic(auto, unfolding(crate::specs::Reading::blocks_at))]
-fn take_blocks(alloc: Global, input: &mut Reader) -> Result<Items<Block>, FieldFault>
-    ensures { Gives (λ blocks. (blocks, input.new)) result (blocks_at input.old) }
-{
-    let count = input.num()?;
-    let mut blocks = Items::new(alloc);
-    for _ in 0..count {
-        blocks.push(take_block(alloc, input)?)?;
-    }
-    Ok(blocks)
-}
-
-/// Takes a block. A refused call leaves the place anywhere.
-#[tactic(auto, unfolding(crate::specs::Reading::block_at))]
-fn take_block(alloc: Global, input: &mut Reader) -> Result<Block, FieldFault>
-    ensures { Gives (λ block. (block, input.new)) result (block_at input.old) }
-{
-    let endpoint = read_endpoint(alloc, input)?;
-    let reference = Reference::from_bytes(input.bytes_32()?);
-    let offset = input.num()?;
-    let size = input.num()?;
-    let packdata = input.text(alloc)?;
-    Ok(Block {
-        location: Location {
-            endpoint,
-            reference,
-        },
-        offset,
-        size,
-        packdata,
-    })
-}
-
-/// Takes an endpoint from the front of the input: the host's own store for the empty text, else the address, which may be
-/// any. A refused call leaves the place where it was.
-#[tactic(auto, unfolding(crate::specs::Reading::endpoint_at))]
-pub fn read_endpoint(alloc: Global, input: &mut Reader) -> Result<Endpoint, FieldFault>
-    ensures exact { Gives (λ endpoint. (endpoint, input.new)) result (endpoint_at input.old) }
-    ensures err { OnErr result (input.new ≡ input.old) }
-{
-    let address = input.text(alloc)?;
-    if address.is_empty() {
-        return Ok(Endpoint::Local);
-    }
-    Ok(Endpoint::Address(address))
 }

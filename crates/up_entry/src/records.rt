@@ -1,7 +1,8 @@
 //! The records of a tree's log.
 
-ghost use Rattle.std.specs.Prelude.{◌≡◌, ◌++◌, IfOk, Ok, OnOk};
-ghost use Rattle.up_bytes.specs.Reading.{Gives};
+ghost use Rattle.std.specs.Prelude.{◌≡◌, IfOk, Ok, Err};
+ghost use Rattle.up_bytes.specs.Reading.{byte_at, Gives};
+ghost use Rattle.up_bytes.specs.Sizes.{size_of};
 ghost use Rattle.up_entry.specs.Reading.{control_text_at, put_at, rec_at, rec_of};
 ghost use Rattle.up_entry.specs.Spelling as spelling;
 ghost use Rattle.up_entry.specs.Spelling.{FitsRec, IsRec, IsSpelledRec};
@@ -9,10 +10,13 @@ ghost use Rattle.up_entry.specs.Spelling.{FitsRec, IsRec, IsSpelledRec};
 use crate::entries::Entry;
 use crate::kind_rules::is_control_file;
 use crate::laws::records_have_one_spelling;
-use crate::reading::{read_path, take_entry};
-use crate::writing::write_entry;
+use crate::names::read_path;
+use crate::reading::take_entry;
+use crate::writing::{entry_size, write_entry};
 use std::alloc::{AllocError, Global};
-use up_bytes::{Bytes, FieldFault, Reader, Writer, copy_of};
+use up_bytes::{
+    Bytes, FieldFault, Fields, Reader, Writer, copy_of, num_len, read_whole, text_len, write_whole,
+};
 use up_names::Path;
 
 /// A record of a tree's log.
@@ -41,48 +45,73 @@ impl Clone for Rec {
     }
 }
 
-/// A record's bytes, in their one spelling: 01 and an entry with its text, 02 and a path, or 03 and a time.
+/// A record is a tag and its fields: 01 and an entry with its text, 02 and a path, or 03 and a time.
+impl Fields for Rec {
+    ghost spelling = { spelling.rec };
+
+    ghost read_at = { rec_at };
+
+    ghost comes_first = { λ input fault. byte_at input ≡ Err fault };
+
+    ghost IsTyped = { IsRec };
+
+    #[tactic(auto, unfolding(up_bytes::specs::Reading::tagged_at))]
+    fn take(alloc: Global, input: &mut Reader) -> Result<Rec, FieldFault> {
+        let place = input.place();
+        match input.byte()? {
+            1 => take_put(alloc, input),
+            2 => Ok(Rec::Delete(read_path(alloc, input)?)),
+            3 => Ok(Rec::Snap(input.num()?)),
+            _ => Err(FieldFault::Spelling(place)),
+        }
+    }
+
+    fn append(&self, out: &mut Writer) -> Result<(), AllocError> {
+        match self {
+            Rec::Put(entry, control) => {
+                out.byte(1)?;
+                write_entry(entry, out)?;
+                out.text(control.as_slice())
+            }
+            Rec::Delete(path) => {
+                out.byte(2)?;
+                out.text(path.as_str().as_bytes())
+            }
+            Rec::Snap(time) => {
+                out.byte(3)?;
+                out.num(*time)
+            }
+        }
+    }
+
+    fn size(&self) -> u64 {
+        match self {
+            Rec::Put(entry, control) => entry_size(entry)
+                .saturating_add(1)
+                .saturating_add(text_len(control.as_slice())),
+            Rec::Delete(path) => text_len(path.as_str().as_bytes()).saturating_add(1),
+            Rec::Snap(time) => num_len(*time).saturating_add(1),
+        }
+    }
+}
+
+/// A record's bytes, in their one spelling.
 pub fn write_rec(alloc: Global, rec: &Rec) -> Result<Bytes, AllocError>
     ensures written { IfOk result (λ bytes. bytes ≡ spelling.rec rec.now) }
 
     // What is written of a record that has a spelling is read again.
     ensures again { IfOk result (λ bytes. IsSpelledRec rec.now → rec_of bytes ≡ Ok rec.now) }
 {
-    let mut out = Writer::new(alloc);
-    append_rec(rec, &mut out)?;
-    let bytes = out.finish();
+    let bytes = write_whole(alloc, rec)?;
     is_read_again(rec, bytes.as_slice());
     Ok(bytes)
 }
 
-/// The bytes that spell a record are read as this record.
-fn is_read_again(rec: &Rec, bytes: &[u8])
-    ensures { FitsRec rec.now → bytes.now ≡ spelling.rec rec.now → rec_of bytes.now ≡ Ok rec.now }
+/// How many bytes a record's spelling has, or 2^64 - 1 where there are more. It takes no memory.
+pub fn rec_size(rec: &Rec) -> u64
+    ensures { result ≡ size_of (spelling.rec rec.now) }
 {
-    records_have_one_spelling();
-}
-
-/// Appends a record. A call that finds no memory may leave a part of it.
-#[tactic(auto, unfolding(crate::specs::Spelling::rec))]
-fn append_rec(rec: &Rec, out: &mut Writer) -> Result<(), AllocError>
-    ensures appended { OnOk result (out.new ≡ out.old ++ spelling.rec rec.now) }
-    ensures typed { IfOk result (λ _. IsRec rec.now) }
-{
-    match rec {
-        Rec::Put(entry, control) => {
-            out.byte(1)?;
-            write_entry(entry, out)?;
-            out.text(control.as_slice())
-        }
-        Rec::Delete(path) => {
-            out.byte(2)?;
-            out.text(path.as_str().as_bytes())
-        }
-        Rec::Snap(time) => {
-            out.byte(3)?;
-            out.num(*time)
-        }
-    }
+    rec.size()
 }
 
 /// The record that is the whole of these bytes.
@@ -96,9 +125,16 @@ pub fn read_rec(alloc: Global, bytes: &[u8]) -> Result<Rec, FieldFault>
     ensures spelled { IfOk result (λ r. bytes.now ≡ spelling.rec r) }
     ensures fits { IfOk result (λ r. FitsRec r) }
 {
-    let rec = take_whole(alloc, bytes)?;
+    let rec = read_whole(alloc, bytes)?;
     is_spelled(&rec, bytes);
     Ok(rec)
+}
+
+/// The bytes that spell a record are read as this record.
+fn is_read_again(rec: &Rec, bytes: &[u8])
+    ensures { FitsRec rec.now → bytes.now ≡ spelling.rec rec.now → rec_of bytes.now ≡ Ok rec.now }
+{
+    records_have_one_spelling();
 }
 
 /// What is read as a record has a spelling, which is what was read.
@@ -106,33 +142,6 @@ fn is_spelled(rec: &Rec, bytes: &[u8])
     ensures { rec_of bytes.now ≡ Ok rec.now → FitsRec rec.now × (bytes.now ≡ spelling.rec rec.now) }
 {
     records_have_one_spelling();
-}
-
-/// Takes the record that is the whole of these bytes.
-#[tactic(auto, unfolding(crate::specs::Reading::rec_of))]
-fn take_whole(alloc: Global, bytes: &[u8]) -> Result<Rec, FieldFault>
-    ensures { Gives (λ r. r) result (rec_of bytes.now) }
-{
-    let mut input = Reader::new(bytes);
-    let rec = take_rec(alloc, &mut input)?;
-    if !input.at_end() {
-        return Err(FieldFault::Spelling(input.place()));
-    }
-    Ok(rec)
-}
-
-/// Takes a record. A refused call leaves the place anywhere.
-#[tactic(auto, unfolding(crate::specs::Reading::rec_at, crate::specs::Reading::delete_at, crate::specs::Reading::snap_at))]
-fn take_rec(alloc: Global, input: &mut Reader) -> Result<Rec, FieldFault>
-    ensures { Gives (λ r. (r, input.new)) result (rec_at input.old) }
-{
-    let place = input.place();
-    match input.byte()? {
-        1 => take_put(alloc, input),
-        2 => Ok(Rec::Delete(read_path(alloc, input)?)),
-        3 => Ok(Rec::Snap(input.num()?)),
-        _ => Err(FieldFault::Spelling(place)),
-    }
 }
 
 /// Takes an entry without the incomplete mark, and the text beside it. A refused call leaves the place anywhere.

@@ -7,7 +7,7 @@ use Rattle.up_bytes.specs.Num.{num}
 use Rattle.up_bytes.specs.Reading.{◌>>=◌, num_at}
 use Rattle.up_bytes.specs.Spelling.{byte}
 use Rattle.up_bytes.specs.declared.fault.FieldFault.{FieldFault}
-use Rattle.up_bytes.proofs.Fields.{byte_form, num_form}
+use Rattle.up_bytes.proofs.FieldForms.{byte_form, num_form}
 use Rattle.up_bytes.proofs.Numbers.{length-num}
 use Rattle.up_ledger.specs.Entries.{alone, applied, entry_at, entry_of, entry_with}
 use Rattle.up_ledger.specs.declared.entry.Entry.TheVariants.{Deposit, Withdraw}

@@ -1,4 +1,4 @@
-use Rattle.up_bytes.proofs.Fields.{byte_form, num_form, int_form, text_form, bytes_form}
+use Rattle.up_bytes.proofs.FieldForms.{byte_form, num_form, int_form, text_form, bytes_form}
 use Rattle.up_bytes.proofs.laws.fields_are_forms.Goals as goal
 
 pub returns : goal.returns

@@ -1,5 +1,5 @@
-use Rattle.up_entry.proofs.RecParts.{rec_part, rec_whole}
+use Rattle.up_entry.proofs.RecParts.{rec_part, rec_messages}
 use Rattle.up_entry.proofs.laws.records_have_one_spelling.Goals as goal
 
 pub returns : goal.returns
-returns c = record { fields = rec_part.fields; whole = rec_whole }
+returns c = record { fields = rec_part.fields; whole = rec_messages }

@@ -10,9 +10,9 @@ use Rattle.up_bytes.specs.Spelling.{byte, from_zigzag, int, text, raw, IsByte, I
 use Rattle.up_bytes.specs.Reading.{bytes_at, byte_at, num_at, int_at, text_at}
 use Rattle.up_bytes.specs.Forms.{IsBytes}
 use Rattle.up_bytes.proofs.Forms.{bind_err, guard_err, fails}
-use Rattle.up_bytes.proofs.Fields.{num_halves, byte_form, num_form, int_form, text_form, bytes_form}
-use Rattle.up_entry.specs.Sequences.{longer}
-use Rattle.up_entry.proofs.Parts.{IsPart, Answers, form_part, then, one_part, ok_no_fault}
+use Rattle.up_bytes.proofs.FieldForms.{num_halves, byte_form, num_form, int_form, text_form, bytes_form}
+use Rattle.up_bytes.specs.Sequences.{longer}
+use Rattle.up_bytes.proofs.Parts.{IsPart, Answers, form_part, then, one_part, ok_no_fault}
 
 not_memory : Short ≡ OutOfMemory → ⊥
 not_memory e = cc

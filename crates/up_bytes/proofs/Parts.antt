@@ -6,11 +6,10 @@ use Rattle.std.proofs.lemmas.List.{append-nil, length-append}
 use Rattle.up_bytes.specs.declared.fault.FieldFault.{FieldFault}
 use Rattle.up_bytes.specs.declared.fault.FieldFault.TheVariants.{Short, Spelling, OutOfMemory}
 use Rattle.up_bytes.specs.Input.{Input, place}
-use Rattle.up_bytes.specs.Reading.{◌>>=◌, items_at}
+use Rattle.up_bytes.specs.Reading.{◌>>=◌, items_at, known, made}
 use Rattle.up_bytes.specs.Forms.{IsBytes, Takes, EndsWithin, IsNoSpelling, IsForm}
 use Rattle.up_bytes.proofs.Forms.{done, fails, ok_is, bind_ok, bind_err, Takes-then}
-use Rattle.up_entry.specs.Reading.{known}
-use Rattle.up_entry.specs.Sequences.{AreFields, longer}
+use Rattle.up_bytes.specs.Sequences.{AreFields, longer}
 
 -- behind each input, some further bytes bring an answer that is not Short
 abbrev pub Answers : {B : Type 0} → (Input → Result (B × Input) FieldFault) → Type 0
@@ -36,12 +35,12 @@ pub record Reads {P B : Type 0} (Fits : P → Type 0) (spelling : P → List ℕ
 no_bytes : IsBytes []
 no_bytes i = omega arith
 
-bytes_append : (a b : List ℕ) → IsBytes a → IsBytes b → IsBytes (a ++ b)
+pub bytes_append : (a b : List ℕ) → IsBytes a → IsBytes b → IsBytes (a ++ b)
 bytes_append [] b left right i = right i
 bytes_append (x ∷ a) b left right zero = left zero
 bytes_append (x ∷ a) b left right (suc i) = bytes_append a b (λ j. left (suc j)) right i
 
-place_longer : (input : Input) (more : List ℕ) → place (longer input more) ≡ place input
+pub place_longer : (input : Input) (more : List ℕ) → place (longer input more) ≡ place input
 place_longer input more = omega (arith, length-append input.left more)
 
 longer_more : (input : Input) (more further : List ℕ) → longer (longer input more) further ≡ longer input (more ++ further)
@@ -84,11 +83,21 @@ one_part part = record {
 pub ok_no_fault : {A : Type 0} (x : A) (d : FieldFault) → done x ≡ fails A d → ⊥
 ok_no_fault x d e = cc
 
-spelling_not_short : {A : Type 0} (p : ℕ) → fails A (Spelling p) ≡ fails A Short → ⊥
+pub spelling_not_short : {A : Type 0} (p : ℕ) → fails A (Spelling p) ≡ fails A Short → ⊥
 spelling_not_short p e = cc
 
-nothing_left : (left more : List ℕ) → 0 < length more → left ++ more ≡ [] → ⊥
+pub nothing_left : (left more : List ℕ) → 0 < length more → left ++ more ≡ [] → ⊥
 nothing_left left more lt e = omega (arith, length-append left more, ap length e)
+
+-- further bytes leave the value that is read, and stand behind what is left
+pub read_on : {A : Type 0} {Fits : A → Type 0} {spelling : A → List ℕ} {read : Input → Result (A × Input) FieldFault} → IsPart Fits spelling read
+    → (input new : Input) (x : A) (more : List ℕ) → IsBytes input.left → read input ≡ Ok (x, new) → read (longer input more) ≡ Ok (x, longer new more)
+read_on {spelling = spelling} {read = read} part input new x more bytes e =
+    let taken = part.fields.takes input new x bytes e in
+    let n = input.size + length more in
+    ap (λ (left : List ℕ). read (record { size = n; left = left })) (ap (λ (t : List ℕ). t ++ more) taken.1.parts ∙ append_assoc (spelling x) new.left more)
+    ∙ part.fields.again x n (new.left ++ more) taken.0
+    ∙ ap (λ (size : ℕ). done (x, record { size = size + length more; left = new.left ++ more })) (sym taken.1.size)
 
 -- ---- one part after another
 
@@ -156,13 +165,7 @@ module _ {A P B : Type 0} {FitsFirst : A → Type 0} {spell_first : A → List �
   then_on : (input new : Input) (a : A) (more : List ℕ) → IsBytes input.left → read_first input ≡ Ok (a, new)
       → (read_first (longer input more) >>= λ x. behind (place (longer input more)) x.0 x.1) ≡ behind (place input) a (longer new more)
   then_on input new a more bytes e =
-      let taken = first.fields.takes input new a bytes e in
-      let n = input.size + length more in
-      let one : read_first (longer input more) ≡ Ok (a, longer new more) =
-      ap (λ (left : List ℕ). read_first (record { size = n; left = left })) (ap (λ (t : List ℕ). t ++ more) taken.1.parts ∙ append_assoc (spell_first a) new.left more)
-      ∙ first.fields.again a n (new.left ++ more) taken.0
-      ∙ ap (λ (size : ℕ). done (a, record { size = size + length more; left = new.left ++ more })) (sym taken.1.size) in
-      ap (λ (r : Result (A × Input) FieldFault). r >>= λ x. behind (place (longer input more)) x.0 x.1) one
+      ap (λ (r : Result (A × Input) FieldFault). r >>= λ x. behind (place (longer input more)) x.0 x.1) (read_on first input new a more bytes e)
       ∙ ap (λ (at : ℕ). behind at a (longer new more)) (place_longer input more)
 
   then_stays : (input : Input) (more : List ℕ) (q : ℕ) → IsBytes input.left → IsBytes more → (read_first input >>= λ x. behind (place input) x.0 x.1) ≡ Err (Spelling q)
@@ -212,10 +215,6 @@ module _ {A P B : Type 0} {FitsFirst : A → Type 0} {spell_first : A → List �
     answers = then_answers;
     no_memory = then_memory;
   }
-
--- what is made of a part's value
-abbrev pub made : {A B : Type 0} → (A → B) → A × Input → Result (B × Input) FieldFault
-made make x = Ok (make x.0, x.1)
 
 -- the last part
 module _ {A B : Type 0} {Fits : A → Type 0} {spelling : A → List ℕ} {read : Input → Result (A × Input) FieldFault} (make : A → B) (part : IsPart Fits spelling read) where
