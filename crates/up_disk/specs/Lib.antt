@@ -2,6 +2,7 @@ pub mod Disk
 pub mod Hooked
 pub mod Image
 pub mod Memory
+pub mod MemoryCalls
 pub mod MemoryLaws
 pub mod Pending
 pub mod PendingLaws

@@ -1,5 +1,6 @@
 //! A disk in memory. It keeps what it had at first and each call, so that it knows what a crash may leave.
-ghost use Rattle.std.specs.Prelude.{◌≡◌, ◌≤◌, length};
+ghost use Rattle.std.specs.Prelude.{◌≡◌, ◌<◌, ◌≤◌, length, vec_len, vec_capacity, OnOk};
+ghost use Rattle.up_faults.specs.Calls.{IsCalled};
 ghost use Rattle.up_disk.specs.Pending.{content_after, synced_calls};
 
 use crate::call::{Call, Written};
@@ -102,11 +103,9 @@ impl MemDisk {
 }
 
 impl Disk for MemDisk {
-    ghost use Rattle.std.specs.Prelude.{◌≡◌, ◌≤◌, ◌+◌, ◌/◌, ◌^◌, ◌⊎◌, List, ℕ, max, length, take, option_map, refl, true, IfSome, IsErr, OnOk, OnErr};
-    ghost use Rattle.up_disk.specs.Disk.{CutShort, Elapses, Follows, Only, Steps, Torn, part, written};
-    ghost use Rattle.up_faults.specs.Counts.{HasCause};
-    ghost use Rattle.up_faults.specs.Calls.{IsCalled, fails_next};
-    ghost use Rattle.up_disk.specs.Memory.{content_of, faults_of, left_since_of, length_of, may_leave_of, moment_of, plan_of, IsCut, IsSynced, IsUntouched, IsWritten};
+    ghost use Rattle.std.specs.Prelude.{◌≤◌, ◌+◌, ◌^◌, length, refl};
+    ghost use Rattle.up_disk.specs.Memory.{content_of, faults_of, left_since_of, length_of, may_leave_of, moment_of};
+    ghost use Rattle.up_disk.specs.MemoryCalls.{IsCutTo, IsReadFrom, IsSyncedTo, IsWrittenTo};
     ghost use Rattle.up_disk.specs.MemoryLaws.{leaves_bytes, now_only, since_now};
 
     ghost content = { content_of };
@@ -138,15 +137,7 @@ impl Disk for MemDisk {
     /// It fails where its number is listed, and only there.
     fn read(&mut self, at: u64, buf: &mut [u8]) -> Result<(), Failed>
         requires { at + length buf.old ≤ length_of self.old }
-        ensures bytes { OnOk result (IfSome (content_of self.old) (λ bytes. buf.new ≡ part at (length buf.old) bytes)) }
-        ensures content { content_of self.new ≡ content_of self.old }
-        ensures size { length_of self.new ≡ length_of self.old }
-        ensures crash { (image : List ℕ) → may_leave_of self.new image → may_leave_of self.old image }
-        ensures time { Elapses (moment_of self.old) (moment_of self.new) (left_since_of self.old) (left_since_of self.new) (may_leave_of self.new) }
-        ensures cause { HasCause (faults_of self.old) (faults_of self.new) (IsErr result) }
-        ensures asked { IsCalled (plan_of self.old) (plan_of self.new) result }
-        ensures only_listed { OnErr result (fails_next (plan_of self.old) ≡ true) }
-        ensures untouched { IsUntouched self.old self.new }
+        ensures { IsReadFrom at buf.old buf.new result self.old self.new }
     {
         if self.plan.next_fails() {
             return Err(Failed);
@@ -161,52 +152,25 @@ impl Disk for MemDisk {
     fn write_at(&mut self, at: u64, bytes: &[u8]) -> Result<(), Failed>
         requires within { at ≤ length_of self.old }
         requires end { at + length bytes.now ≤ 2 ^ 62 }
-        ensures written { OnOk result (content_of self.new ≡ option_map (written at bytes.now) (content_of self.old)) }
-        ensures failed { OnErr result (Steps (Torn at (length bytes.now)) (content_of self.old) (content_of self.new)) }
-        ensures size { OnOk result (length_of self.new ≡ max (length_of self.old) (at + length bytes.now)) }
-        ensures no_shorter { length_of self.old ≤ length_of self.new }
-        ensures no_longer { length_of self.new ≤ max (length_of self.old) (at + length bytes.now) }
-        ensures crash { Follows (Torn at (length bytes.now)) (may_leave_of self.old) (may_leave_of self.new) }
-        ensures time { Elapses (moment_of self.old) (moment_of self.new) (left_since_of self.old) (left_since_of self.new) (may_leave_of self.new) }
-        ensures cause { HasCause (faults_of self.old) (faults_of self.new) (IsErr result) }
-        ensures asked { IsCalled (plan_of self.old) (plan_of self.new) result }
-        ensures lands { OnOk result (IsWritten at bytes.now (length bytes.now) self.old self.new) }
-        ensures half { OnErr result (IsWritten at bytes.now (length bytes.now / 2) self.old self.new ⊎ IsUntouched self.old self.new) }
+        ensures { IsWrittenTo at bytes.now result self.old self.new }
     {
-        if self.plan.next_fails() {
-            // Where there is no memory to note the front half, nothing of the write has landed.
+        // Memory is asked for before the call is counted.
+        if self.plan.fails_next() {
             let _ = self.write(at, bytes, bytes.len() / 2);
+            self.plan.count(true);
             return Err(Failed);
         }
-        if self.write(at, bytes, bytes.len()).is_err() {
-            self.plan.fail();
-            return Err(Failed);
-        }
-        Ok(())
+        let failed = self.write(at, bytes, bytes.len()).is_err();
+        self.plan.count(failed);
+        if failed { Err(Failed) } else { Ok(()) }
     }
 
     /// Where its number is listed, or there is no memory, it fails and has not happened.
     fn cut(&mut self, size: u64) -> Result<(), Failed>
         requires { size ≤ length_of self.old }
-        ensures cut { OnOk result (content_of self.new ≡ option_map (take size) (content_of self.old)) }
-        ensures failed { OnErr result (Steps (CutShort size) (content_of self.old) (content_of self.new)) }
-        ensures size { OnOk result (length_of self.new ≡ size) }
-        ensures no_shorter { size ≤ length_of self.new }
-        ensures no_longer { length_of self.new ≤ length_of self.old }
-        ensures crash { Follows (CutShort size) (may_leave_of self.old) (may_leave_of self.new) }
-        ensures time { Elapses (moment_of self.old) (moment_of self.new) (left_since_of self.old) (left_since_of self.new) (may_leave_of self.new) }
-        ensures cause { HasCause (faults_of self.old) (faults_of self.new) (IsErr result) }
-        ensures asked { IsCalled (plan_of self.old) (plan_of self.new) result }
-        ensures lands { OnOk result (IsCut size self.old self.new) }
-        ensures untouched { OnErr result (IsUntouched self.old self.new) }
+        ensures { IsCutTo size result self.old self.new }
     {
-        if self.plan.next_fails() {
-            return Err(Failed);
-        }
-        if self.calls.reserve(1).is_err() {
-            self.plan.fail();
-            return Err(Failed);
-        }
+        begin(&mut self.plan, &mut self.calls)?;
         self.bytes.truncate(size as usize);
         self.calls.push_reserved(Call::Cut(size));
         Ok(())
@@ -214,25 +178,22 @@ impl Disk for MemDisk {
 
     /// Where its number is listed, or there is no memory, it fails and has not happened.
     fn sync(&mut self) -> Result<(), Failed>
-        ensures durable { OnOk result (Only (content_of self.new) (may_leave_of self.new)) }
-        ensures content { content_of self.new ≡ content_of self.old }
-        ensures size { length_of self.new ≡ length_of self.old }
-        ensures crash { (image : List ℕ) → may_leave_of self.new image → may_leave_of self.old image }
-        ensures time { Elapses (moment_of self.old) (moment_of self.new) (left_since_of self.old) (left_since_of self.new) (may_leave_of self.new) }
-        ensures cause { HasCause (faults_of self.old) (faults_of self.new) (IsErr result) }
-        ensures asked { IsCalled (plan_of self.old) (plan_of self.new) result }
-        ensures lands { OnOk result (IsSynced self.old self.new) }
-        ensures untouched { OnErr result (IsUntouched self.old self.new) }
+        ensures { IsSyncedTo result self.old self.new }
     {
-        if self.plan.next_fails() {
-            return Err(Failed);
-        }
-        if self.calls.reserve(1).is_err() {
-            self.plan.fail();
-            return Err(Failed);
-        }
+        begin(&mut self.plan, &mut self.calls)?;
         self.calls.push_reserved(Call::Sync);
         self.synced = self.calls.len();
         Ok(())
     }
+}
+
+// Counts a call that is to be noted. It fails where it is listed, or where there is no memory for the note.
+fn begin(plan: &mut Calls, calls: &mut Vec<Call>) -> Result<(), Failed>
+    ensures called { IsCalled plan.old plan.new result }
+    ensures items { calls.new.items ≡ calls.old.items }
+    ensures room { OnOk result (vec_len calls.new < vec_capacity calls.new) }
+{
+    let fails = plan.fails_next() || calls.reserve(1).is_err();
+    plan.count(fails);
+    if fails { Err(Failed) } else { Ok(()) }
 }

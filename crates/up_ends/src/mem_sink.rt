@@ -71,13 +71,8 @@ impl Sink for MemSink {
         ensures bytes { WriteAppends (Some self.old.held) (Some self.new.held) result piece.now }
         ensures cause { HasCause self.old.plan.faults self.new.plan.faults (IsErr result) }
     {
-        if self.calls.next_fails() {
-            return Err(Failed);
-        }
-        if self.bytes.extend_from_slice(piece).is_err() {
-            self.calls.fail();
-            return Err(Failed);
-        }
-        Ok(piece.len())
+        let fails = self.calls.fails_next() || self.bytes.extend_from_slice(piece).is_err();
+        self.calls.count(fails);
+        if fails { Err(Failed) } else { Ok(piece.len()) }
     }
 }

@@ -1,6 +1,5 @@
 //! The numbered calls of an object in memory.
-ghost use Rattle.std.specs.Prelude.{◌≡◌, true};
-ghost use Rattle.up_faults.specs.Counts.{count_after, HasCause};
+ghost use Rattle.std.specs.Prelude.{◌≡◌};
 ghost use Rattle.up_faults.specs.Calls.{after_call, fails_next, no_call_made};
 
 use std::marker::Model;
@@ -36,24 +35,30 @@ impl Calls {
         }
     }
 
-    /// Counts a call, and answers whether it is one that fails, which is then counted too.
+    /// Whether the next call is one that fails.
+    pub fn fails_next(&self) -> bool
+        ensures { result ≡ fails_next self.now }
+    {
+        self.fails.as_slice().contains(&self.made)
+    }
+
+    /// Counts a call that was made, and its failure where it failed.
+    pub fn count(&mut self, failed: bool)
+        ensures { self.new ≡ after_call self.old failed }
+    {
+        self.made = self.made.saturating_add(1);
+        if failed {
+            self.faults = self.faults.saturating_add(1);
+        }
+    }
+
+    /// Counts a call that fails where it is listed, and nowhere else, and answers whether it does.
     pub fn next_fails(&mut self) -> bool
         ensures answer { result ≡ fails_next self.old }
         ensures counted { self.new ≡ after_call self.old result }
-        ensures cause { HasCause self.old.faults self.new.faults (result ≡ true) }
     {
-        let fails = self.fails.as_slice().contains(&self.made);
-        self.made = self.made.saturating_add(1);
-        if fails {
-            self.faults = self.faults.saturating_add(1);
-        }
+        let fails = self.fails_next();
+        self.count(fails);
         fails
-    }
-
-    /// Counts a failure of the call that was counted last, for one that is not listed.
-    pub fn fail(&mut self)
-        ensures { self.new ≡ record self.old { faults = count_after self.old.faults 1 } }
-    {
-        self.faults = self.faults.saturating_add(1);
     }
 }

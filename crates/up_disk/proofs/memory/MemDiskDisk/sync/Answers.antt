@@ -1,4 +1,4 @@
-use Rattle.std.proofs.Common.{◌≡◌, ◌+◌, length, Some, arith, sym, subst, ◌∙◌, ap, refl}
+use Rattle.std.proofs.Common.{◌≡◌, ◌+◌, length, Some, arith, rules, sym, subst, ◌∙◌, ap, refl}
 use Rattle.up_disk.proofs.Kept.{pushed, kept_to, elapses_to, length_pushed, synced_more, synced_only, image_synced}
 use Rattle.up_disk.specs.Image.{landing_of}
 use Rattle.up_disk.specs.Pending.{MayLeave, synced_calls}
@@ -8,7 +8,7 @@ use Rattle.up_disk.proofs.memory.MemDiskDisk.sync.Goals as goal
 pub invariant_of-self-2 : goal.invariant_of-self-2
 invariant_of-self-2 c =
     let self = c.args.self.now in
-    let more = pushed self.calls.items _ _ _ c.push_reserved.ensures.items c.reserve.ensures.items in
+    let more = pushed self.calls.items _ _ _ c.push_reserved.ensures.items c.in_ok-begin.ensures.items in
     let longer = length_pushed self.calls.items _ _ more in
     record {
       kept = kept_to self.first self.bytes.items self.bytes.items self.calls.items _ _ more self.kept refl;
@@ -16,26 +16,18 @@ invariant_of-self-2 c =
       within = omega (arith, c.len-self.ensures);
     }
 
-pub returns-clause-durable : goal.returns-clause-durable
-returns-clause-durable c image left =
+pub returns : goal.returns
+returns c =
     let self = c.args.self.now in
-    let more = pushed self.calls.items _ _ _ c.push_reserved.ensures.items c.reserve.ensures.items in
-    ap Some (sym (synced_only self.first self.bytes.items self.calls.items _ more self.kept image left))
-
-pub returns-clause-crash : goal.returns-clause-crash
-returns-clause-crash c image left =
-    let self = c.args.self.now in
-    let more = pushed self.calls.items _ _ _ c.push_reserved.ensures.items c.reserve.ensures.items in
-    subst (MayLeave self.first self.first self.calls.items) (sym (synced_only self.first self.bytes.items self.calls.items _ more self.kept image left)) (leaves_bytes self.first self.bytes.items self.calls.items self.kept)
-
-pub returns-clause-time : goal.returns-clause-time
-returns-clause-time c =
-    let self = c.args.self.now in
-    let more = pushed self.calls.items _ _ _ c.push_reserved.ensures.items c.reserve.ensures.items in
-    elapses_to self.first self.calls.items _ _ more
-
-pub returns-clause-lands : goal.returns-clause-lands
-returns-clause-lands c =
-    let self = c.args.self.now in
-    let more = pushed self.calls.items _ _ _ c.push_reserved.ensures.items c.reserve.ensures.items in
-    record { content = refl; images = λ choice. ap Some (image_synced (landing_of choice) self.first self.bytes.items self.calls.items _ more self.kept) }
+    let more = pushed self.calls.items _ _ _ c.push_reserved.ensures.items c.in_ok-begin.ensures.items in
+    record {
+      durable = λ image left. ap Some (sym (synced_only self.first self.bytes.items self.calls.items _ more self.kept image left));
+      content = refl;
+      size = refl;
+      crash = λ image left. subst (MayLeave self.first self.first self.calls.items) (sym (synced_only self.first self.bytes.items self.calls.items _ more self.kept image left)) (leaves_bytes self.first self.bytes.items self.calls.items self.kept);
+      time = elapses_to self.first self.calls.items _ _ more;
+      cause = search rules;
+      called = c.in_ok-begin.ensures.called;
+      lands = record { content = refl; images = λ choice. ap Some (image_synced (landing_of choice) self.first self.bytes.items self.calls.items _ more self.kept) };
+      untouched = tt;
+    }
