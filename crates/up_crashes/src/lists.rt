@@ -26,6 +26,8 @@ struct Count<'a> {
 }
 
 impl Hook for Count<'_> {
+    ghost called = { λ count. count.times.now };
+
     fn before_sync(&mut self) {
         *self.times = self.times.saturating_add(1);
     }

@@ -5,3 +5,7 @@ use Rattle.up_disk.specs.declared.hook.HookDisk.{HookDisk}
 -- the disk below the hook
 abbrev pub disk_of : {H : Type 0} → HookDisk H → MemDisk
 disk_of hooked = hooked.disk
+
+-- the hook
+abbrev pub hook_of : {H : Type 0} → HookDisk H → H
+hook_of hooked = hooked.hook

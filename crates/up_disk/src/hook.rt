@@ -1,15 +1,23 @@
 //! A disk in memory that calls a hook before each sync.
-ghost use Rattle.std.specs.Prelude.{◌≡◌};
+ghost use Rattle.std.specs.Prelude.{◌≡◌, ℕ};
+ghost use Rattle.up_faults.specs.Counts.{count_after};
 
 use crate::disk::{Disk, Failed};
 use crate::memory::MemDisk;
+use std::alloc::AllocError;
 
-/// What is done before each sync. The disk promises nothing of the hook.
+/// What is done before each sync.
 pub trait Hook {
-    fn before_sync(&mut self);
+    /// How often it was done. A count that stands at 2^64 - 1 stays there.
+    ghost called: { Self → ℕ };
+
+    /// Does it once more.
+    fn before_sync(&mut self)
+        ensures { called self.new ≡ count_after (called self.old) 1 };
 }
 
-/// A disk in memory that calls its hook before each sync, also before one that fails. In all else it is that disk.
+/// A disk in memory that calls its hook once in each sync, also in one that fails, and in no other call. In all else
+/// it is that disk. The hook is called before the disk is; of this order no clause speaks.
 #[derive(Drop)]
 pub struct HookDisk<H: Hook> {
     disk: MemDisk,
@@ -17,19 +25,35 @@ pub struct HookDisk<H: Hook> {
 }
 
 impl<H: Hook> HookDisk<H> {
-    ghost use Rattle.up_disk.specs.Hooked.{disk_of};
+    ghost use Rattle.std.specs.Prelude.{Some, [], IfOk};
+    ghost use Rattle.up_faults.specs.Calls.{no_call_made};
+    ghost use Rattle.up_disk.specs.Disk.{Only};
+    ghost use Rattle.up_disk.specs.Hooked.{disk_of, hook_of};
+    ghost use Rattle.up_disk.specs.Memory.{content_of, image_of, may_leave_of, plan_of};
 
     /// The disk with the hook.
     pub fn new(disk: MemDisk, hook: H) -> HookDisk<H>
-        ensures { disk_of result ≡ disk }
+        ensures disk { disk_of result ≡ disk }
+        ensures hook { hook_of result ≡ hook }
     {
         HookDisk { disk, hook }
+    }
+
+    /// The disk that a crash now may leave, as [`MemDisk::image`] gives it.
+    pub fn image(&self, choice: u64) -> Result<MemDisk, AllocError>
+        ensures image { IfOk result (λ image.
+            content_of image ≡ Some (image_of (disk_of self.now) choice)) }
+        ensures settled { IfOk result (λ image. Only (content_of image) (may_leave_of image)) }
+        ensures plan { IfOk result (λ image. plan_of image ≡ no_call_made []) }
+    {
+        self.disk.image(choice)
     }
 }
 
 impl<H: Hook> Disk for HookDisk<H> {
-    ghost use Rattle.std.specs.Prelude.{refl};
-    ghost use Rattle.up_disk.specs.Hooked.{disk_of};
+    ghost use Rattle.std.specs.Prelude.{◌≤◌, ◌+◌, ◌^◌, length, refl};
+    ghost use Rattle.up_disk.specs.Hooked.{disk_of, hook_of};
+    ghost use Rattle.up_disk.specs.MemoryCalls.{IsCutTo, IsReadFrom, IsSyncedTo, IsWrittenTo};
     ghost use Rattle.up_disk.specs.Memory.{content_of, faults_of, left_since_of, length_of, may_leave_of, moment_of};
     ghost use Rattle.up_disk.specs.MemoryLaws.{leaves_bytes, now_only, since_now};
 
@@ -59,19 +83,35 @@ impl<H: Hook> Disk for HookDisk<H> {
         self.disk.size()
     }
 
-    fn read(&mut self, at: u64, buf: &mut [u8]) -> Result<(), Failed> {
+    fn read(&mut self, at: u64, buf: &mut [u8]) -> Result<(), Failed>
+        requires { at + length buf.old ≤ length_of (disk_of self.old) }
+        ensures disk { IsReadFrom at buf.old buf.new result (disk_of self.old) (disk_of self.new) }
+        ensures hook { hook_of self.new ≡ hook_of self.old }
+    {
         self.disk.read(at, buf)
     }
 
-    fn write_at(&mut self, at: u64, bytes: &[u8]) -> Result<(), Failed> {
+    fn write_at(&mut self, at: u64, bytes: &[u8]) -> Result<(), Failed>
+        requires within { at ≤ length_of (disk_of self.old) }
+        requires end { at + length bytes.now ≤ 2 ^ 62 }
+        ensures disk { IsWrittenTo at bytes.now result (disk_of self.old) (disk_of self.new) }
+        ensures hook { hook_of self.new ≡ hook_of self.old }
+    {
         self.disk.write_at(at, bytes)
     }
 
-    fn cut(&mut self, size: u64) -> Result<(), Failed> {
+    fn cut(&mut self, size: u64) -> Result<(), Failed>
+        requires { size ≤ length_of (disk_of self.old) }
+        ensures disk { IsCutTo size result (disk_of self.old) (disk_of self.new) }
+        ensures hook { hook_of self.new ≡ hook_of self.old }
+    {
         self.disk.cut(size)
     }
 
-    fn sync(&mut self) -> Result<(), Failed> {
+    fn sync(&mut self) -> Result<(), Failed>
+        ensures disk { IsSyncedTo result (disk_of self.old) (disk_of self.new) }
+        ensures hook { H.called (hook_of self.new) ≡ count_after (H.called (hook_of self.old)) 1 }
+    {
         self.hook.before_sync();
         self.disk.sync()
     }
