@@ -21,36 +21,36 @@ pub fn say_lists(alloc: Global, answers: &mut Answers) -> Result<(), AllocError>
 
 /// Counts how often it is called.
 #[derive(Drop)]
-struct Count<'a> {
-    times: &'a mut u64,
+struct Count {
+    times: u64,
 }
 
-impl Hook for Count<'_> {
-    ghost called = { λ count. count.times.now };
+impl Hook for Count {
+    ghost called = { λ count. count.times };
 
     fn before_sync(&mut self) {
-        *self.times = self.times.saturating_add(1);
+        self.times = self.times.saturating_add(1);
     }
 }
 
-// Writes and syncs twice on a disk with a hook, whose second sync fails: what that one answers, where the calls before it
-// have not failed.
-fn hooked_syncs(alloc: Global, times: &mut u64) -> Result<Result<(), Failed>, AllocError> {
+// Writes and syncs twice on a disk with a hook, whose second sync fails: how often the hook was called, and what that sync
+// answered, where the calls before it have not failed.
+fn hooked_syncs(alloc: Global) -> Result<(u64, Result<(), Failed>), AllocError> {
     let fails = Items::from_vec([2u64].to_vec(alloc)?);
-    let mut disk = HookDisk::new(MemDisk::new(alloc, fails), Count { times });
+    let mut disk = HookDisk::new(MemDisk::new(alloc, fails), Count { times: 0 });
     let written = disk.write_at(0, b"ab");
     let synced = disk.sync();
     let again = disk.sync();
+    let times = disk.hook().times;
     if written.is_err() || synced.is_err() {
-        return Ok(Ok(()));
+        return Ok((times, Ok(())));
     }
-    Ok(again)
+    Ok((times, again))
 }
 
 /// How often a hook was called, and what the sync that failed answered.
 pub fn say_hooks(alloc: Global, answers: &mut Answers) -> Result<(), AllocError> {
-    let mut times = 0u64;
-    let outcome = hooked_syncs(alloc, &mut times)?;
+    let (times, outcome) = hooked_syncs(alloc)?;
     answers.number("hook called", times);
     answers.say(", ");
     answers.outcome(outcome);

@@ -39,6 +39,13 @@ impl<H: Hook> HookDisk<H> {
         HookDisk { disk, hook }
     }
 
+    /// The hook.
+    pub fn hook(&self) -> &H
+        ensures { result.now ≡ hook_of self.now }
+    {
+        &self.hook
+    }
+
     /// The disk that a crash now may leave, as [`MemDisk::image`] gives it.
     pub fn image(&self, choice: u64) -> Result<MemDisk, AllocError>
         ensures image { IfOk result (λ image.
