@@ -1,5 +1,4 @@
-//! Tests of the base crates, each of which stands on no tests of its own: what no clause says, above all that each call
-//! which can want memory answers where there is memory.
+//! Tests that no line of `up_cases` can make: sources and sinks over readers and writers of std that fail in mid-stream.
 #![tactic(auto)]
 
 #[cfg(test)]

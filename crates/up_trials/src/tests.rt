@@ -1,9 +1,2 @@
-//! One module for each base crate, or for a part of one.
+//! One module for each crate.
 mod ends;
-mod fields;
-mod frames;
-mod paths;
-mod patterns;
-mod references;
-mod users;
-mod words;

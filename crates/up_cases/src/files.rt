@@ -1,0 +1,91 @@
+//! The files of cases, and the topic of each.
+use crate::crashes::Crashes;
+use crate::ends::Ends;
+use crate::fields::Fields;
+use crate::frames::Streams;
+use crate::lines::{File, run_lines};
+use crate::logs::Logs;
+use crate::names::Names;
+use crate::patterns::Patterns;
+use crate::records::Records;
+use crate::references::References;
+use crate::rights::Rights;
+use crate::scripts::run_scripts;
+use crate::tally::Tally;
+use crate::texts::Texts;
+use std::hash::RandomState;
+use std::random::RandomSource;
+use std::rt::Files;
+use std::{fs, io};
+
+/// Runs each file of a folder, in order of their names.
+pub fn run_all<R: Files + RandomSource + AllocGlobal + Print + Clone + Drop>(
+    rt: &R,
+    folder: &str,
+    tally: &mut Tally,
+) -> io::Result<()> {
+    let names = names_of_files(rt, folder)?;
+    for name in &names {
+        run_file(rt, folder, name.as_str(), tally)?;
+    }
+    Ok(())
+}
+
+// The names of a folder's files, in order.
+fn names_of_files<R: Files + AllocGlobal + Clone + Drop>(
+    rt: &R,
+    folder: &str,
+) -> io::Result<Vec<String>> {
+    let mut names = Vec::new(rt.alloc());
+    for entry in fs::read_dir(rt, folder)? {
+        let name = entry?.file_name().to_string(rt.alloc())?;
+        names.push(name)?;
+    }
+    names.sort_unstable();
+    Ok(names)
+}
+
+// Runs a file's lines about its topic.
+fn run_file<R: Files + RandomSource + AllocGlobal + Print>(
+    rt: &R,
+    folder: &str,
+    name: &str,
+    tally: &mut Tally,
+) -> io::Result<()> {
+    let path = format!(in rt.alloc(); "{folder}/{name}")?;
+    let text = fs::read_to_string(rt, path.as_str())?;
+    let file = File {
+        name,
+        text: text.as_str(),
+    };
+    match topic_of(name) {
+        "names" => run_lines(rt, file, Names, tally),
+        "texts" => run_lines(rt, file, Texts, tally),
+        "ends" => run_lines(rt, file, Ends, tally),
+        "logs" => run_lines(rt, file, Logs::new(), tally),
+        "fields" => run_lines(rt, file, Fields, tally),
+        "frames" => run_lines(rt, file, Streams, tally),
+        "patterns" => run_lines(rt, file, Patterns, tally),
+        "references" => run_lines(rt, file, References, tally),
+        "crashes" => run_lines(rt, file, Crashes, tally),
+        "records" => run_lines(rt, file, Records::new(), tally),
+        "scripts" => run_scripts(rt, file, RandomState::new(rt)?, tally),
+        "rights" => run_lines(rt, file, Rights::new(RandomState::new(rt)?), tally),
+        _ => {
+            tally.fail();
+            println!(rt; "{name}: no topic has this name")
+        }
+    }
+}
+
+// What stands before the first `-` or `.` in a file's name.
+fn topic_of(name: &str) -> &str {
+    before('-', before('.', name))
+}
+
+fn before(mark: char, text: &str) -> &str {
+    match text.split_once(mark) {
+        Some((front, _)) => front,
+        None => text,
+    }
+}
