@@ -2,6 +2,7 @@
 use Rattle.std.specs.Prelude.{ℕ, Bool, ◌==◌, not, if◌then◌else◌, List, [], ◌∷◌, map, Option, Some, None, option_map, option_and_then, Result}
 use Rattle.std.specs.List.{list_any, before_first, after_first}
 use Rattle.std.specs.Str.{byte}
+use Rattle.up_names.specs.Texts.{Text, UserName}
 use Rattle.up_names.specs.declared.faults.TextFault.{TextFault}
 use Rattle.up_names.specs.ControlTexts.{control_lines, words_in, says_nothing}
 use Rattle.up_names.specs.ItemLists.{items_in}
@@ -18,7 +19,7 @@ abbrev pub is_colon : ℕ → Bool
 is_colon b = b == byte ":"
 
 -- the rights that words stand for, all of them together; none where one of the words is no right
-abbrev pub rights_in : List (List ℕ) → Option Rights
+abbrev pub rights_in : List Text → Option Rights
 rights_in [] = Some no_rights
 rights_in (word ∷ words) = do
   rights ← rights_of word
@@ -26,13 +27,13 @@ rights_in (word ∷ words) = do
   Some (both_rights rights more)
 
 -- the rights that words grant: there is at least one word, and each is a right
-abbrev pub granted_by : List (List ℕ) → Option Rights
+abbrev pub granted_by : List Text → Option Rights
 granted_by [] = None
 granted_by (word ∷ words) = rights_in (word ∷ words)
 
 -- The rule that a line says: it has a `:`, the first of which parts rights from names. There is at least one right, and
 -- perhaps no name; a line with a word that is no right, or names no item, is bad.
-unfoldable pub rule_of : List ℕ → List ℕ → Option Rule
+unfoldable pub rule_of : UserName → Text → Option Rule
 rule_of owner line =
     if not (list_any is_colon line) then None else do
       rights ← granted_by (words_in (before_first is_colon line))
@@ -40,10 +41,10 @@ rule_of owner line =
       Some (record { rights = rights; items = items })
 
 -- the rules of a line: none where it says nothing, else one, or the line is bad
-unfoldable pub rules_in : List ℕ → List ℕ → Option (List Rule)
+unfoldable pub rules_in : UserName → Text → Option (List Rule)
 rules_in owner line = if says_nothing line then Some [] else option_map (λ rule. rule ∷ []) (rule_of owner line)
 
 -- What an Access text in this owner's tree stands for: the rules of all lines, in order, or, where a line is bad, its
 -- number, the first such from 1.
-unfoldable pub access_of : List ℕ → List ℕ → Result (List Rule) TextFault
+unfoldable pub access_of : UserName → Text → Result (List Rule) TextFault
 access_of owner text = meaning_of (map (rules_in owner) (control_lines text))

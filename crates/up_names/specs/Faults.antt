@@ -5,12 +5,15 @@ use Rattle.up_names.specs.declared.faults.NameFault.TheVariants as name
 use Rattle.up_names.specs.declared.faults.TextFault.{TextFault}
 use Rattle.up_names.specs.declared.faults.TextFault.TheVariants as text
 
--- The result, with its value seen by `view`, is exactly what is meant; want of memory alone is free.
-abbrev pub Gives : {X Y : Type 0} → (X → Y) → Result X NameFault → Result Y NameFault → Type 0
-Gives view (Ok x) meant = meant ≡ Ok (view x)
-Gives view (Err fault) meant = fault ≢ name.OutOfMemory → meant ≡ Err fault
+-- The result, with its value seen by `view`, is exactly what is meant; the fault `memory`, want of memory, alone is free.
+abbrev pub GivesBut : {X Y E : Type 0} → E → (X → Y) → Result X E → Result Y E → Type 0
+GivesBut memory view (Ok x) meant = meant ≡ Ok (view x)
+GivesBut memory view (Err fault) meant = fault ≢ memory → meant ≡ Err fault
 
--- The same of a text of rules or members.
+-- the same of a name
+abbrev pub Gives : {X Y : Type 0} → (X → Y) → Result X NameFault → Result Y NameFault → Type 0
+Gives view result meant = GivesBut name.OutOfMemory view result meant
+
+-- and of a text of rules or members
 abbrev pub GivesText : {X Y : Type 0} → (X → Y) → Result X TextFault → Result Y TextFault → Type 0
-GivesText view (Ok x) meant = meant ≡ Ok (view x)
-GivesText view (Err fault) meant = fault ≢ text.OutOfMemory → meant ≡ Err fault
+GivesText view result meant = GivesBut text.OutOfMemory view result meant

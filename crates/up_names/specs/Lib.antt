@@ -1,3 +1,4 @@
+pub mod Texts
 pub mod UserNames
 pub mod PathNames
 pub mod PathOrder

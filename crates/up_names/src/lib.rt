@@ -11,9 +11,10 @@ mod path_parts;
 pub mod paths;
 pub mod users;
 
+pub use cuts::cut_at_slash;
 pub use domains::Domain;
 pub use faults::{NameFault, TextFault};
 pub use items::{Item, parse_item};
-pub use path_parts::parse_path;
+pub use path_parts::{element_text, parse_path};
 pub use paths::{Control, Path};
 pub use users::{User, parse_user};

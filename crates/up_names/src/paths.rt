@@ -12,9 +12,9 @@ ghost use Rattle.up_names.specs.PathParts.{begin_of};
 ghost use Rattle.up_names.specs.PathOrderLaws.{path_cmp_eq, path_cmp_total, path_eq_equivalence, path_eq_partial, path_hash, path_partial_order};
 
 use crate::faults::NameFault;
-use crate::path_parts::{MAX_LEN, is_name};
+use crate::path_parts::{MAX_LEN, behind_owner, is_name, parse_path, take_pieces};
 use crate::users::User;
-use std::alloc::{AllocError, Global};
+use std::alloc::AllocError;
 use std::cmp::Ordering;
 use std::hash::{Hash, Hasher};
 use std::marker::Model;
@@ -36,8 +36,8 @@ pub enum Control {
 pub struct Path {
     owner: User,
     text: String,
-    /// Where each element ends in the text; the next begins behind the slash there.
-    ends: Vec<u32>,
+    /// Where each element ends in the text, which is at most at 4,096; the next begins behind the slash there.
+    ends: Vec<u16>,
 }
 
 impl Model for Path {
@@ -57,10 +57,19 @@ impl Model for Path {
 }
 
 impl Path {
-    /// The root of an owner, with room for a text of that many bytes.
-    pub(crate) fn root(alloc: Global, owner: User, room: usize) -> Result<Path, AllocError>
+    /// The root of an owner's tree.
+    pub fn root(owner: User) -> Result<Path, AllocError>
         ensures { IfOk result (λ path. path ≡ record { owner = owner; elements = [] }) }
     {
+        let room = owner.text().len() + 1;
+        Path::with_room(owner, room)
+    }
+
+    /// The root of an owner's tree, with room for a text of that many bytes.
+    pub(crate) fn with_room(owner: User, room: usize) -> Result<Path, AllocError>
+        ensures { IfOk result (λ path. path ≡ record { owner = owner; elements = [] }) }
+    {
+        let alloc = owner.allocator();
         let mut text = String::with_capacity(alloc, room)?;
         text.push_str(owner.text())?;
         text.push('/')?;
@@ -69,6 +78,58 @@ impl Path {
             text,
             ends: Vec::new(alloc),
         })
+    }
+
+    /// Reads the path that a text names into this one, in the memory that it has. The fault is that of
+    /// [`parse_path`](crate::parse_path).
+    ///
+    /// The owner is not parsed again where the text begins with the one that this path has. An `Err` leaves the root of
+    /// that owner.
+    pub fn read(&mut self, text: &[u8]) -> Result<(), NameFault>
+        ensures read { Gives (λ _. self.new) result (path_of text.now) }
+        ensures root { OnErr result (self.new ≡ cut 0 self.old) }
+    {
+        let read = self.try_read(text);
+        if read.is_err() {
+            self.drop_all();
+        }
+        read
+    }
+
+    /// The same, but that an `Err` leaves some path of the owner.
+    #[tactic(auto, unfolding(crate::specs::PathNames::path_of))]
+    fn try_read(&mut self, text: &[u8]) -> Result<(), NameFault>
+        ensures read { Gives (λ _. self.new) result (path_of text.now) }
+        ensures owner { OnErr result (self.new.owner ≡ self.old.owner) }
+    {
+        if text.len() > MAX_LEN {
+            return Err(NameFault::TooLong(text.len() as u64));
+        }
+        match behind_owner(&self.owner, text) {
+            Some(pieces) => {
+                self.drop_all();
+                take_pieces(self, pieces, text.len() - pieces.len())
+            }
+            None => self.replace(text),
+        }
+    }
+
+    /// Takes the place of the path, where the text names one.
+    fn replace(&mut self, text: &[u8]) -> Result<(), NameFault>
+        ensures read { Gives (λ _. self.new) result (path_of text.now) }
+        ensures unchanged { OnErr result (self.new ≡ self.old) }
+    {
+        *self = parse_path(self.owner.allocator(), text)?;
+        Ok(())
+    }
+
+    /// Drops all elements, in place and without memory.
+    fn drop_all(&mut self)
+        ensures { self.new ≡ cut 0 self.old }
+    {
+        let root = self.front_len(0);
+        self.text.truncate(root);
+        self.ends.truncate(0);
     }
 
     /// The owner.
@@ -278,7 +339,7 @@ impl Path {
         self.ends.reserve(1)?;
         self.text.reserve(usize::from(below_root) + element.len())?;
         push_element(&mut self.text, below_root, element);
-        self.ends.push_reserved(self.text.len() as u32);
+        self.ends.push_reserved(self.text.len() as u16);
         Ok(())
     }
 }

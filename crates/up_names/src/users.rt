@@ -1,5 +1,5 @@
 //! Users.
-ghost use Rattle.std.specs.Prelude.{◌≡◌, ◌||◌, Ok, IfOk, ◌∷◌, ◌++◌, count_by};
+ghost use Rattle.std.specs.Prelude.{◌≡◌, ◌≤◌, ◌+◌, ◌||◌, Ok, IfOk, OnOk, OnErr, [], ◌∷◌, ◌++◌, count_by, length, vec_capacity};
 ghost use Rattle.std.proofs.Common.{rules};
 ghost use Rattle.std.specs.Cmp.{partial_order_from_own_ties};
 ghost use Rattle.std.specs.Cmp.Rules.{comparing, hashing};
@@ -19,6 +19,7 @@ use std::alloc::{AllocError, Global};
 use std::cmp::Ordering;
 use std::hash::{Hash, Hasher};
 use std::marker::Model;
+use std::mem;
 
 /// A user by its canonical name: a local part, perhaps `+` and a suffix, then `@` and a domain in lower case without a
 /// final period; at most 254 bytes. A user with a suffix is a user of its own.
@@ -53,6 +54,32 @@ impl User {
         ensures canonical { user_of self.now ≡ Ok self.now }
     {
         self.text.as_str()
+    }
+
+    /// Reads the user that a text names into this one, in the memory that it has. The fault is that of [`parse_user`]. An
+    /// `Err` changes nothing.
+    pub fn read(&mut self, text: &[u8]) -> Result<(), NameFault>
+        ensures read { Gives (λ _. self.new) result (user_of text.now) }
+        ensures unchanged { OnErr result (self.new ≡ self.old) }
+    {
+        let (name, domain) = accepted_parts(text)?;
+        self.set(name, domain)?;
+        Ok(())
+    }
+
+    /// Becomes the user of a name part and a domain in any case, in the memory that it has. An `Err` changes nothing.
+    fn set(&mut self, name: &[u8], domain: &[u8]) -> Result<(), AllocError>
+        requires { user_of (name.now ++ byte "@" ∷ str_to_ascii_lowercase domain.now) ≡ Ok (name.now ++ byte "@" ∷ str_to_ascii_lowercase domain.now) }
+        ensures set { OnOk result (self.new ≡ name.now ++ byte "@" ∷ str_to_ascii_lowercase domain.now) }
+        ensures unchanged { OnErr result (self.new ≡ self.old) }
+    {
+        self.text.reserve(name.len() + 1 + domain.len())?;
+        let alloc = *self.text.allocator();
+        let mut bytes = mem::replace(&mut self.text, String::new(alloc)).into_bytes();
+        bytes.clear();
+        write_joined(&mut bytes, name, domain);
+        self.text = String::from_utf8(bytes).unwrap();
+        Ok(())
     }
 
     /// The domain, behind the `@`.
@@ -150,6 +177,15 @@ impl Clone for User {
 pub fn parse_user(alloc: Global, text: &[u8]) -> Result<User, NameFault>
     ensures { Gives (λ user. user) result (user_of text.now) }
 {
+    let (name, domain) = accepted_parts(text)?;
+    Ok(user_from_parts(alloc, name, domain)?)
+}
+
+/// The name part and the domain, in any case, of a text that names a user.
+#[tactic(auto, unfolding(crate::specs::UserNames::user_of))]
+fn accepted_parts(text: &[u8]) -> Result<(&[u8], &[u8]), NameFault>
+    ensures { Gives (λ parts. parts.0.now ++ byte "@" ∷ str_to_ascii_lowercase parts.1.now) result (user_of text.now) }
+{
     let user = without_final_period(text);
     if user.len() > 254 {
         return Err(NameFault::TooLong(user.len() as u64));
@@ -171,7 +207,7 @@ pub fn parse_user(alloc: Global, text: &[u8]) -> Result<User, NameFault>
     if !is_domain_in_any_case(domain) {
         return Err(NameFault::Domain);
     }
-    Ok(user_from_parts(alloc, name, domain)?)
+    Ok((name, domain))
 }
 
 /// The user of a name part and a domain in any case.
@@ -190,11 +226,20 @@ fn joined(alloc: Global, name: &[u8], domain: &[u8]) -> Result<Vec<u8>, AllocErr
     ensures { IfOk result (λ text. text.items ≡ name.now ++ byte "@" ∷ str_to_ascii_lowercase domain.now) }
 {
     let mut text = Vec::with_capacity(alloc, name.len() + 1 + domain.len())?;
-    text.extend_from_slice(name)?;
-    text.push(b'@')?;
-    text.extend_from_slice(domain)?;
-    text[name.len() + 1..].make_ascii_lowercase();
+    write_joined(&mut text, name, domain);
     Ok(text)
+}
+
+/// Writes these into an empty text that has room for them.
+fn write_joined(text: &mut Vec<u8>, name: &[u8], domain: &[u8])
+    requires empty { text.old.items ≡ [] }
+    requires room { length name.now + 1 + length domain.now ≤ vec_capacity text.old }
+    ensures { text.new.items ≡ name.now ++ byte "@" ∷ str_to_ascii_lowercase domain.now }
+{
+    text.extend_from_slice(name).unwrap();
+    text.push(b'@').unwrap();
+    text.extend_from_slice(domain).unwrap();
+    text[name.len() + 1..].make_ascii_lowercase();
 }
 
 /// A text without its final period, where it ends in one.

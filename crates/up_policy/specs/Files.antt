@@ -4,6 +4,7 @@ use Rattle.std.specs.Map.{keys_of, lookup}
 use Rattle.std.proofs.Common.{sym, ◌∙◌}
 use Rattle.std.proofs.lemmas.Map.Made.{is_some-lookup}
 use Rattle.std.proofs.lemmas.Map.Views.{Contains-from_any}
+use Rattle.up_names.specs.Texts.{UserName}
 use Rattle.up_names.specs.declared.items.Item.{Item}
 use Rattle.up_names.specs.PathNames.{PathName}
 use Rattle.up_names.specs.PathOrder.{path_eq}
@@ -13,7 +14,7 @@ use Rattle.up_policy.specs.Trees.{TreeFacts}
 
 -- the owner, the directories that have an Access text, and the paths that have a Group text
 pub record Files : Type 0 where
-  pub owner : List ℕ
+  pub owner : UserName
   pub access : AccessList
   pub groups : List (PathName × List Item)
 

@@ -1,6 +1,7 @@
 -- Laws of rights: the values that compute are what is meant, and rights only grow with what is loaded.
 use Rattle.std.specs.Prelude.{◌≡◌, ℕ, ◌↔◌, IsTrue, IsSome, List, ◌++◌, Contains, Option, Some}
 use Rattle.std.specs.Map.{keys_of}
+use Rattle.up_names.specs.Texts.{UserName}
 use Rattle.up_names.specs.PathNames.{PathName}
 use Rattle.up_rights.specs.declared.Right.{Right}
 use Rattle.up_access.specs.declared.Rule.{Rule}
@@ -31,7 +32,7 @@ ReachedIsReached = (tree : TreeFacts) (listed : List PathName) (loaded : Loading
 
 -- the test of a right holds exactly where the user has the right
 abbrev pub TestIsRight : Type 0
-TestIsRight = (tree : TreeFacts) (listed : List PathName) (loaded : Loading) (user : List ℕ) (right : Right) (path : PathName) → ListsGroups tree listed →
+TestIsRight = (tree : TreeFacts) (listed : List PathName) (loaded : Loading) (user : UserName) (right : Right) (path : PathName) → ListsGroups tree listed →
     IsTrue (right_test tree listed loaded user right path) ↔ HasRight tree loaded user right path
 
 -- the second loading has each text of the first
@@ -40,5 +41,5 @@ HasTextsOf more less = (group : PathName) (items : List Item) → loaded_text le
 
 -- where a loading has each text of another, it takes no right away
 abbrev pub RightsAreMonotone : Type 0
-RightsAreMonotone = (tree : TreeFacts) (less more : Loading) (user : List ℕ) (right : Right) (path : PathName) → HasTextsOf more less →
+RightsAreMonotone = (tree : TreeFacts) (less more : Loading) (user : UserName) (right : Right) (path : PathName) → HasTextsOf more less →
     HasRight tree less user right path → HasRight tree more user right path

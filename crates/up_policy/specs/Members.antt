@@ -2,6 +2,7 @@
 use Rattle.std.specs.Prelude.{ℕ, Bool, true, false, IsTrue, if◌then◌else◌, List, [], ◌∷◌, Contains, Option, Some, None, unwrap_or}
 use Rattle.std.specs.List.{list_any, filter_map}
 use Rattle.std.specs.Str.{bytes_eq}
+use Rattle.up_names.specs.Texts.{UserName}
 use Rattle.up_names.specs.declared.items.Item.{Item}
 use Rattle.up_names.specs.declared.items.Item.TheVariants.{Everyone, Domain, User, Group}
 use Rattle.up_names.specs.UserNames.{domain_part}
@@ -14,7 +15,7 @@ abbrev pub text_of : TreeFacts → Loading → PathName → Option (List Item)
 text_of tree loaded group = if bytes_eq group.owner tree.owner then tree.group group else loaded_text loaded group
 
 -- an item that is the user, the user's domain or everyone
-abbrev pub is_user : List ℕ → Item → Bool
+abbrev pub is_user : UserName → Item → Bool
 is_user user Everyone = true
 is_user user (Domain domain) = bytes_eq domain (domain_part user)
 is_user user (User name) = bytes_eq name user
@@ -40,15 +41,15 @@ abbrev pub names_in : GroupTexts → PathName → List PathName
 names_in texts group = groups_in (items_in texts group)
 
 -- whether the text of a group names the user, the user's domain or everyone
-abbrev pub has_user : GroupTexts → List ℕ → PathName → Bool
+abbrev pub has_user : GroupTexts → UserName → PathName → Bool
 has_user texts user group = list_any (is_user user) (items_in texts group)
 
 -- A list of groups, the first and those behind it, that shows that the user belongs to the first: the text of each but
 -- the last names the next, and the text of the last names the user, the user's domain or everyone.
-abbrev pub Chain : GroupTexts → List ℕ → PathName → List PathName → Type 0
+abbrev pub Chain : GroupTexts → UserName → PathName → List PathName → Type 0
 Chain texts user first [] = IsTrue (has_user texts user first)
 Chain texts user first (next ∷ behind) = Contains (names_in texts first) next × Chain texts user next behind
 
 -- The user belongs to the group: there is such a list that begins with it. A cycle of groups adds nobody.
-abbrev pub IsMember : GroupTexts → List ℕ → PathName → Type 0
+abbrev pub IsMember : GroupTexts → UserName → PathName → Type 0
 IsMember texts user group = (behind : List PathName) × Chain texts user group behind

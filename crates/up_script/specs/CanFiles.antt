@@ -2,6 +2,7 @@
 use Rattle.std.specs.Prelude.{ℕ, Bool, List, [], if◌then◌else◌}
 use Rattle.std.specs.Map.{keys_of}
 use Rattle.std.specs.Str.{bytes_eq}
+use Rattle.up_names.specs.Texts.{UserName}
 use Rattle.indexmap.specs.IndexMap.{insert_entry}
 use Rattle.up_access.specs.declared.Rule.{Rule}
 use Rattle.up_names.specs.declared.items.Item.{Item}
@@ -14,7 +15,7 @@ use Rattle.up_policy.specs.Verdicts.{right_test}
 use Rattle.up_script.specs.declared.can_files.CanFiles.{CanFiles}
 
 -- a tree of this owner, without any of these files
-abbrev pub bare_tree : List ℕ → CanFiles
+abbrev pub bare_tree : UserName → CanFiles
 bare_tree owner = record { tree = record { owner = owner; access = []; groups = [] }; loaded = [] }
 
 -- with the Access text of a directory, which takes the place of the one before
@@ -32,5 +33,5 @@ with_text files path items =
     else record files { loaded = insert_entry path_eq files.loaded path (Text items) }
 
 -- whether a user has a right on a path, by the files that were named so far
-abbrev pub verdict : CanFiles → List ℕ → Right → PathName → Bool
+abbrev pub verdict : CanFiles → UserName → Right → PathName → Bool
 verdict files user right path = right_test (facts_of files.tree) (keys_of files.tree.groups) files.loaded user right path

@@ -4,6 +4,7 @@ use Rattle.std.specs.Prelude.{ℕ, ◌-◌, Bool, true, false, List, [], ◌∷�
 use Rattle.std.specs.Option.{option_and_then}
 use Rattle.std.specs.Result.{result_ok}
 use Rattle.std.specs.Str.{bytes_eq}
+use Rattle.up_names.specs.Texts.{Text, UserName}
 use Rattle.up_access.specs.AccessTexts.{access_of}
 use Rattle.up_group.specs.GroupTexts.{group_of}
 use Rattle.up_names.specs.declared.paths.Control.{Control}
@@ -31,10 +32,10 @@ Tree = Option CanFiles
 -- what a line does: the tree after it, and the text that it prints
 pub record Turn : Type 0 where
   pub tree : Tree
-  pub reply : List ℕ
+  pub reply : Text
 
 -- the text that a turn prints; none where the line is malformed
-abbrev pub reply_of : Option Turn → Option (List ℕ)
+abbrev pub reply_of : Option Turn → Option Text
 reply_of turn = option_map (λ t. t.reply) turn
 
 -- the tree after a turn; a malformed line changes nothing
@@ -47,27 +48,27 @@ abbrev pub named : Option CanFiles → Option Turn
 named files = option_map (λ f. record { tree = Some f; reply = [] }) files
 
 -- a line that asks leaves the files as they are; none where it is malformed
-abbrev pub asked : CanFiles → Option (List ℕ) → Option Turn
+abbrev pub asked : CanFiles → Option Text → Option Turn
 asked files reply = option_map (λ text. record { tree = Some files; reply = text }) reply
 
 -- the user that a word names
-unfoldable pub user_named : List ℕ → Option (List ℕ)
+unfoldable pub user_named : Text → Option UserName
 user_named word = do
   text ← decoded word
   result_ok (user_of text)
 
 -- the path that a word names
-unfoldable pub path_named : List ℕ → Option PathName
+unfoldable pub path_named : Text → Option PathName
 path_named word = do
   text ← decoded word
   result_ok (path_of text)
 
 -- the line that answers a question
-abbrev pub verdict_line : Bool → List ℕ
+abbrev pub verdict_line : Bool → Text
 verdict_line answer = if answer then codes "yes\n" else codes "no\n"
 
 -- `tree USER`: exactly once, before every other line that says something
-unfoldable pub tree_line : List (List ℕ) → Option CanFiles
+unfoldable pub tree_line : List Text → Option CanFiles
 tree_line (word ∷ []) = option_map bare_tree (user_named word)
 tree_line [] = None
 tree_line (word ∷ other ∷ more) = None
@@ -82,7 +83,7 @@ access_dir files path =
     if bytes_eq path.owner files.owner && is_access path then Some (cut (length path.elements - 1) path) else None
 
 -- `access PATH TEXT`: the text of the Access file at a path of the owner
-unfoldable pub access_line : CanFiles → List (List ℕ) → Option CanFiles
+unfoldable pub access_line : CanFiles → List Text → Option CanFiles
 access_line files (path_word ∷ text_word ∷ []) = do
   path ← path_named path_word
   dir ← access_dir files.tree path
@@ -98,7 +99,7 @@ abbrev pub is_group : PathName → Bool
 is_group path = elim (control_of path) [ control.Ordinary ↦ false | control.Access ↦ false | control.Group ↦ true ]
 
 -- `group PATH TEXT`: the text of the Group file at a path of any owner, whose short names are that owner's
-unfoldable pub group_line : CanFiles → List (List ℕ) → Option CanFiles
+unfoldable pub group_line : CanFiles → List Text → Option CanFiles
 group_line files (path_word ∷ text_word ∷ []) = do
   path ← path_named path_word
   text ← decoded text_word
@@ -109,7 +110,7 @@ group_line files (a ∷ []) = None
 group_line files (a ∷ b ∷ c ∷ more) = None
 
 -- `can USER RIGHT PATH`: whether the user has the right on the path, which is of the tree's owner
-unfoldable pub can_line : CanFiles → List (List ℕ) → Option (List ℕ)
+unfoldable pub can_line : CanFiles → List Text → Option Text
 can_line files (user_word ∷ right_word ∷ path_word ∷ []) = do
   user ← user_named user_word
   right ← right_named right_word
@@ -121,7 +122,7 @@ can_line files (a ∷ b ∷ []) = None
 can_line files (a ∷ b ∷ c ∷ d ∷ more) = None
 
 -- the kind of line that a keyword begins
-unfoldable pub kind_of : List ℕ → Option CanKind
+unfoldable pub kind_of : Text → Option CanKind
 kind_of word =
     if bytes_eq word (codes "can") then Some kinds.Can
     else if bytes_eq word (codes "access") then Some kinds.Access
@@ -130,31 +131,31 @@ kind_of word =
     else None
 
 -- what a line of a kind does once the tree is named
-unfoldable pub files_turn : CanKind → CanFiles → List (List ℕ) → Option Turn
+unfoldable pub files_turn : CanKind → CanFiles → List Text → Option Turn
 files_turn kinds.Tree files arguments = None
 files_turn kinds.Access files arguments = named (access_line files arguments)
 files_turn kinds.Group files arguments = named (group_line files arguments)
 files_turn kinds.Can files arguments = asked files (can_line files arguments)
 
 -- and before it is named
-unfoldable pub first_turn : CanKind → List (List ℕ) → Option Turn
+unfoldable pub first_turn : CanKind → List Text → Option Turn
 first_turn kinds.Tree arguments = named (tree_line arguments)
 first_turn kinds.Access arguments = None
 first_turn kinds.Group arguments = None
 first_turn kinds.Can arguments = None
 
 -- what a line of a kind does with the words behind its keyword
-abbrev pub kind_turn : CanKind → Tree → List (List ℕ) → Option Turn
+abbrev pub kind_turn : CanKind → Tree → List Text → Option Turn
 kind_turn kind None arguments = first_turn kind arguments
 kind_turn kind (Some files) arguments = files_turn kind files arguments
 
 -- what words do, the first of which is the keyword
-unfoldable pub words_turn : Tree → List (List ℕ) → Option Turn
+unfoldable pub words_turn : Tree → List Text → Option Turn
 words_turn tree [] = None
 words_turn tree (keyword ∷ arguments) = do
   kind ← kind_of keyword
   kind_turn kind tree arguments
 
 -- what a line does, or none where it is malformed; an empty line and a comment say nothing
-unfoldable pub turn_of : Tree → List ℕ → Option Turn
+unfoldable pub turn_of : Tree → Text → Option Turn
 turn_of tree line = if is_silent line then Some (record { tree = tree; reply = [] }) else words_turn tree (line_words line)

@@ -1,15 +1,16 @@
 -- What a whole `can` script means: the text that it prints, its status, and the tree at its end. This project's own.
 use Rattle.std.specs.Prelude.{ℕ, ◌+◌, List, [], ◌∷◌, ◌++◌, codes, Some, None, decimal}
+use Rattle.up_names.specs.Texts.{Text}
 use Rattle.up_text.specs.Lines.{script_lines}
 use Rattle.up_script.specs.CanLines.{Tree, Turn, turn_of}
 
 pub record Run : Type 0 where
-  pub text : List ℕ
+  pub text : Text
   pub status : ℕ
   pub tree : Tree
 
 -- `bad line N`, the last line that is printed
-abbrev pub bad_line : ℕ → List ℕ
+abbrev pub bad_line : ℕ → Text
 bad_line number = codes "bad line " ++ decimal number ++ codes "\n"
 
 -- a run ends at a malformed line
@@ -17,11 +18,11 @@ abbrev pub ends_badly : ℕ → Tree → Run
 ends_badly number tree = record { text = bad_line number; status = 1; tree = tree }
 
 -- a reply, and then what the later lines print
-abbrev pub says : List ℕ → Run → Run
+abbrev pub says : Text → Run → Run
 says reply later = record { text = reply ++ later.text; status = later.status; tree = later.tree }
 
 -- the run of lines, the first of which has this number
-abbrev pub run_from : ℕ → Tree → List (List ℕ) → Run
+abbrev pub run_from : ℕ → Tree → List Text → Run
 run_from number tree [] = record { text = []; status = 0; tree = tree }
 run_from number tree (line ∷ lines) = elim (turn_of tree line) [
   | None ↦ ends_badly number tree
@@ -29,5 +30,5 @@ run_from number tree (line ∷ lines) = elim (turn_of tree line) [
 ]
 
 -- the run of a whole input, whose lines are numbered from 1
-unfoldable pub run_of : List ℕ → Run
+unfoldable pub run_of : Text → Run
 run_of input = run_from 1 None (script_lines input)

@@ -5,7 +5,7 @@ use Rattle.std.specs.String.{string_bytes}
 use Rattle.up_names.proofs.Owners.{at_most_254}
 use Rattle.up_names.proofs.PathEdits.{kept_of, root_proper}
 use Rattle.up_names.proofs.PathLaws.{read_off-canonical}
-use Rattle.up_names.proofs.paths.Path.root.Goals as goal
+use Rattle.up_names.proofs.paths.Path.with_room.Goals as goal
 
 -- what is written: the owner and a slash
 text_is : (c : goal.After-new) → string_bytes c.push.new.self ≡ c.args.owner ++ 47 ∷ []
