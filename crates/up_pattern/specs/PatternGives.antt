@@ -1,5 +1,6 @@
 -- What the reader of a pattern gives, memory aside.
-use Rattle.std.specs.Prelude.{◌≡◌, ◌≢◌, ℕ, Result, Ok, Err}
+use Rattle.std.specs.Prelude.{ℕ, Result}
+use Rattle.up_names.specs.Faults.{GivesBut}
 use Rattle.up_names.specs.declared.faults.NameFault.{NameFault}
 use Rattle.up_names.specs.declared.faults.NameFault.TheVariants as name
 use Rattle.up_pattern.specs.declared.faults.ElementFault.{ElementFault}
@@ -9,8 +10,7 @@ use Rattle.up_pattern.specs.declared.faults.PatternFault.TheVariants.{Name, Elem
 
 -- The result, with its value seen by `view`, is exactly what is meant; want of memory alone is free.
 abbrev pub Gives : {X Y : Type 0} → (X → Y) → Result X PatternFault → Result Y PatternFault → Type 0
-Gives view (Ok x) meant = meant ≡ Ok (view x)
-Gives view (Err fault) meant = fault ≢ OutOfMemory → meant ≡ Err fault
+Gives view result meant = GivesBut OutOfMemory view result meant
 
 -- the fault of a pattern whose owner's name has a fault
 abbrev pub owner_fault : NameFault → PatternFault

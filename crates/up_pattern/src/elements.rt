@@ -13,7 +13,6 @@ ghost use Rattle.up_pattern.specs.Reading.{Reads};
 use crate::classes::class_of;
 use crate::faults::ElementFault;
 use crate::matching::matches_terms;
-use crate::pieces::is_step;
 use crate::terms::Term;
 use crate::tokens::Token;
 use std::alloc::{AllocError, Global};
@@ -151,4 +150,11 @@ pub(crate) fn literal_of(alloc: Global, terms: &[Term]) -> Result<Option<String>
         text.push(*c)?;
     }
     Ok(Some(text))
+}
+
+/// Whether a text is `.` or `..`, a step in a path.
+fn is_step(text: &str) -> bool
+    ensures { result ≡ is_step text.now }
+{
+    text == "." || text == ".."
 }

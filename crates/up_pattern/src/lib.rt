@@ -7,7 +7,6 @@ mod faults;
 pub mod laws;
 mod matching;
 mod patterns;
-mod pieces;
 pub mod terms;
 mod tokens;
 

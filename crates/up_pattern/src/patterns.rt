@@ -12,10 +12,9 @@ ghost use Rattle.up_pattern.specs.Reading.{Reads};
 
 use crate::elements::Element;
 use crate::faults::{ElementFault, PatternFault};
-use crate::pieces::{cut_at_slash, element_text};
 use std::alloc::Global;
 use std::marker::Model;
-use up_names::{User, parse_user};
+use up_names::{User, cut_at_slash, element_text, parse_user};
 
 /// How many bytes the text of a pattern may have.
 const MAX_LEN: usize = 4096;
