@@ -1,4 +1,5 @@
-//! A source and a sink over a reader and a writer that fail once, and then go on.
+//! A source and a sink over a reader and a writer that fail once, and then go on. Each call is one call of these, a failed
+//! one too: nothing is tried again.
 use std::io;
 use std::io::{ErrorKind, Read, Write};
 use std::test::Fail;
@@ -54,14 +55,17 @@ impl Write for FailsOnce {
 
 #[test]
 fn source_over_a_reader_that_fails_once(rt: HostRuntime) -> Result<(), Fail> {
-    let mut source = StdSource::new(FailsOnce {
+    let mut reader = FailsOnce {
         calls: 0,
         taken: Vec::new(rt.alloc()),
-    });
+    };
+    let mut source = StdSource::new(&mut reader);
     let mut buf = [0; 4];
     for answer in [Ok(1), Err(Failed), Ok(1)] {
         assert_eq!(rt; source.read(&mut buf), answer);
     }
+    drop(source);
+    assert_eq!(rt; reader.calls, 3);
     Ok(())
 }
 
@@ -76,6 +80,7 @@ fn sink_over_a_writer_that_fails_once(rt: HostRuntime) -> Result<(), Fail> {
         assert_eq!(rt; sink.write(b"ab".as_slice()), answer);
     }
     drop(sink);
+    assert_eq!(rt; writer.calls, 3);
     assert_eq!(rt; writer.taken.as_slice(), b"aa".as_slice());
     Ok(())
 }
