@@ -16,7 +16,10 @@ impl Topic for Names {
         match words.word()? {
             "user" => user_line(alloc, words.one()?, answer),
             "parts" => parts_line(alloc, words.one()?, answer),
+            "root" => root_line(alloc, words.one()?, answer),
+            "reuse" => reuse_line(alloc, words, answer),
             "path" => path_line(alloc, words.one()?, answer),
+            "again" => again_line(alloc, words, answer),
             "long" => long_line(alloc, words, answer),
             "above" => above_line(alloc, words.one()?, answer),
             "join" => join_line(alloc, words, answer),
@@ -45,6 +48,37 @@ fn parts_line(alloc: Global, word: &str, answer: &mut Answer) -> Result<(), Faul
     answer.coded(base.text().as_bytes());
     answer.coded(user.domain().as_bytes());
     answer.coded(user.suffix().unwrap_or("").as_bytes());
+    Ok(())
+}
+
+// `root USER`: the root of the user's tree.
+fn root_line(alloc: Global, word: &str, answer: &mut Answer) -> Result<(), Fault> {
+    let root = Path::root(user_of(alloc, word)?)?;
+    answer.coded(root.as_str().as_bytes());
+    Ok(())
+}
+
+// `reuse USER TEXT`: the user of the text, read in the memory of another; or the fault, and the user that is there then.
+fn reuse_line(alloc: Global, mut words: Words<'_>, answer: &mut Answer) -> Result<(), Fault> {
+    let (user, text) = words.two()?;
+    let text = text_of(alloc, text)?;
+    let mut user = user_of(alloc, user)?;
+    if let Err(fault) = user.read(text.as_slice()) {
+        add_fault(fault, answer);
+    }
+    answer.coded(user.text().as_bytes());
+    Ok(())
+}
+
+// `again PATH TEXT`: the path of the text, read in the memory of another; or the fault, and the path that is there then.
+fn again_line(alloc: Global, mut words: Words<'_>, answer: &mut Answer) -> Result<(), Fault> {
+    let (path, text) = words.two()?;
+    let text = text_of(alloc, text)?;
+    let mut path = path_of(alloc, path)?;
+    if let Err(fault) = path.read(text.as_slice()) {
+        add_fault(fault, answer);
+    }
+    answer.coded(path.as_str().as_bytes());
     Ok(())
 }
 
