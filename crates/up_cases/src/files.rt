@@ -7,10 +7,12 @@ use crate::lines::{File, run_lines};
 use crate::logs::Logs;
 use crate::names::Names;
 use crate::patterns::Patterns;
+use crate::peers::PeerLines;
 use crate::records::Records;
 use crate::references::References;
 use crate::rights::Rights;
 use crate::scripts::run_scripts;
+use crate::signing::Signing;
 use crate::tally::Tally;
 use crate::texts::Texts;
 use std::hash::RandomState;
@@ -65,6 +67,8 @@ fn run_file<R: Files + RandomSource + AllocGlobal + Print>(
         "logs" => run_lines(rt, file, Logs::new(), tally),
         "fields" => run_lines(rt, file, Fields, tally),
         "frames" => run_lines(rt, file, Streams, tally),
+        "peers" => run_lines(rt, file, PeerLines, tally),
+        "signing" => run_lines(rt, file, Signing, tally),
         "patterns" => run_lines(rt, file, Patterns, tally),
         "references" => run_lines(rt, file, References, tally),
         "crashes" => run_lines(rt, file, Crashes, tally),

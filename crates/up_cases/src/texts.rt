@@ -95,7 +95,7 @@ fn group_line(alloc: Global, mut words: Words<'_>, answer: &mut Answer) -> Resul
     }
 }
 
-fn add_members(group: &GroupText, answer: &mut Answer) {
+pub fn add_members(group: &GroupText, answer: &mut Answer) {
     answer.number(group.len());
     for i in 0..group.len() {
         if let Some(item) = group.item(i) {
