@@ -3,11 +3,11 @@ ghost use Rattle.std.specs.Prelude.{◌≡◌, ◌≤◌, ◌+◌, ◌^◌, ℕ,
 ghost use Rattle.up_faults.specs.Counts.{HasCause};
 ghost use Rattle.up_disk.specs.Disk.{CutShort, Elapses, Follows, Only, Steps, Torn, part, written};
 
-/// The disk did not do what it was asked for, and its count of faults rose.
+/// The disk did not do what it was asked for, and its count of faults rose, where it was below 2^64 - 1.
 #[derive(Clone, Copy, Debug, PartialEq, Eq)]
 pub struct Failed;
 
-/// A disk holds bytes. A call that fails raises the count of faults; a count of 2^64 - 1 stays.
+/// A disk holds bytes. A call that fails raises the count of faults, which stays at 2^64 - 1.
 ///
 /// Between two syncs each range that was written, and the part past the old size, may hold any bytes after a
 /// crash, and the size may be any between; a cut may have happened or not; all other bytes stay. After a sync
@@ -28,7 +28,7 @@ pub trait Disk {
     /// What a crash at some moment from that one on might have left, during a call or between two.
     ghost left_since: { Self → ℕ → List ℕ → Type 0 };
 
-    /// How often the disk has failed.
+    /// A count of faults, which never falls and rises in each call that fails. At 2^64 - 1 it stays.
     ghost faults: { Self → ℕ };
 
     /// The number of bytes.

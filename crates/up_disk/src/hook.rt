@@ -8,7 +8,7 @@ use std::alloc::AllocError;
 
 /// What is done before each sync.
 pub trait Hook {
-    /// How often it was done. A count that stands at 2^64 - 1 stays there.
+    /// How often it was done. At 2^64 - 1 the count stays.
     ghost called: { Self → ℕ };
 
     /// Does it once more.

@@ -1,5 +1,22 @@
 //! A disk as a journal sees it, disks in memory whose calls can fail and whose crash images can be looked at,
 //! and a list of disks with spare room.
+//!
+//! The trait [`Disk`] says what a read gives after each call, and what a crash may leave at any moment of it. A write
+//! that is not synced may leave any bytes in its range and past the old end, and any size between (`crash`, `failed`);
+//! a cut may have happened or not; after a sync that succeeds a crash leaves what a read gives (`durable`). What a
+//! crash left at some moment since the start of a run is told by `time`. A call fails only where the count of faults
+//! rose (`cause`). A disk that tells nothing has no images, and what these clauses say of them is then empty.
+//!
+//! [`MemDisk`] is such a disk. It fails where it is told to, and else for want of memory alone; its counts after each
+//! call are exact (`called` of the records in `specs/MemoryCalls.antt`). A listed write leaves the front half of its
+//! bytes, or nothing where there was no memory to note it (`half`), any other write that fails leaves all as it was
+//! (`unlisted`), and so does each other call that fails (`untouched`). [`MemDisk::image`] is exactly the crash image by
+//! its number, and each image is possible (`image`, `possible`).
+//!
+//! [`HookDisk`] is a `MemDisk` that calls its hook exactly once in each sync, also in one that fails, and in no other
+//! call (`hook`); of the order of the two no clause speaks. In all else it does exactly what its `MemDisk` does (`disk`).
+//!
+//! [`Disks`] is a list of disks; what was taken from it can be put back without memory (`succeeds`).
 #![tactic(auto)]
 
 mod call;

@@ -36,6 +36,13 @@ impl<R: Read> StdSource<R> {
             faults: 0,
         }
     }
+
+    /// How many reads failed so far. A count that stands at 2^64 - 1 stays there.
+    pub fn faults(&self) -> u64
+        ensures { result ≡ self.now.faults }
+    {
+        self.faults
+    }
 }
 
 impl<R: Read> Source for StdSource<R> {
@@ -90,6 +97,13 @@ impl<W: Write> StdSink<W> {
         ensures { result ≡ record { writer = writer; faults = 0 } }
     {
         StdSink { writer, faults: 0 }
+    }
+
+    /// How many writes failed so far. A count that stands at 2^64 - 1 stays there.
+    pub fn faults(&self) -> u64
+        ensures { result ≡ self.now.faults }
+    {
+        self.faults
     }
 }
 

@@ -6,7 +6,7 @@ ghost use Rattle.std.specs.Io.KnownBytes.{ReadConsumes, WriteAppends};
 ghost use Rattle.up_faults.specs.Counts.{HasCause};
 ghost use Rattle.up_ends.specs.Sources.{CountsGiven};
 
-/// A source or a sink failed, and its count of faults rose.
+/// A source, a sink or a verifier failed, and its count of faults rose, where it was below 2^64 - 1.
 #[derive(Clone, Copy, Debug, PartialEq, Eq)]
 pub struct Failed;
 
@@ -15,10 +15,10 @@ pub trait Source {
     /// The bytes left, where the source tells them.
     ghost left: { Self → Option (List ℕ) };
 
-    /// How many bytes the source gave so far. A count that stands at 2^64 - 1 stays there.
+    /// A count of bytes, to which each read adds as many as it gave. At 2^64 - 1 it stays.
     ghost given: { Self → ℕ };
 
-    /// How many reads failed so far. A count that stands at 2^64 - 1 stays there.
+    /// A count of faults, which never falls and rises in each call that fails. At 2^64 - 1 it stays.
     ghost faults: { Self → ℕ };
 
     /// Reads the next bytes into the front of `buf`, and answers how many. A buffer that is not empty gets
@@ -35,7 +35,7 @@ pub trait Sink {
     /// The bytes held, where the sink tells them.
     ghost held: { Self → Option (List ℕ) };
 
-    /// How many writes failed so far. A count that stands at 2^64 - 1 stays there.
+    /// A count of faults, which never falls and rises in each call that fails. At 2^64 - 1 it stays.
     ghost faults: { Self → ℕ };
 
     /// Writes a front of the piece, and answers how many bytes: at least one of a piece that is not empty.

@@ -15,7 +15,7 @@ pub trait Grows {
     /// All entries, in order.
     ghost entries: { Self → List Self.Entry };
 
-    /// How often a call failed. A count that stands at 2^64 - 1 stays there.
+    /// A count of faults, which never falls.
     ghost faults: { Self → ℕ };
 
     /// The part that stays.

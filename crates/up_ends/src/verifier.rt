@@ -28,7 +28,7 @@ pub trait Verifier {
     /// What was judged so far, in order, where the verifier tells it.
     ghost judged: { Self → Option (List Judged) };
 
-    /// How often a call failed. A count that stands at 2^64 - 1 stays there.
+    /// A count of faults, which never falls and rises in each call that fails. At 2^64 - 1 it stays.
     ghost faults: { Self → ℕ };
 
     /// The verdict. What was judged grows by exactly this question and its verdict, and stays after an `Err`.

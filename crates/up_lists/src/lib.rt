@@ -1,4 +1,11 @@
-//! One list for every "list of X" of this repository: a `Vec` whose contracts see the list of its items.
+//! One list for every "list of X" of this repository: a `Vec` whose contracts see the list of its items. Beside it stand
+//! two words on lists that every crate with a history shares.
+//!
+//! [`Items`] holds exactly its items, in order, and hands an item back that it could not take (`Items::push`: `items`,
+//! `returned`). What is made of a `Vec` and given back as one takes no memory.
+//!
+//! `specs/Begins.antt` says when a list begins with another, `specs/Runs.antt` what calls one after the other do; their
+//! lemmas are in `proofs/BeginsLemmas.antt` and `proofs/RunLemmas.antt`.
 #![tactic(auto)]
 
 ghost use Rattle.std.specs.Prelude.{◌≡◌, ◌==◌, [], ◌∷◌, ◌++◌, length, is_ok, if◌then◌else◌, IfErr, slice_get};
