@@ -41,6 +41,10 @@ pub record Elapses (before now : ℕ) (past since : ℕ → List ℕ → Type 0)
   pub nothing_else : (t : ℕ) (image : List ℕ) → t ≤ before → since t image → past t image ⊎ may_leave image
   pub keeps : (t : ℕ) (image : List ℕ) → t ≤ before → past t image → since t image
 
+-- time goes on from one state of a disk to the next
+abbrev pub TimePasses : {D : Type 0} → (D → ℕ) → (D → ℕ → List ℕ → Type 0) → (D → List ℕ → Type 0) → D → D → Type 0
+TimePasses moment left_since may_leave old new = Elapses (moment old) (moment new) (left_since old) (left_since new) (may_leave new)
+
 -- A crash at any moment since old left an image that has P.
 pub record LeavesOnly {D : Type 0} (moment : D → ℕ) (left_since : D → ℕ → List ℕ → Type 0) (old new : D) (P : List ℕ → Type 0) : Type 0 where
   pub later : moment old ≤ moment new

@@ -3,13 +3,9 @@
 use Rattle.std.specs.Prelude.{◌≡◌, ◌≤◌, ◌+◌, ◌/◌, ◌⊎◌, ℕ, max, List, length, take, true, false, Result, Option, option_map, IfSome, IsErr, OnOk, OnErr}
 use Rattle.up_faults.specs.Counts.{HasCause}
 use Rattle.up_faults.specs.Calls.{IsCalled, fails_next}
-use Rattle.up_disk.specs.Disk.{CutShort, Elapses, Follows, Only, Steps, Torn, part, written}
+use Rattle.up_disk.specs.Disk.{CutShort, Follows, Only, Steps, TimePasses, Torn, part, written}
 use Rattle.up_disk.specs.Memory.{content_of, faults_of, left_since_of, length_of, may_leave_of, moment_of, plan_of, IsCut, IsSynced, IsUntouched, IsWritten}
 use Rattle.up_disk.specs.declared.memory.MemDisk.{MemDisk}
-
--- time goes on for a disk in memory
-abbrev pub TimePasses : MemDisk → MemDisk → Type 0
-TimePasses old new = Elapses (moment_of old) (moment_of new) (left_since_of old) (left_since_of new) (may_leave_of new)
 
 -- a read into a buffer fails where its number is listed, and only there, and leaves the disk as it was
 pub record IsReadFrom {E : Type 0} (at : ℕ) (before after : List ℕ) (result : Result (Unit {0}) E) (old new : MemDisk) : Type 0 where
@@ -17,7 +13,7 @@ pub record IsReadFrom {E : Type 0} (at : ℕ) (before after : List ℕ) (result 
   pub content : content_of new ≡ content_of old
   pub size : length_of new ≡ length_of old
   pub crash : (image : List ℕ) → may_leave_of new image → may_leave_of old image
-  pub time : TimePasses old new
+  pub time : TimePasses moment_of left_since_of may_leave_of old new
   pub cause : HasCause (faults_of old) (faults_of new) (IsErr result)
   pub called : IsCalled (plan_of old) (plan_of new) result
   pub only_listed : OnErr result (fails_next (plan_of old) ≡ true)
@@ -32,7 +28,7 @@ pub record IsWrittenTo {E : Type 0} (at : ℕ) (bytes : List ℕ) (result : Resu
   pub no_shorter : length_of old ≤ length_of new
   pub no_longer : length_of new ≤ max (length_of old) (at + length bytes)
   pub crash : Follows (Torn at (length bytes)) (may_leave_of old) (may_leave_of new)
-  pub time : TimePasses old new
+  pub time : TimePasses moment_of left_since_of may_leave_of old new
   pub cause : HasCause (faults_of old) (faults_of new) (IsErr result)
   pub called : IsCalled (plan_of old) (plan_of new) result
   pub lands : OnOk result (IsWritten at bytes (length bytes) old new)
@@ -47,7 +43,7 @@ pub record IsCutTo {E : Type 0} (size : ℕ) (result : Result (Unit {0}) E) (old
   pub no_shorter : size ≤ length_of new
   pub no_longer : length_of new ≤ length_of old
   pub crash : Follows (CutShort size) (may_leave_of old) (may_leave_of new)
-  pub time : TimePasses old new
+  pub time : TimePasses moment_of left_since_of may_leave_of old new
   pub cause : HasCause (faults_of old) (faults_of new) (IsErr result)
   pub called : IsCalled (plan_of old) (plan_of new) result
   pub lands : OnOk result (IsCut size old new)
@@ -59,7 +55,7 @@ pub record IsSyncedTo {E : Type 0} (result : Result (Unit {0}) E) (old new : Mem
   pub content : content_of new ≡ content_of old
   pub size : length_of new ≡ length_of old
   pub crash : (image : List ℕ) → may_leave_of new image → may_leave_of old image
-  pub time : TimePasses old new
+  pub time : TimePasses moment_of left_since_of may_leave_of old new
   pub cause : HasCause (faults_of old) (faults_of new) (IsErr result)
   pub called : IsCalled (plan_of old) (plan_of new) result
   pub lands : OnOk result (IsSynced old new)

@@ -1,11 +1,9 @@
 //! A disk: what a read gives, and what a crash may leave.
 ghost use Rattle.std.specs.Prelude.{◌≡◌, ◌≤◌, ◌+◌, ◌^◌, ℕ, max, List, length, take, Option, option_map, IfSome, IsSome, IsErr, OnOk, OnErr};
 ghost use Rattle.up_faults.specs.Counts.{HasCause};
-ghost use Rattle.up_disk.specs.Disk.{CutShort, Elapses, Follows, Only, Steps, Torn, part, written};
+ghost use Rattle.up_disk.specs.Disk.{CutShort, Follows, Only, Steps, TimePasses, Torn, part, written};
 
-/// The disk did not do what it was asked for, and its count of faults rose, where it was below 2^64 - 1.
-#[derive(Clone, Copy, Debug, PartialEq, Eq)]
-pub struct Failed;
+use crate::fault::Failed;
 
 /// A disk holds bytes. A call that fails raises the count of faults, which stays at 2^64 - 1.
 ///
@@ -38,11 +36,12 @@ pub trait Disk {
     /// Reads the bytes at `at`, as many as the buffer has. The range lies within the size.
     fn read(&mut self, at: u64, buf: &mut [u8]) -> Result<(), Failed>
         requires { at + length buf.old ≤ size_of self.old }
-        ensures bytes { OnOk result (IfSome (content self.old) (λ bytes. buf.new ≡ part at (length buf.old) bytes)) }
+        ensures bytes { OnOk result (IfSome (content self.old)
+            (λ bytes. buf.new ≡ part at (length buf.old) bytes)) }
         ensures content { content self.new ≡ content self.old }
         ensures size { size_of self.new ≡ size_of self.old }
         ensures crash { (image : List ℕ) → may_leave self.new image → may_leave self.old image }
-        ensures time { Elapses (moment self.old) (moment self.new) (left_since self.old) (left_since self.new) (may_leave self.new) }
+        ensures time { TimePasses moment left_since may_leave self.old self.new }
         ensures cause { HasCause (faults self.old) (faults self.new) (IsErr result) };
 
     /// Writes over what is there, and past the end. `at` is at most the size, and the end at most 2^62. A write
@@ -50,25 +49,30 @@ pub trait Disk {
     fn write_at(&mut self, at: u64, bytes: &[u8]) -> Result<(), Failed>
         requires within { at ≤ size_of self.old }
         requires end { at + length bytes.now ≤ 2 ^ 62 }
-        ensures written { OnOk result (content self.new ≡ option_map (written at bytes.now) (content self.old)) }
-        ensures failed { OnErr result (Steps (Torn at (length bytes.now)) (content self.old) (content self.new)) }
-        ensures size { OnOk result (size_of self.new ≡ max (size_of self.old) (at + length bytes.now)) }
+        ensures written { OnOk result
+            (content self.new ≡ option_map (written at bytes.now) (content self.old)) }
+        ensures failed { OnErr result
+            (Steps (Torn at (length bytes.now)) (content self.old) (content self.new)) }
+        ensures size { OnOk result
+            (size_of self.new ≡ max (size_of self.old) (at + length bytes.now)) }
         ensures no_shorter { size_of self.old ≤ size_of self.new }
         ensures no_longer { size_of self.new ≤ max (size_of self.old) (at + length bytes.now) }
-        ensures crash { Follows (Torn at (length bytes.now)) (may_leave self.old) (may_leave self.new) }
-        ensures time { Elapses (moment self.old) (moment self.new) (left_since self.old) (left_since self.new) (may_leave self.new) }
+        ensures crash { Follows (Torn at (length bytes.now))
+            (may_leave self.old) (may_leave self.new) }
+        ensures time { TimePasses moment left_since may_leave self.old self.new }
         ensures cause { HasCause (faults self.old) (faults self.new) (IsErr result) };
 
     /// Cuts the disk to a size, which is at most the one that it has. A cut that fails may have happened or not.
     fn cut(&mut self, size: u64) -> Result<(), Failed>
         requires { size ≤ size_of self.old }
         ensures cut { OnOk result (content self.new ≡ option_map (take size) (content self.old)) }
-        ensures failed { OnErr result (Steps (CutShort size) (content self.old) (content self.new)) }
+        ensures failed { OnErr result
+            (Steps (CutShort size) (content self.old) (content self.new)) }
         ensures size { OnOk result (size_of self.new ≡ size) }
         ensures no_shorter { size ≤ size_of self.new }
         ensures no_longer { size_of self.new ≤ size_of self.old }
         ensures crash { Follows (CutShort size) (may_leave self.old) (may_leave self.new) }
-        ensures time { Elapses (moment self.old) (moment self.new) (left_since self.old) (left_since self.new) (may_leave self.new) }
+        ensures time { TimePasses moment left_since may_leave self.old self.new }
         ensures cause { HasCause (faults self.old) (faults self.new) (IsErr result) };
 
     /// After it has succeeded, a crash leaves what a read gives.
@@ -77,7 +81,7 @@ pub trait Disk {
         ensures content { content self.new ≡ content self.old }
         ensures size { size_of self.new ≡ size_of self.old }
         ensures crash { (image : List ℕ) → may_leave self.new image → may_leave self.old image }
-        ensures time { Elapses (moment self.old) (moment self.new) (left_since self.old) (left_since self.new) (may_leave self.new) }
+        ensures time { TimePasses moment left_since may_leave self.old self.new }
         ensures cause { HasCause (faults self.old) (faults self.new) (IsErr result) };
 
     /// The size is that of the bytes.
@@ -90,8 +94,10 @@ pub trait Disk {
     ghost leaves_read: { (disk : Self) → IfSome (content disk) (may_leave disk) };
 
     /// This moment is one of those since an earlier one.
-    ghost counts_now: { (disk : Self) (t : ℕ) (image : List ℕ) → t ≤ moment disk → may_leave disk image → left_since disk t image };
+    ghost counts_now: { (disk : Self) (t : ℕ) (image : List ℕ) →
+        t ≤ moment disk → may_leave disk image → left_since disk t image };
 
     /// Since this moment there is no other.
-    ghost only_now: { (disk : Self) (image : List ℕ) → left_since disk (moment disk) image → may_leave disk image };
+    ghost only_now: { (disk : Self) (image : List ℕ) →
+        left_since disk (moment disk) image → may_leave disk image };
 }

@@ -39,9 +39,11 @@ impl<D> Disks<D> {
     /// Adds a disk at the end. Spare room is used first; without it, memory is asked for. An `Err` hands the disk
     /// back and leaves the list as it was.
     pub fn push(&mut self, disk: D) -> Result<(), AllocFailed<D>>
-        ensures disks { self.new.disks ≡ (if is_ok result then self.old.disks ++ disk ∷ [] else self.old.disks) }
+        ensures disks { self.new.disks ≡
+            (if is_ok result then self.old.disks ++ disk ∷ [] else self.old.disks) }
         ensures succeeds { 0 < self.old.spare → IsOk result }
-        ensures spare { self.new.spare ≡ (if is_ok result then self.old.spare - 1 else self.old.spare) }
+        ensures spare { self.new.spare ≡
+            (if is_ok result then self.old.spare - 1 else self.old.spare) }
         ensures returned { IfErr result (λ failed. failed.value ≡ disk) }
     {
         self.disks.push_back(disk)?;
@@ -53,7 +55,8 @@ impl<D> Disks<D> {
     pub fn take(&mut self) -> Option<D>
         ensures disks { self.old.disks ≡ option_to_list result ++ self.new.disks }
         ensures none { IsNone result ↔ (self.old.disks ≡ []) }
-        ensures spare { self.new.spare ≡ (if is_some result then self.old.spare + 1 else self.old.spare) }
+        ensures spare { self.new.spare ≡
+            (if is_some result then self.old.spare + 1 else self.old.spare) }
     {
         let disk = self.disks.pop_front()?;
         self.spare += 1;

@@ -2,7 +2,8 @@
 ghost use Rattle.std.specs.Prelude.{◌≡◌, ℕ};
 ghost use Rattle.up_faults.specs.Counts.{count_after};
 
-use crate::disk::{Disk, Failed};
+use crate::disk::Disk;
+use crate::fault::Failed;
 use crate::memory::MemDisk;
 use std::alloc::AllocError;
 
@@ -80,11 +81,14 @@ impl<H: Hook> Disk for HookDisk<H> {
 
     ghost told = { λ disk image left. refl };
 
-    ghost leaves_read = { λ hooked. leaves_bytes hooked.disk.first hooked.disk.bytes.items hooked.disk.calls.items hooked.disk.kept };
+    ghost leaves_read = { λ hooked. leaves_bytes hooked.disk.first
+        hooked.disk.bytes.items hooked.disk.calls.items hooked.disk.kept };
 
-    ghost counts_now = { λ hooked t image le left. since_now hooked.disk.first hooked.disk.calls.items t image le left };
+    ghost counts_now = { λ hooked t image le left.
+        since_now hooked.disk.first hooked.disk.calls.items t image le left };
 
-    ghost only_now = { λ hooked image left. now_only hooked.disk.first hooked.disk.calls.items image left };
+    ghost only_now = { λ hooked image left.
+        now_only hooked.disk.first hooked.disk.calls.items image left };
 
     fn size(&self) -> u64 {
         self.disk.size()

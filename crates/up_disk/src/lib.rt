@@ -22,11 +22,13 @@
 mod call;
 mod disk;
 mod disks;
+mod fault;
 mod hook;
 mod landing;
 mod memory;
 
-pub use disk::{Disk, Failed};
+pub use disk::Disk;
 pub use disks::Disks;
+pub use fault::Failed;
 pub use hook::{Hook, HookDisk};
 pub use memory::MemDisk;

@@ -4,7 +4,8 @@ ghost use Rattle.up_faults.specs.Calls.{IsCalled};
 ghost use Rattle.up_disk.specs.Pending.{content_after, synced_calls};
 
 use crate::call::{Call, Written};
-use crate::disk::{Disk, Failed};
+use crate::disk::Disk;
+use crate::fault::Failed;
 use crate::landing::{copy_of, land_all, landing, overwrite, redo_all};
 use std::alloc::{AllocError, Global};
 use up_faults::Calls;
@@ -28,7 +29,7 @@ pub struct MemDisk {
 impl MemDisk {
     ghost use Rattle.std.specs.Prelude.{◌≡◌, ◌≤◌, ◌+◌, ◌^◌, [], Some, IfOk, OnOk, OnErr, length, take};
     ghost use Rattle.up_faults.specs.Calls.{no_call_made};
-    ghost use Rattle.up_disk.specs.Disk.{Elapses, Follows, Only, Torn, written};
+    ghost use Rattle.up_disk.specs.Disk.{Follows, Only, TimePasses, Torn, written};
     ghost use Rattle.up_disk.specs.Memory.{content_of, image_of, left_since_of, may_leave_of, moment_of, plan_of, IsUntouched, IsWritten};
 
     /// An empty disk. `fails` has the numbers of the calls that fail: all calls of [`Disk`] but `size` count, from 0,
@@ -81,12 +82,14 @@ impl MemDisk {
         requires within { at ≤ length self.old.bytes.items }
         requires end { at + length bytes.now ≤ 2 ^ 62 }
         requires part { landed ≤ length bytes.now }
-        ensures ok { OnOk result (self.new.bytes.items ≡ written at (take landed bytes.now) self.old.bytes.items) }
+        ensures ok { OnOk result
+            (self.new.bytes.items ≡ written at (take landed bytes.now) self.old.bytes.items) }
         ensures torn { Torn at (length bytes.now) self.old.bytes.items self.new.bytes.items }
         ensures lands { OnOk result (IsWritten at bytes.now landed self.old self.new) }
         ensures untouched { OnErr result (IsUntouched self.old self.new) }
-        ensures crash { Follows (Torn at (length bytes.now)) (may_leave_of self.old) (may_leave_of self.new) }
-        ensures time { Elapses (moment_of self.old) (moment_of self.new) (left_since_of self.old) (left_since_of self.new) (may_leave_of self.new) }
+        ensures crash { Follows (Torn at (length bytes.now))
+            (may_leave_of self.old) (may_leave_of self.new) }
+        ensures time { TimePasses moment_of left_since_of may_leave_of self.old self.new }
         ensures err { OnErr result (self.new.bytes.items ≡ self.old.bytes.items) }
         ensures plan { self.new.plan ≡ self.old.plan }
     {
@@ -124,9 +127,11 @@ impl Disk for MemDisk {
 
     ghost told = { λ disk image left. refl };
 
-    ghost leaves_read = { λ disk. leaves_bytes disk.first disk.bytes.items disk.calls.items disk.kept };
+    ghost leaves_read = { λ disk.
+        leaves_bytes disk.first disk.bytes.items disk.calls.items disk.kept };
 
-    ghost counts_now = { λ disk t image le left. since_now disk.first disk.calls.items t image le left };
+    ghost counts_now = { λ disk t image le left.
+        since_now disk.first disk.calls.items t image le left };
 
     ghost only_now = { λ disk image left. now_only disk.first disk.calls.items image left };
 

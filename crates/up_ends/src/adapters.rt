@@ -5,7 +5,8 @@ ghost use Rattle.std.specs.Io.KnownBytes.{ReadConsumes, WriteAppends};
 ghost use Rattle.up_faults.specs.Counts.{count_after, HasCause};
 ghost use Rattle.up_ends.specs.Sources.{CountsGiven};
 
-use crate::ends::{Failed, Sink, Source};
+use crate::ends::{Sink, Source};
+use crate::fault::Failed;
 use std::io::{Read, Write};
 use std::marker::Model;
 

@@ -6,9 +6,7 @@ ghost use Rattle.std.specs.Io.KnownBytes.{ReadConsumes, WriteAppends};
 ghost use Rattle.up_faults.specs.Counts.{HasCause};
 ghost use Rattle.up_ends.specs.Sources.{CountsGiven};
 
-/// A source, a sink or a verifier failed, and its count of faults rose, where it was below 2^64 - 1.
-#[derive(Clone, Copy, Debug, PartialEq, Eq)]
-pub struct Failed;
+use crate::fault::Failed;
 
 /// Where bytes come from.
 pub trait Source {

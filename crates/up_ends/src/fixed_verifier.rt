@@ -4,7 +4,7 @@ ghost use Rattle.up_faults.specs.Counts.{count_after, HasCause};
 ghost use Rattle.up_ends.specs.Telling.{next_of};
 ghost use Rattle.up_ends.specs.Verdicts.{Judges, after_failure, after_verdict};
 
-use crate::ends::Failed;
+use crate::fault::Failed;
 use crate::upcoming::Upcoming;
 use crate::verifier::{Judged, Verdict, Verifier};
 use std::alloc::{AllocError, Global};

@@ -24,6 +24,7 @@
 mod adapters;
 mod clock;
 mod ends;
+mod fault;
 mod fixed_verifier;
 mod gate;
 mod grows;
@@ -36,7 +37,8 @@ mod whole;
 
 pub use adapters::{StdSink, StdSource};
 pub use clock::{Clock, END_OF_MOMENTS, FixedClock};
-pub use ends::{Failed, Sink, Source};
+pub use ends::{Sink, Source};
+pub use fault::Failed;
 pub use fixed_verifier::FixedVerifier;
 pub use gate::{Gate, OpenGate};
 pub use grows::Grows;

@@ -6,7 +6,8 @@ ghost use Rattle.up_faults.specs.Counts.{HasCause};
 ghost use Rattle.up_faults.specs.Calls.{fails_next, no_call_made};
 ghost use Rattle.up_ends.specs.Sinks.{after_write, after_failed_write};
 
-use crate::ends::{Failed, Sink};
+use crate::ends::Sink;
+use crate::fault::Failed;
 use std::alloc::Global;
 use std::marker::Model;
 use up_faults::Calls;

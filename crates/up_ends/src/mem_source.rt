@@ -7,7 +7,8 @@ ghost use Rattle.up_faults.specs.Counts.{HasCause};
 ghost use Rattle.up_faults.specs.Calls.{fails_next, no_call_made};
 ghost use Rattle.up_ends.specs.Sources.{CountsGiven, piece_of, read_size, after_read, after_failed_read};
 
-use crate::ends::{Failed, Source};
+use crate::ends::Source;
+use crate::fault::Failed;
 use std::marker::Model;
 use std::vec::IntoIter;
 use up_faults::Calls;

@@ -4,7 +4,7 @@ ghost use Rattle.up_faults.specs.Counts.{HasCause};
 ghost use Rattle.up_ends.specs.Verdicts.{Judges};
 ghost use Rattle.up_ends.specs.declared.verifier.Judged.{Judged};
 
-use crate::ends::Failed;
+use crate::fault::Failed;
 use up_lists::Items;
 
 /// Whether a signature is that of a message by a key.

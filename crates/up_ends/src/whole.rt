@@ -5,20 +5,25 @@ ghost use Rattle.up_faults.specs.Counts.{count_after, HasCause};
 ghost use Rattle.up_ends.specs.Sources.{LosesFront};
 ghost use Rattle.up_ends.specs.Writing.{WritesPart};
 
-use crate::ends::{Failed, Sink, Source};
+use crate::ends::{Sink, Source};
+use crate::fault::Failed;
 use std::alloc::{AllocError, Global};
+use thiserror::Error;
 
 /// How many bytes one read asks for.
 const PIECE_SIZE: usize = 65_536;
 
 /// Why a source was not read whole.
-#[derive(Clone, Copy, Debug, PartialEq, Eq)]
+#[derive(Clone, Copy, Debug, PartialEq, Eq, Error)]
 pub enum ReadFault {
     /// The source gave more bytes than the limit.
+    #[error("the input is too long")]
     TooLong,
     /// A read failed, and the source's count of faults rose.
+    #[error("a read failed")]
     Failed,
     /// Memory ran out.
+    #[error("out of memory")]
     OutOfMemory,
 }
 

@@ -20,7 +20,11 @@ impl Model for Calls {
 
     ghost Value = { CallPlan };
 
-    ghost view = { λ calls. record { fails = calls.fails; made = calls.made; faults = calls.faults } };
+    ghost view = { λ calls. record {
+      fails = calls.fails;
+      made = calls.made;
+      faults = calls.faults;
+    } };
 }
 
 impl Calls {

@@ -25,7 +25,8 @@ impl<T> Model for Piece<T> {
 
     ghost view = { λ piece. piece.items.items };
 
-    ghost invariant = { λ piece. (length piece.items.items ≤ 512) × (512 ≤ vec_capacity piece.items) };
+    ghost invariant = { λ piece. (length piece.items.items ≤ 512)
+        × (512 ≤ vec_capacity piece.items) };
 }
 
 impl<T> Piece<T> {

@@ -42,7 +42,8 @@ pub fn take_out<T>(pieces: &mut Vec<Piece<T>>, starts: &mut Vec<usize>, p: usize
     requires piece { p < length pieces.old.items }
     requires place { j < length (get_or pieces.old.items p []) }
     requires another { 1 < length (get_or pieces.old.items p []) }
-    ensures item { slice_get (joined pieces.old.items) (before pieces.old.items p + j) ≡ Some result }
+    ensures item { slice_get (joined pieces.old.items) (before pieces.old.items p + j)
+        ≡ Some result }
     ensures items { joined pieces.new.items ≡
         remove (joined pieces.old.items) (before pieces.old.items p + j) }
     ensures placed { Placed pieces.new.items starts.new.items }

@@ -5,7 +5,7 @@ use Rattle.up_pieces.proofs.Moves.{places_large_after, placed_taken}
 use Rattle.up_pieces.proofs.table.take_piece.Goals as goal
 
 pub lower-requires : goal.lower-requires
-lower-requires g c = record { large = λ k o l. places_large_after c.args.pieces.now.items c.args.starts.now.items c.remove.new.self.items c.args.p k c.requires.placed c.requires.piece c.remove.ensures.items o l }
+lower-requires g c = λ k o l. places_large_after c.args.pieces.now.items c.args.starts.now.items c.remove.new.self.items c.args.p k c.requires.placed c.requires.piece c.remove.ensures.items o l
 
 pub returns-clause-items : goal.returns-clause-items
 returns-clause-items g c = ap joined c.remove-piece.ensures.items ∙ joined-take c.args.pieces.now.items c.args.p c.requires.piece c.requires.one
