@@ -1,12 +1,13 @@
-//! Sources and sinks, in memory and over the readers and writers of std: read to their ends and written whole. A line stands
-//! alone.
+//! Sources and sinks, in memory and over the readers and writers of std: read to their ends and written whole; and a clock,
+//! nonces and a verifier in memory. A line stands alone.
 use crate::answer::Answer;
 use crate::fault::Fault;
 use crate::topic::Topic;
-use crate::words::{Words, bytes_of, number_of};
+use crate::words::{Words, byte_of, bytes_of, number_of};
 use std::alloc::{AllocError, Global};
 use up_ends::{
-    Failed, MemSink, MemSource, ReadFault, Sink, Source, StdSink, StdSource, read_all, write_all,
+    Clock, END_OF_MOMENTS, Failed, FixedClock, FixedVerifier, ListNonces, MemSink, MemSource,
+    Nonces, ReadFault, Sink, Source, StdSink, StdSource, Verdict, Verifier, read_all, write_all,
 };
 use up_lists::Items;
 
@@ -23,6 +24,9 @@ impl Topic for Ends {
             "all" => all_line(alloc, words, answer),
             "whole" => whole_line(alloc, words, answer),
             "copy" => copy_line(alloc, words, answer),
+            "clock" => clock_line(words, answer),
+            "nonces" => nonces_line(alloc, words, answer),
+            "verdicts" => verdicts_line(alloc, words, answer),
             _ => Err(Fault::BadLine),
         }
     }
@@ -139,4 +143,98 @@ fn copy_text(alloc: Global, text: &[u8], copy: &mut Vec<u8>) -> Result<(), Fault
     let read = read_all(alloc, &mut source, 1_000).map_err(|_| Fault::BadLine)?;
     let mut sink = StdSink::new(copy);
     write_all(&mut sink, &read).map_err(|_| Fault::BadLine)
+}
+
+// `clock MOMENT N`: what a clock in memory answers N times.
+fn clock_line(mut words: Words<'_>, answer: &mut Answer) -> Result<(), Fault> {
+    let (now, count) = words.two_numbers()?;
+    if now >= END_OF_MOMENTS {
+        return Err(Fault::BadLine);
+    }
+    let mut clock = FixedClock::new(now);
+    for _ in 0..count {
+        answer.number(clock.now());
+    }
+    Ok(())
+}
+
+// `nonces LIST N`: the first and the last byte of each of N nonces, of which the first ones are told: each is 32 times a byte.
+fn nonces_line(alloc: Global, mut words: Words<'_>, answer: &mut Answer) -> Result<(), Fault> {
+    let first = nonces_of(alloc, words.word()?)?;
+    let count = words.last_number()?;
+    let mut nonces = ListNonces::new(first);
+    for _ in 0..count {
+        let nonce = nonces.next();
+        answer.digits(&nonce[..1]);
+        answer.digits(&nonce[31..]);
+    }
+    Ok(())
+}
+
+fn nonces_of(alloc: Global, word: &str) -> Result<Items<[u8; 32]>, Fault> {
+    let mut nonces = Items::new(alloc);
+    if word == "-" {
+        return Ok(nonces);
+    }
+    for digits in word.split(',') {
+        nonces.push([byte_of(digits)?; 32])?;
+    }
+    Ok(nonces)
+}
+
+// `verdicts LIST AFTER N`: what a verifier in memory answers to N questions, and last how many it has judged, and its word for
+// the last of these.
+fn verdicts_line(alloc: Global, mut words: Words<'_>, answer: &mut Answer) -> Result<(), Fault> {
+    let (first, after, count) = words.three()?;
+    let count = number_of(count)?;
+    let after = verdict_of(after)?;
+    let first = verdicts_of(alloc, first)?;
+    let mut verifier = FixedVerifier::new(alloc, first, after);
+    for n in 0..count {
+        add_verdict(
+            verifier.verdict(b"key", b"message", &n.to_be_bytes()),
+            answer,
+        );
+    }
+    add_judged(&verifier, answer);
+    Ok(())
+}
+
+fn verdicts_of(alloc: Global, word: &str) -> Result<Items<Option<Verdict>>, Fault> {
+    let mut verdicts = Items::new(alloc);
+    if word == "-" {
+        return Ok(verdicts);
+    }
+    for verdict in word.split(',') {
+        verdicts.push(verdict_of(verdict)?)?;
+    }
+    Ok(verdicts)
+}
+
+fn verdict_of(word: &str) -> Result<Option<Verdict>, Fault> {
+    match word {
+        "yes" => Ok(Some(Verdict::Yes)),
+        "no" => Ok(Some(Verdict::No)),
+        "fault" => Ok(None),
+        _ => Err(Fault::BadLine),
+    }
+}
+
+fn add_verdict(verdict: Result<Verdict, Failed>, answer: &mut Answer) {
+    match verdict {
+        Ok(verdict) => answer.yes(verdict == Verdict::Yes),
+        Err(Failed) => answer.word("fault"),
+    }
+}
+
+fn add_judged(verifier: &FixedVerifier, answer: &mut Answer) {
+    let judged = verifier.judged();
+    answer.word("judged");
+    answer.number(judged.len() as u64);
+    if let Some(last) = judged.last() {
+        answer.coded(last.key.as_slice());
+        answer.coded(last.message.as_slice());
+        answer.digits(last.signature.as_slice());
+        answer.yes(last.verdict == Verdict::Yes);
+    }
 }
