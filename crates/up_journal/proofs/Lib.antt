@@ -1,10 +1,13 @@
 pub mod Appended
 pub mod Cells
-pub mod Format
+pub mod Gates
 pub mod Heads
 pub mod Kept
+pub mod Logs
 pub mod Moved
 pub mod Opened
+pub mod Reading
 pub mod Records
 pub mod Runs
 pub mod Settled
+pub mod Spans

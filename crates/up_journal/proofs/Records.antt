@@ -1,18 +1,26 @@
 -- What every reader of records above a journal needs.
-use Rattle.std.proofs.Common.{◌≡◌, ◌+◌, ◌≤◌, ◌<◌, ◌^◌, ◌-◌, ℕ, suc, List, [], ◌∷◌, ◌++◌, length, take, drop, take-append-drop, Option, Some, None, option_map, IsSome, IfSome, Result, Ok, Err, refl, sym, ◌∙◌, ap, subst, ◌⊎◌, inl, inr, ⊎_elim, arith, sum_by}
+use Rattle.std.proofs.Common.{◌≡◌, ◌+◌, ◌≤◌, ◌<◌, ◌^◌, ◌-◌, ℕ, suc, List, [], ◌∷◌, ◌++◌, length, take, drop, take-append-drop, Option, Some, None, option_map, is_some, IsSome, IfSome, Result, Ok, Err, refl, sym, ◌∙◌, ap, subst, ◌⊎◌, inl, inr, ⊎_elim, arith, sum_by}
 use Rattle.std.proofs.Math.Seq.{drop-cons}
-use Rattle.std.proofs.lemmas.Bool.{cases_lt}
 use Rattle.std.proofs.lemmas.List.{drop_all}
-use Rattle.std.proofs.lemmas.List.Sums.{sum_by-cons}
+use Rattle.std.proofs.lemmas.Grind.{take_at_read}
+use Rattle.std.proofs.lemmas.List.Sums.{sum_by-append, sum_by-cons}
 use Rattle.std.proofs.lemmas.Option.{get_or_from_slice_get, slice_get_within}
 use Rattle.std.specs.List.{slice_get}
 use Rattle.std.specs.Option.{option_and_then}
 use Rattle.up_disk.specs.Disk.{LeavesOnly}
 use Rattle.up_disk.proofs.Moments.{joined, started, weaker}
-use Rattle.up_journal.specs.Cells.{Rises}
-use Rattle.up_journal.specs.Format.{first_gate, head_size, log_of}
+use Rattle.up_disk.specs.declared.disk.Disk.{Ghosts}
+use Rattle.up_journal.specs.Crashes.{IsOpened, Leaves, LeavesNow}
+use Rattle.up_journal.specs.Damages.{Damage, Damaged}
+use Rattle.up_journal.specs.Format2.{head_size, log_of}
+use Rattle.up_journal.specs.Gates.{first_gate}
+use Rattle.up_journal.specs.Journal.{gate_behind as gate_after}
 use Rattle.up_journal.specs.Journal.{HasLog, IsReadAs, MayHave, StandsFor, State, with_further}
+use Rattle.up_journal.specs.Opened.{IsDamageOf, IsLogOf, why_of}
+use Rattle.up_journal.specs.declared.fault.OpenWhy.{OpenWhy}
+use Rattle.up_journal.specs.declared.fault.OpenWhy.TheVariants as open_why
 use Rattle.up_journal.specs.declared.limits.Limits.{Limits}
+use Rattle.up_journal.proofs.Opened.{damaged_is}
 use Rattle.up_journal.specs.Records.{HasNext, IsReadAlike, LeadsTo, MayHaveState, OnlyPayloads, ReadUpTo, Replays, StandsForState, by_record, of_log, or_place, records_of, replay, replay_from, state_after, state_of}
 
 -- ---- lists
@@ -24,6 +32,9 @@ drop_get {A} xs n x is =
     ∙ ap (λ (y : A). y ∷ drop (suc n) xs) (get_or_from_slice_get xs n x x is)
     ∙ ap (λ (k : ℕ). x ∷ drop k xs) next
 
+pub take_next : {A : Type 0} (xs : List A) (n : ℕ) (x : A) → slice_get xs n ≡ Some x → take (n + 1) xs ≡ take n xs ++ x ∷ []
+take_next {A} xs n x is = (take_at_read xs n x (slice_get_within xs n x is)).1 ∙ ap (λ (y : A). take n xs ++ y ∷ []) (get_or_from_slice_get xs n x x is)
+
 -- ---- places of gates
 
 -- the place of the gate behind records of which the first stands at that gate
@@ -31,12 +42,10 @@ abbrev pub gate_behind : ℕ → List (List ℕ) → ℕ
 gate_behind gate [] = gate
 gate_behind gate (payload ∷ log) = gate_behind (gate + head_size + length payload) log
 
--- the bytes from a record's gate on, up to and with the closed one, as a record is passed over
-pub left_next : (sizes : List ℕ) (n size left : ℕ) → slice_get sizes n ≡ Some size → left ≡ sum_by (λ s. s + head_size) (drop n sizes) + 1
-    → (head_size + size < left) × (left - (head_size + size) ≡ sum_by (λ s. s + head_size) (drop (n + 1) sizes) + 1)
-left_next sizes n size left is sums =
-    let more = ap (λ (l : List ℕ). sum_by (λ s. s + head_size) l) (drop_get sizes n size is) ∙ sum_by-cons (λ (s : ℕ). s + head_size) size (drop (n + 1) sizes) in
-    (omega (arith, sums, more), omega (arith, sums, more))
+-- the gate behind one record more
+pub gate_next : (sizes : List ℕ) (n size : ℕ) → slice_get sizes n ≡ Some size → gate_after (take (n + 1) sizes) ≡ gate_after (take n sizes) + head_size + size
+gate_next sizes n size is =
+    omega (arith, ap (λ (l : List ℕ). sum_by (λ s. s + head_size) l) (take_next sizes n size is), sum_by-append (λ (s : ℕ). s + head_size) (take n sizes) (size ∷ []), sum_by-cons (λ (s : ℕ). s + head_size) size [])
 
 -- ---- replays
 
@@ -63,7 +72,7 @@ module _ {S : Type 0} (step : S → List ℕ → Option S) where
 
   -- a record that does not decode or does not fit, whatever comes behind it
   pub replay_unfit : (log more : List (List ℕ)) (payload : List ℕ) (gate : ℕ) (state mid : S) → replay_from step gate state log ≡ Ok mid → step mid payload ≡ None
-      → replay_from step gate state (log ++ payload ∷ more) ≡ Err (gate_behind gate log)
+      → replay_from step gate state (log ++ payload ∷ more) ≡ Err (Damaged (gate_behind gate log))
   replay_unfit log more payload gate state mid is unfit =
       replay_joined log (payload ∷ more) gate state mid is
       ∙ ap (λ (found : Option S). or_place (gate_behind gate log) found (λ s. replay_from step (gate_behind gate log + head_size + length payload) s more)) unfit
@@ -103,8 +112,8 @@ module _ {S : Type 0} (step : S → List ℕ → Option S) where
     pub at : place ≡ gate_behind gate front
 
   unfit_at : (found : Option S) (state : S) (payload : List ℕ) (gate place : ℕ) (log : List (List ℕ)) → step state payload ≡ found
-      → ((next : S) → replay_from step (gate + head_size + length payload) next log ≡ Err place → FirstUnfit (gate + head_size + length payload) next log place)
-      → or_place gate found (λ s. replay_from step (gate + head_size + length payload) s log) ≡ Err place → FirstUnfit gate state (payload ∷ log) place
+      → ((next : S) → replay_from step (gate + head_size + length payload) next log ≡ Err (Damaged place) → FirstUnfit (gate + head_size + length payload) next log place)
+      → or_place gate found (λ s. replay_from step (gate + head_size + length payload) s log) ≡ Err (Damaged place) → FirstUnfit gate state (payload ∷ log) place
   unfit_at None state payload gate place log found_is rest is =
       let at : gate ≡ place = cc in
       record { front = []; payload = payload; more = log; is = refl; mid = state; fits = refl; unfit = found_is; at = sym at }
@@ -121,7 +130,7 @@ module _ {S : Type 0} (step : S → List ℕ → Option S) where
         at = r.at;
       }
 
-  pub first_unfit : (log : List (List ℕ)) (gate : ℕ) (state : S) (place : ℕ) → replay_from step gate state log ≡ Err place → FirstUnfit gate state log place
+  pub first_unfit : (log : List (List ℕ)) (gate : ℕ) (state : S) (place : ℕ) → replay_from step gate state log ≡ Err (Damaged place) → FirstUnfit gate state log place
   first_unfit [] gate state place is = absurd (cc)
   first_unfit (payload ∷ log) gate state place is =
       unfit_at (step state payload) state payload gate place log refl (λ next. first_unfit log (gate + head_size + length payload) next place) is
@@ -261,7 +270,7 @@ module _ {S : Type 0} (step : S → List ℕ → Option S) (start : S) where
 
   pub read_unfit : (log : Option (List (List ℕ))) (n gate : ℕ) (state : S) (payload : List ℕ) → ReadUpTo step start log n gate state
       → IfSome log (λ payloads. slice_get payloads n ≡ Some payload) → step state payload ≡ None
-      → (payloads : List (List ℕ)) → log ≡ Some payloads → replay step start payloads ≡ Err gate
+      → (payloads : List (List ℕ)) → log ≡ Some payloads → replay step start payloads ≡ Err (Damaged gate)
   read_unfit log n gate state payload so_far is unfit payloads told =
       so_far.rest payloads told
       ∙ ap (λ (l : List (List ℕ)). replay_from step gate state l) (left_at log n payload is payloads told)
@@ -280,31 +289,61 @@ size_seen sizes mid n size same is =
     let place : n + 1 - 1 ≡ n = omega arith in
     subst (λ (k : ℕ). slice_get sizes k ≡ Some size) place (subst (λ (l : List ℕ). slice_get l (n + 1 - 1) ≡ Some size) same is)
 
+-- The loop of a reader of records: its next payload is read, by its number from 1, and makes a state, or does not decode or does not
+-- fit, which is damage at the gate that the journal names.
+module _ {D S : Type 0} (disks : Ghosts D) (step : S → List ℕ → Option S) (start : S) where
+  pub next_read : (old mid : State D) (n : ℕ) (state next : S) (payload : List ℕ) → ReadUpTo step start old.log n (gate_after (take n old.sizes)) state → OnlyPayloads disks old mid
+      → IfSome mid.log (λ payloads. slice_get payloads (n + 1 - 1) ≡ Some payload) → slice_get mid.sizes (n + 1 - 1) ≡ Some (length payload) → step state payload ≡ Some next
+      → ReadUpTo step start old.log (n + 1) (gate_after (take (n + 1) old.sizes)) next
+  next_read old mid n state next payload so_far reads is size fits =
+      read_more step start old.log n (gate_after (take n old.sizes)) state next payload (gate_after (take (n + 1) old.sizes)) so_far
+      (payload_seen old.log mid.log n payload (ap (λ (j : State D). j.log) reads.unchanged) is) fits
+      (gate_next old.sizes n (length payload) (size_seen old.sizes mid.sizes n (length payload) (ap (λ (j : State D). j.sizes) reads.unchanged) size))
+
+  pub next_damaged : (old mid new : State D) (n gate : ℕ) (state : S) (payload : List ℕ) → ReadUpTo step start old.log n (gate_after (take n old.sizes)) state → OnlyPayloads disks old mid
+      → IfSome mid.log (λ payloads. slice_get payloads (n + 1 - 1) ≡ Some payload) → new ≡ record mid { disk = new.disk } → gate ≡ gate_after (take (n + 1 - 1) new.sizes) → step state payload ≡ None
+      → IsDamageOf (replay step start) old.log (open_why.Damaged gate)
+  next_damaged old mid new n gate state payload so_far reads is unchanged gate_is unfit =
+      let place : n + 1 - 1 ≡ n = omega arith in
+      let sizes : new.sizes ≡ old.sizes = ap (λ (j : State D). j.sizes) unchanged ∙ ap (λ (j : State D). j.sizes) reads.unchanged in
+      let gate_seen : gate ≡ gate_after (take n old.sizes) = gate_is ∙ ap (λ (k : ℕ). gate_after (take k new.sizes)) place ∙ ap (λ (l : List ℕ). gate_after (take n l)) sizes in
+      damaged_is (replay step start) old.log gate (if_told old.log (λ payloads told.
+      read_unfit step start old.log n (gate_after (take n old.sizes)) state payload so_far
+      (payload_seen old.log mid.log n payload (ap (λ (j : State D). j.log) reads.unchanged) is) unfit payloads told ∙ ap (λ (k : ℕ). Err (Damaged k)) (sym gate_seen)))
+    where
+      if_told : {A : Type 0} {P : A → Type 0} (told : Option A) → ((x : A) → told ≡ Some x → P x) → IfSome told P
+      if_told None each = tt
+      if_told (Some x) each = each x refl
+
 -- ---- images
 
 module _ {S : Type 0} (step : S → List ℕ → Option S) (start : S) (largest : ℕ) where
-  pub state_read : (image : List ℕ) (log : List (List ℕ)) (answer : Result S ℕ) → log_of largest image ≡ Ok log → replay step start log ≡ answer → state_of step start largest image ≡ answer
+  pub state_read : (image : List ℕ) (log : List (List ℕ)) (answer : Result S Damage) → log_of largest image ≡ Ok log → replay step start log ≡ answer → state_of step start largest image ≡ answer
   unfolding state_of
-  state_read image log answer read replayed = ap (λ (r : Result (List (List ℕ)) ℕ). of_log r (replay step start)) read ∙ replayed
+  state_read image log answer read replayed = ap (λ (r : Result (List (List ℕ)) Damage). of_log r (replay step start)) read ∙ replayed
 
-  state_damaged : (image : List ℕ) (gate : ℕ) → log_of largest image ≡ Err gate → state_of step start largest image ≡ Err gate
+  state_damaged : (image : List ℕ) (damage : Damage) → log_of largest image ≡ Err damage → state_of step start largest image ≡ Err damage
   unfolding state_of
-  state_damaged image gate read = ap (λ (r : Result (List (List ℕ)) ℕ). of_log r (replay step start)) read
+  state_damaged image damage read = ap (λ (r : Result (List (List ℕ)) Damage). of_log r (replay step start)) read
 
   state_same : (image bytes : List ℕ) → log_of largest image ≡ log_of largest bytes → state_of step start largest image ≡ state_of step start largest bytes
   unfolding state_of
-  state_same image bytes same = ap (λ (r : Result (List (List ℕ)) ℕ). of_log r (replay step start)) same
+  state_same image bytes same = ap (λ (r : Result (List (List ℕ)) Damage). of_log r (replay step start)) same
 
   -- what the content stands for
-  pub content_state : (content : Option (List ℕ)) (log : Option (List (List ℕ))) (answer : Result S ℕ) → option_map (log_of largest) content ≡ option_map Ok log
+  pub content_state : (content : Option (List ℕ)) (log : Option (List (List ℕ))) (answer : Result S Damage) → option_map (log_of largest) content ≡ option_map Ok log
       → ((payloads : List (List ℕ)) → log ≡ Some payloads → replay step start payloads ≡ answer) → IfSome content (λ bytes. state_of step start largest bytes ≡ answer)
   content_state None log answer read replayed = tt
   content_state (Some bytes) None answer read replayed = absurd (cc)
   content_state (Some bytes) (Some log) answer read replayed = let is : log_of largest bytes ≡ Ok log = cc in state_read bytes log answer is (replayed log refl)
 
-  pub content_damaged : (content : Option (List ℕ)) (gate : ℕ) → IfSome content (λ bytes. log_of largest bytes ≡ Err gate) → IfSome content (λ bytes. state_of step start largest bytes ≡ Err gate)
-  content_damaged None gate read = tt
-  content_damaged (Some bytes) gate read = state_damaged bytes gate read
+  damaged_at : (content : Option (List ℕ)) (damage : Damage) → IfSome content (λ bytes. log_of largest bytes ≡ Err damage) → IfSome content (λ bytes. state_of step start largest bytes ≡ Err damage)
+  damaged_at None damage read = tt
+  damaged_at (Some bytes) damage read = state_damaged bytes damage read
+
+  -- a device that is refused for its gates is refused by the reader of its records
+  pub content_damaged : (content : Option (List ℕ)) (why : OpenWhy) → IsDamageOf (log_of largest) content why → IsDamageOf (state_of step start largest) content why
+  content_damaged content why damaged damage is = damaged_at content damage (damaged damage is)
 
   pub read_alike : (content : Option (List ℕ)) (image : List ℕ) → IsReadAs largest content image → IsReadAlike step start largest content image
   read_alike content image read = record { bytes = read.bytes; told = read.told; same = state_same image read.bytes read.same }
@@ -408,45 +447,34 @@ module _ {S : Type 0} (step : S → List ℕ → Option S) (start : S) where
 
 -- ---- runs
 
-pub rises_then : (before mid after : ℕ) (failed : Type 0) → before ≤ mid → Rises mid after failed → Rises before after failed
-rises_then before mid after failed le rises = record {
-  later = omega (arith, rises.later);
-  rose = λ fails low. by_mid (rises.rose fails) low;
-}
-  where
-    by_mid : (mid < 2 ^ 64 - 1 → mid < after) → before < 2 ^ 64 - 1 → before < after
-    by_mid rose low = elim (cases_lt mid (2 ^ 64 - 1)) [ inl below ↦ omega (arith, rose below) | inr above ↦ omega (arith, rises.later) ]
-
-module _ {D : Type 0} (content : D → Option (List ℕ)) (may_leave : D → List ℕ → Type 0) (moment : D → ℕ) (left_since : D → ℕ → List ℕ → Type 0) where
+module _ {D : Type 0} (disks : Ghosts D) where
   -- before the first
-  pub nothing_read : ((disk : D) (image : List ℕ) → left_since disk (moment disk) image → may_leave disk image)
-      → (journal : State D) → ((image : List ℕ) → may_leave journal.disk image → StandsFor journal.limits.largest journal.log journal.further image)
-      → OnlyPayloads content may_leave moment left_since journal journal
+  pub nothing_read : ((disk : D) (image : List ℕ) → disks.left_since disk (disks.moment disk) image → disks.may_leave disk image)
+      → (journal : State D) → LeavesNow disks journal.disk (StandsFor journal.limits.largest journal.log journal.further) → OnlyPayloads disks journal journal
   nothing_read only_now journal safe = record {
     unchanged = refl;
     same = refl;
     fewer = λ image left. left;
-    run = started moment left_since journal.disk (StandsFor journal.limits.largest journal.log journal.further) (λ image left. safe image (only_now journal.disk image left));
+    run = started disks.moment disks.left_since journal.disk (StandsFor journal.limits.largest journal.log journal.further) (λ image left. safe.each image (only_now journal.disk image left));
   }
 
   -- what a crash leaves afterwards
-  pub read_safe : (old new : State D) → OnlyPayloads content may_leave moment left_since old new
-      → ((image : List ℕ) → may_leave old.disk image → StandsFor old.limits.largest old.log old.further image)
-      → (image : List ℕ) → may_leave new.disk image → StandsFor new.limits.largest new.log new.further image
-  read_safe old new reads safe image left =
-      subst (λ (s : State D). StandsFor s.limits.largest s.log s.further image) (sym reads.unchanged) (safe image (reads.fewer image left))
+  pub read_safe : (old new : State D) → OnlyPayloads disks old new
+      → LeavesNow disks old.disk (StandsFor old.limits.largest old.log old.further) → LeavesNow disks new.disk (StandsFor new.limits.largest new.log new.further)
+  read_safe old new reads safe = record {
+    each = λ image left. subst (λ (s : State D). StandsFor s.limits.largest s.log s.further image) (sym reads.unchanged) (safe.each image (reads.fewer image left));
+  }
 
   -- one more
-  pub payload_read : (old mid new : State D) → OnlyPayloads content may_leave moment left_since old mid → new ≡ record mid { disk = new.disk } → content new.disk ≡ content mid.disk
-      → ((image : List ℕ) → may_leave new.disk image → may_leave mid.disk image)
-      → LeavesOnly moment left_since mid.disk new.disk (StandsFor mid.limits.largest mid.log mid.further)
-      → OnlyPayloads content may_leave moment left_since old new
-  payload_read old mid new so_far unchanged same fewer run = record {
+  pub payload_read : (old mid new : State D) → OnlyPayloads disks old mid → new ≡ record mid { disk = new.disk } → disks.content new.disk ≡ disks.content mid.disk
+      → LeavesNow disks new.disk (disks.may_leave mid.disk)
+      → Leaves disks mid.disk new.disk (StandsFor new.limits.largest new.log new.further) (StandsFor mid.limits.largest mid.log mid.further) → OnlyPayloads disks old new
+  payload_read old mid new so_far unchanged same fewer crash = record {
     unchanged = unchanged ∙ ap (λ (s : State D). record s { disk = new.disk }) so_far.unchanged;
     same = same ∙ so_far.same;
-    fewer = λ image left. so_far.fewer image (fewer image left);
-    run = joined moment left_since old.disk mid.disk new.disk (StandsFor old.limits.largest old.log old.further) so_far.run
-        (weaker moment left_since mid.disk new.disk (StandsFor mid.limits.largest mid.log mid.further) (StandsFor old.limits.largest old.log old.further) run
+    fewer = λ image left. so_far.fewer image (fewer.each image left);
+    run = joined disks.moment disks.left_since old.disk mid.disk new.disk (StandsFor old.limits.largest old.log old.further) so_far.run
+        (weaker disks.moment disks.left_since mid.disk new.disk (StandsFor mid.limits.largest mid.log mid.further) (StandsFor old.limits.largest old.log old.further) crash.any_moment
         (λ image stands. subst (λ (s : State D). StandsFor s.limits.largest s.log s.further image) so_far.unchanged stands));
   }
 
@@ -458,14 +486,22 @@ settled_log largest log further image none stands = by_log log (subst (λ (f : O
     by_log None stands = ⊎_elim (λ has. has) (λ has. has) stands
     by_log (Some payloads) stands = ⊎_elim (λ has. has) (λ has. absurd (let e = has.told in cc)) stands
 
-module _ {D : Type 0} (content : D → Option (List ℕ)) (may_leave : D → List ℕ → Type 0) (moment : D → ℕ) (left_since : D → ℕ → List ℕ → Type 0) where
+module _ {D : Type 0} (disks : Ghosts D) where
   -- opening a journal, and then reading payloads
-  pub opened_and_read : (disk : D) (opened read : State D) (limits : Limits) → option_map (log_of limits.largest) (content disk) ≡ option_map Ok opened.log → opened.further ≡ None → opened.limits ≡ limits
-      → LeavesOnly moment left_since disk opened.disk (λ image. may_leave disk image ⊎ IsReadAs limits.largest (content disk) image)
-      → OnlyPayloads content may_leave moment left_since opened read
-      → LeavesOnly moment left_since disk read.disk (λ image. may_leave disk image ⊎ IsReadAs limits.largest (content disk) image)
-  opened_and_read disk opened read limits log settled same open_run reads =
-      joined moment left_since disk opened.disk read.disk (λ image. may_leave disk image ⊎ IsReadAs limits.largest (content disk) image) open_run
-      (weaker moment left_since opened.disk read.disk (StandsFor opened.limits.largest opened.log opened.further) (λ image. may_leave disk image ⊎ IsReadAs limits.largest (content disk) image) reads.run
-      (λ image stands. inr (read_as_content limits.largest (content disk) opened.log image log
-      (settled_log limits.largest opened.log opened.further image settled (subst (λ (l : Limits). StandsFor l.largest opened.log opened.further image) same stands)))))
+  pub opened_and_read : (disk : D) (opened read : State D) (limits : Limits) → IsLogOf limits.largest (disks.content disk) opened.log → opened.further ≡ None → opened.limits ≡ limits
+      → IsOpened disks limits.largest disk opened.disk → OnlyPayloads disks opened read → IsOpened disks limits.largest disk read.disk
+  opened_and_read disk opened read limits log none same is_opened reads = record {
+    told = ap is_some reads.same ∙ is_opened.told;
+    unchanged = λ long. reads.same ∙ is_opened.unchanged long;
+    any_moment = joined disks.moment disks.left_since disk opened.disk read.disk (λ image. disks.may_leave disk image ⊎ IsReadAs limits.largest (disks.content disk) image) is_opened.any_moment
+        (weaker disks.moment disks.left_since opened.disk read.disk (StandsFor opened.limits.largest opened.log opened.further) (λ image. disks.may_leave disk image ⊎ IsReadAs limits.largest (disks.content disk) image) reads.run
+        (λ image stands. inr (read_as_content limits.largest (disks.content disk) opened.log image log
+        (settled_log limits.largest opened.log opened.further image none (subst (λ (l : Limits). StandsFor l.largest opened.log opened.further image) same stands)))));
+  }
+
+  -- a refusal of the reader of the records leaves the disk synced
+  pub refused_synced : (disk : D) (opened read : State D) (limits : Limits) → IsLogOf limits.largest (disks.content disk) opened.log → LeavesNow disks opened.disk (HasLog limits.largest opened.log)
+      → OnlyPayloads disks opened read → LeavesNow disks read.disk (IsReadAs limits.largest (disks.content disk))
+  refused_synced disk opened read limits log safe reads = record {
+    each = λ image left. read_as_content limits.largest (disks.content disk) opened.log image log (safe.each image (reads.fewer image left));
+  }

@@ -1,25 +1,36 @@
 -- What contracts see of a journal, and what its images stand for. This project's own.
-use Rattle.std.specs.Prelude.{◌≡◌, ◌⊎◌, ◌<◌, ◌≤◌, ◌^◌, ◌+◌, ◌-◌, ℕ, Bool, List, [], ◌∷◌, ◌++◌, length, sum_by, Option, Some, None, option_map, Result, Ok}
-use Rattle.up_journal.specs.Format.{head_size, log_of, new_size}
+use Rattle.std.specs.Prelude.{◌≡◌, ◌⊎◌, ◌<◌, ◌≤◌, ◌^◌, ◌+◌, ◌||◌, ℕ, Bool, false, nat_le, nat_lt, List, [], ◌∷◌, ◌++◌, length, sum_by, Option, Some, None, Result, Ok}
+use Rattle.up_journal.specs.Format2.{head_size, log_of}
+use Rattle.up_journal.specs.Gates.{first_gate}
 use Rattle.up_journal.specs.declared.limits.Limits.{Limits}
 
--- A disk, the limits, the sizes of the payloads of the log, these payloads, where the disk tells its content, whether
--- a record is doubtful, and its payload, where the disk tells its content.
+-- A disk; the limits; the sizes of the payloads of the log; the link that the next record will carry; these payloads, where the
+-- disk tells its content; whether a record is doubtful, and its payload, where the disk tells its content.
 pub record State (D : Type 0) : Type 0 where
   pub disk : D
   pub limits : Limits
   pub sizes : List ℕ
+  pub head : List ℕ
   pub log : Option (List (List ℕ))
   pub doubtful : Bool
   pub further : Option (List ℕ)
 
--- the bytes of a device with payloads of these sizes, up to and with the closed gate
-abbrev pub bytes_of : List ℕ → ℕ
-bytes_of sizes = new_size + sum_by (λ size. size + head_size) sizes
+-- no record is doubtful
+pub record IsSettled {D : Type 0} (journal : State D) : Type 0 where
+  pub settled : journal.doubtful ≡ false
+  pub nothing : journal.further ≡ None
 
--- with such a record more, the log would pass the limits
-abbrev pub IsFull : Limits → List ℕ → ℕ → Type 0
-IsFull limits sizes size = (limits.records ≤ length sizes) ⊎ (limits.device < bytes_of sizes + size + head_size)
+-- the place of the gate behind payloads of these sizes
+abbrev pub gate_behind : List ℕ → ℕ
+gate_behind sizes = first_gate + sum_by (λ size. size + head_size) sizes
+
+-- the bytes of a device with payloads of these sizes, up to and with the closed gate: 9, and of each its size and 37
+abbrev pub bytes_of : List ℕ → ℕ
+bytes_of sizes = gate_behind sizes + 1
+
+-- with a record of that size more, the log would pass the limits
+abbrev pub is_full : Limits → List ℕ → ℕ → Bool
+is_full limits sizes size = nat_le limits.records (length sizes) || nat_lt limits.device (bytes_of sizes + size + head_size)
 
 -- the limits that a journal takes
 pub record AreLimits (limits : Limits) : Type 0 where

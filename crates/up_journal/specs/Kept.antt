@@ -1,11 +1,12 @@
 -- What a journal keeps. This project's own.
-use Rattle.std.specs.Prelude.{◌≡◌, ◌<◌, ◌≤◌, ◌^◌, ◌+◌, ℕ, List, map, take, Option, Some, None, option_map, IfSome, sum_by}
+use Rattle.std.specs.Prelude.{◌≡◌, ◌<◌, ◌≤◌, ◌^◌, ◌+◌, ℕ, List, [], ◌∷◌, length, map, take, Option, Some, None, option_map, IfSome}
 use Rattle.std.specs.List.{AllByRecursion}
 use Rattle.up_disk.specs.Disk.{part}
-use Rattle.up_journal.specs.Format.{first_gate, head_size}
-use Rattle.up_journal.specs.Journal.{AreLimits}
+use Rattle.up_disk.specs.declared.disk.Disk.{Ghosts}
 use Rattle.up_journal.specs.Cells.{Shape}
-use Rattle.up_journal.specs.Leads.{Leads}
+use Rattle.up_journal.specs.Format2.{format2, head_size}
+use Rattle.up_journal.specs.Gates.{Format, behind_gate, first_gate, front_of, head_size_of, link_behind}
+use Rattle.up_journal.specs.Journal.{AreLimits}
 use Rattle.up_journal.specs.declared.limits.Limits.{Limits}
 use Rattle.up_journal.specs.declared.limits.Span.{Span}
 
@@ -22,24 +23,37 @@ abbrev pub further_seen : Option (List ℕ) → ℕ → Option ℕ → Option (L
 further_seen content gate None = None
 further_seen content gate (Some size) = option_map (part (gate + head_size) size) content
 
--- the payload keeps the limit, and ends before the gate
-abbrev pub IsWithin : ℕ → ℕ → Span → Type 0
-IsWithin gate largest span = (span.at + span.size ≤ gate) × (span.size ≤ largest)
+-- what stands behind a gate for the further payload: its record with that link, and a closed gate
+abbrev pub held_for : List ℕ → Option (List ℕ) → Option (List ℕ)
+held_for link further = option_map (behind_gate link) further
+
+-- from a gate on, payloads with so many bytes before each stand one behind the other, and then the last gate
+abbrev pub AreBehind : ℕ → ℕ → List Span → ℕ → Type 0
+AreBehind head gate [] last = gate ≡ last
+AreBehind head gate (span ∷ spans) last = (span.at ≡ gate + head) × AreBehind head (gate + head + span.size) spans last
+
+-- the sizes of the payloads
+abbrev pub sizes_of : List Span → List ℕ
+sizes_of spans = map (λ span. span.size) spans
+
+-- the front is the name and the records of these payloads, and the next one carries that link
+pub record IsFront (format : Format) (front : List ℕ) (log : List (List ℕ)) (link : List ℕ) : Type 0 where
+  pub is : front ≡ front_of format log
+  pub linked : link ≡ link_behind format format.first_link log
 
 -- the payloads at these places are those behind the open gates up to the gate, as far as the content is told
-pub record AreGates (largest : ℕ) (spans : List Span) (gate device : ℕ) (content : Option (List ℕ)) : Type 0 where
-  pub within : AllByRecursion (IsWithin gate largest) spans
-  pub place : gate ≡ first_gate + sum_by (λ span. span.size + head_size) spans
+pub record AreGates (format : Format) (largest : ℕ) (spans : List Span) (gate : ℕ) (link : List ℕ) (device : ℕ) (content : Option (List ℕ)) : Type 0 where
+  pub placed : AreBehind (head_size_of format) first_gate spans gate
+  pub fitting : AllByRecursion (λ size. size ≤ largest) (sizes_of spans)
   pub inside : gate < device
-  pub told : IfSome content (λ bytes. Leads largest (take gate bytes) (payloads_at spans bytes))
+  pub long : length link ≡ format.link_size
+  pub told : IfSome content (λ bytes. IsFront format (take gate bytes) (payloads_at spans bytes) link)
 
 -- Facts about the fields of a journal. Of the disk they say what each crash image is.
-pub record IsKept (content : Option (List ℕ)) (size : ℕ) (may_leave : List ℕ → Type 0) (limits : Limits) (spans : List Span) (gate : ℕ) (doubtful : Option ℕ) : Type 0 where
+pub record IsKept {D : Type 0} (disks : Ghosts D) (disk : D) (limits : Limits) (spans : List Span) (gate : ℕ) (head : List ℕ) (doubtful : Option ℕ) : Type 0 where
   pub good : AreLimits limits
-  pub within : AllByRecursion (IsWithin gate limits.largest) spans
-  pub place : gate ≡ first_gate + sum_by (λ span. span.size + head_size) spans
-  pub inside : gate < size
+  pub gates : AreGates format2 limits.largest spans gate head (disks.size_of disk) (disks.content disk)
   pub small : gate + 1 < 2 ^ 64
-  pub doubt : (n : ℕ) → doubtful ≡ Some n → (gate + head_size + n < size) × (gate + head_size + n < 2 ^ 62) × (n ≤ limits.largest)
-  pub told : (bytes : List ℕ) → content ≡ Some bytes → Leads limits.largest (take gate bytes) (payloads_at spans bytes)
-  pub images : (bytes image : List ℕ) → content ≡ Some bytes → may_leave image → Shape (further_seen content gate doubtful) (take gate bytes) image
+  pub doubt : (n : ℕ) → doubtful ≡ Some n → (gate + head_size + n < disks.size_of disk) × (gate + head_size + n < 2 ^ 62) × (n ≤ limits.largest)
+  pub images : (bytes image : List ℕ) → disks.content disk ≡ Some bytes → disks.may_leave disk image
+      → Shape (held_for head (further_seen (disks.content disk) gate doubtful)) (take gate bytes) image

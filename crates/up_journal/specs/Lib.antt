@@ -1,7 +1,13 @@
 pub mod Cells
-pub mod Format
+pub mod Crashes
+pub mod Damages
+pub mod Format1
+pub mod Format2
+pub mod Gates
 pub mod Journal
 pub mod Kept
-pub mod Leads
+pub mod Logs
+pub mod Messages
 pub mod Opened
+pub mod Reading
 pub mod Records

@@ -2,26 +2,29 @@
 -- of one. This project's own.
 use Rattle.std.specs.Prelude.{◌≡◌, ◌⊎◌, ◌+◌, ℕ, List, [], ◌∷◌, length, drop, Option, Some, None, option_and_then, option_map, IsSome, Result, Ok, Err}
 use Rattle.up_disk.specs.Disk.{LeavesOnly}
-use Rattle.up_journal.specs.Format.{first_gate, head_size, log_of}
+use Rattle.up_disk.specs.declared.disk.Disk.{Ghosts}
+use Rattle.up_journal.specs.Damages.{Damage, Damaged}
+use Rattle.up_journal.specs.Format2.{head_size, log_of}
+use Rattle.up_journal.specs.Gates.{first_gate}
 use Rattle.up_journal.specs.Journal.{State, StandsFor}
 
 -- the state after a payload, where it decodes and its record fits the state
 abbrev pub by_record : {S R : Type 0} → (List ℕ → Option R) → (S → R → Option S) → S → List ℕ → Option S
 by_record decode fits state payload = option_and_then (fits state) (decode payload)
 
--- what comes of the state after a record, or the place where there is none
-abbrev pub or_place : {S T : Type 0} → ℕ → Option S → (S → Result T ℕ) → Result T ℕ
-or_place gate None rest = Err gate
+-- what comes of the state after a record, or damage at its gate where there is none
+abbrev pub or_place : {S T : Type 0} → ℕ → Option S → (S → Result T Damage) → Result T Damage
+or_place gate None rest = Err (Damaged gate)
 or_place gate (Some state) rest = rest state
 
--- The state after the payloads of a log whose first gate stands at that place; or the place of the gate of the first one that
--- does not decode or does not fit the state so far.
-abbrev pub replay_from : {S : Type 0} → (S → List ℕ → Option S) → ℕ → S → List (List ℕ) → Result S ℕ
+-- The state after the payloads of a log whose first gate stands at that place; or damage at the gate of the first one that does
+-- not decode or does not fit the state so far.
+abbrev pub replay_from : {S : Type 0} → (S → List ℕ → Option S) → ℕ → S → List (List ℕ) → Result S Damage
 replay_from step gate state [] = Ok state
 replay_from step gate state (payload ∷ log) = or_place gate (step state payload) (λ next. replay_from step (gate + head_size + length payload) next log)
 
 -- the same of a whole log
-abbrev pub replay : {S : Type 0} → (S → List ℕ → Option S) → S → List (List ℕ) → Result S ℕ
+abbrev pub replay : {S : Type 0} → (S → List ℕ → Option S) → S → List (List ℕ) → Result S Damage
 replay step start log = replay_from step first_gate start log
 
 -- the records to which payloads decode, where each does
@@ -40,14 +43,14 @@ pub record LeadsTo {S R : Type 0} (decode : List ℕ → Option R) (fits : S →
   pub decoded : records_of decode log ≡ Some records
   pub fitted : state_after fits start records ≡ Some state
 
--- what comes of a log, or the place where its image is damaged
-abbrev pub of_log : {S : Type 0} → Result (List (List ℕ)) ℕ → (List (List ℕ) → Result S ℕ) → Result S ℕ
+-- what comes of a log, or the damage of its image
+abbrev pub of_log : {S : Type 0} → Result (List (List ℕ)) Damage → (List (List ℕ) → Result S Damage) → Result S Damage
 of_log (Ok log) rest = rest log
-of_log (Err gate) rest = Err gate
+of_log (Err damage) rest = Err damage
 
--- The state that an image stands for; or the place of its first damaged gate; or, where all gates are good, that of the first
--- record that does not decode or does not fit.
-unfoldable pub state_of : {S : Type 0} → (S → List ℕ → Option S) → S → ℕ → List ℕ → Result S ℕ
+-- The state that an image stands for; or its damage; or, where all gates are good, damage at the gate of the first record that
+-- does not decode or does not fit.
+unfoldable pub state_of : {S : Type 0} → (S → List ℕ → Option S) → S → ℕ → List ℕ → Result S Damage
 state_of step start largest image = of_log (log_of largest image) (replay step start)
 
 -- the further record is there and fits the state, and the image stands for the state after it
@@ -85,8 +88,8 @@ pub record ReadUpTo {S : Type 0} (step : S → List ℕ → Option S) (start : S
 
 -- Payloads were read, and nothing else: the journal is as before but for its disk, which tells what it told, and of which a
 -- crash leaves what it might have left before.
-pub record OnlyPayloads {D : Type 0} (content : D → Option (List ℕ)) (may_leave : D → List ℕ → Type 0) (moment : D → ℕ) (left_since : D → ℕ → List ℕ → Type 0) (old new : State D) : Type 0 where
+pub record OnlyPayloads {D : Type 0} (disks : Ghosts D) (old new : State D) : Type 0 where
   pub unchanged : new ≡ record old { disk = new.disk }
-  pub same : content new.disk ≡ content old.disk
-  pub fewer : (image : List ℕ) → may_leave new.disk image → may_leave old.disk image
-  pub run : LeavesOnly moment left_since old.disk new.disk (StandsFor old.limits.largest old.log old.further)
+  pub same : disks.content new.disk ≡ disks.content old.disk
+  pub fewer : (image : List ℕ) → disks.may_leave new.disk image → disks.may_leave old.disk image
+  pub run : LeavesOnly disks.moment disks.left_since old.disk new.disk (StandsFor old.limits.largest old.log old.further)

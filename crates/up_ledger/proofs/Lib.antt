@@ -1,3 +1,2 @@
 pub mod Entries
-mod Examples
-pub mod Kept
+pub mod Entering

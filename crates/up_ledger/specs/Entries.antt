@@ -1,53 +1,72 @@
--- The entries of a ledger, their records, and what they make of a balance. This project's own.
-use Rattle.std.specs.Prelude.{◌==◌, ◌+◌, ◌-◌, ◌^◌, ℕ, nat_lt, List, ◌++◌, length, Option, Some, None, Result, Ok, Err, if◌then◌else◌}
+-- The entries of a ledger, their records, and their balance. This project's own.
+use Rattle.std.specs.Prelude.{◌+◌, ◌-◌, ◌^◌, ℕ, Bool, nat_lt, List, [], ◌∷◌, ◌++◌, sum_by, is_some, Option, Some, None, Result, if◌then◌else◌}
+use Rattle.std.specs.Result.{result_ok}
 use Rattle.up_bytes.specs.Input.{Input}
 use Rattle.up_bytes.specs.Num.{num}
-use Rattle.up_bytes.specs.Reading.{◌>>=◌, byte_at, num_at}
-use Rattle.up_bytes.specs.Spelling.{byte}
+use Rattle.up_bytes.specs.Reading.{made_of, num_at, tagged_at, whole_of}
+use Rattle.up_bytes.specs.Spelling.{byte, IsU64}
 use Rattle.up_bytes.specs.declared.fault.FieldFault.{FieldFault}
-use Rattle.up_journal.specs.Records.{by_record, state_of}
+use Rattle.up_journal.specs.Damages.{Damage}
+use Rattle.up_journal.specs.Logs.{log_in}
 use Rattle.up_ledger.specs.declared.entry.Entry.{Entry}
 use Rattle.up_ledger.specs.declared.entry.Entry.TheVariants.{Deposit, Withdraw}
+
+-- what an entry adds to a balance
+abbrev pub deposited : Entry → ℕ
+deposited (Deposit amount) = amount
+deposited (Withdraw amount) = 0
+
+-- what it takes from one
+abbrev pub withdrawn : Entry → ℕ
+withdrawn (Deposit amount) = 0
+withdrawn (Withdraw amount) = amount
+
+-- the balance of entries: all that they add, without all that they take
+abbrev pub balance_of : List Entry → ℕ
+balance_of entries = sum_by deposited entries - sum_by withdrawn entries
 
 -- the balance after an entry: none where a deposit would take it past 2^64 - 1, or a withdrawal is above it
 abbrev pub applied : ℕ → Entry → Option ℕ
 applied balance (Deposit amount) = if nat_lt (balance + amount) (2 ^ 64) then Some (balance + amount) else None
 applied balance (Withdraw amount) = if nat_lt balance amount then None else Some (balance - amount)
 
+-- an entry fits behind others where their balance allows it
+unfoldable pub fits : List Entry → Entry → Bool
+fits entries entry = is_some (applied (balance_of entries) entry)
+
 -- the record of an entry: 01 or 02, and the amount as a num
+abbrev pub kind_of : Entry → ℕ
+kind_of (Deposit amount) = 1
+kind_of (Withdraw amount) = 2
+
+abbrev pub amount_of : Entry → ℕ
+amount_of (Deposit amount) = amount
+amount_of (Withdraw amount) = amount
+
 abbrev pub record_of : Entry → List ℕ
-record_of (Deposit amount) = byte 1 ++ num amount
-record_of (Withdraw amount) = byte 2 ++ num amount
+record_of entry = byte (kind_of entry) ++ num (amount_of entry)
 
 -- the bytes of the longest record
 abbrev pub largest_record : ℕ
 largest_record = 11
 
--- the entry of a kind, where there is such a kind
-abbrev pub entry_with : ℕ → ℕ → Option Entry
-entry_with kind amount = if kind == 1 then Some (Deposit amount) else (if kind == 2 then Some (Withdraw amount) else None)
+-- what each entry of the program is by its type
+abbrev pub IsTyped : Entry → Type 0
+IsTyped entry = IsU64 (amount_of entry)
+
+-- the fields behind each kind
+abbrev pub entry_table : List (ℕ × (Input → Result (Entry × Input) FieldFault))
+entry_table = (1, made_of (λ amount. Deposit amount) num_at) ∷ (2, made_of (λ amount. Withdraw amount) num_at) ∷ []
 
 -- the entry at the front of what is left
-unfoldable pub entry_at : Input → Result (Option Entry × Input) FieldFault
-entry_at input = do
-  kind ← byte_at input
-  amount ← num_at kind.1
-  Ok (entry_with kind.0 amount.0, amount.1)
-
--- what was read, where nothing is left behind it
-abbrev pub alone : Result (Option Entry × Input) FieldFault → Option Entry
-alone (Ok found) = if length found.1.left == 0 then found.0 else None
-alone (Err fault) = None
+abbrev pub entry_at : Input → Result (Entry × Input) FieldFault
+entry_at = tagged_at entry_table
 
 -- the entry whose record these bytes are
-unfoldable pub entry_of : List ℕ → Option Entry
-entry_of bytes = alone (entry_at (record { size = length bytes; left = bytes }))
+abbrev pub entry_of : List ℕ → Option Entry
+entry_of bytes = result_ok (whole_of entry_at bytes)
 
--- the balance after a payload, where it is the record of an entry that fits
-unfoldable pub after_record : ℕ → List ℕ → Option ℕ
-after_record = by_record entry_of applied
-
--- The balance for which an image stands, from 0 on; or the place where it is damaged, or has the first record that does not
--- decode or does not fit.
-abbrev pub balance_of : ℕ → List ℕ → Result ℕ ℕ
-balance_of largest image = state_of after_record 0 largest image
+-- The entries of an image; or its damage; or, where all gates are good, damage at the gate of the first record that is no entry's,
+-- or whose entry does not fit.
+abbrev pub entries_in : ℕ → List ℕ → Result (List Entry) Damage
+entries_in largest image = log_in entry_of fits largest image

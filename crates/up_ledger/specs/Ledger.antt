@@ -1,41 +1,58 @@
 -- What contracts see of a ledger, and what it keeps. This project's own.
-use Rattle.std.specs.Prelude.{◌≤◌, ℕ, List, Option, Result, Ok, Err}
-use Rattle.up_journal.specs.Journal.{State, StandsFor}
-use Rattle.up_journal.specs.Records.{MayHaveState, Replays, StandsForState}
-use Rattle.up_journal.specs.declared.why.OpenFault.{OpenFault}
-use Rattle.up_journal.specs.declared.why.AppendWhy.{AppendWhy}
-use Rattle.up_journal.specs.declared.why.AppendWhy.TheVariants as append
-use Rattle.up_ledger.specs.Entries.{after_record, largest_record}
-use Rattle.up_ledger.specs.declared.why.EntryWhy.{EntryWhy}
-use Rattle.up_ledger.specs.declared.why.EntryWhy.TheVariants as entry
-
--- the journal of its records, and the balance, which is known over a disk that tells nothing too
-pub record LedgerState (D : Type 0) : Type 0 where
-  pub journal : State D
-  pub balance : ℕ
+use Rattle.std.specs.Prelude.{◌≡◌, ◌≢◌, ◌≤◌, ℕ, Bool, true, false, List, length, map, sum_by, Option, Result, Ok, Err, IfErr, IsErrOf}
+use Rattle.up_faults.specs.Counts.{HasCause}
+use Rattle.up_disk.specs.declared.disk.Disk.{Ghosts}
+use Rattle.up_journal.specs.Journal.{State, is_full}
+use Rattle.up_journal.specs.Logs.{AddsRecord, KeepsLog, LogState}
+use Rattle.up_journal.specs.declared.fault.AppendWhy.{AppendWhy}
+use Rattle.up_journal.specs.declared.fault.AppendWhy.TheVariants as append
+use Rattle.up_journal.specs.declared.fault.OpenFault.{OpenFault}
+use Rattle.up_journal.specs.declared.limits.Limits.{Limits}
+use Rattle.up_ledger.specs.Entries.{balance_of, deposited, entries_in, entry_of, fits, largest_record, record_of, withdrawn}
+use Rattle.up_ledger.specs.declared.entry.Entry.{Entry}
+use Rattle.up_ledger.specs.declared.fault.EntryWhy.{EntryWhy}
+use Rattle.up_ledger.specs.declared.fault.EntryWhy.TheVariants as why
 
 -- the disk after opening: the ledger's, or the one that is handed back
-abbrev pub disk_after : {D : Type 0} → Result (LedgerState D) (OpenFault D) → D
-disk_after (Ok ledger) = ledger.journal.disk
+abbrev pub disk_after : {D : Type 0} → Result (LogState D Entry) (OpenFault D) → D
+disk_after (Ok ledger) = ledger.disk
 disk_after (Err fault) = fault.disk
 
--- the image stands for the balance, or for the balance after the further record
-abbrev pub StandsForBalance : ℕ → ℕ → Option (List ℕ) → List ℕ → Type 0
-StandsForBalance largest balance further image = StandsForState after_record 0 largest balance further image
+-- the bytes of the records of entries
+abbrev pub sizes_of : List Entry → List ℕ
+sizes_of entries = map (λ entry. length (record_of entry)) entries
 
--- the image stands for the balance, or for the balance after the further record or after that record
-abbrev pub MayHaveBalance : ℕ → ℕ → Option (List ℕ) → List ℕ → List ℕ → Type 0
-MayHaveBalance largest balance further payload image = MayHaveState after_record 0 largest balance further payload image
+-- the entries and the part that stays, for what is told of every state that only grows
+abbrev pub entries_of : {D : Type 0} → LogState D Entry → List Entry
+entries_of ledger = ledger.log
 
--- The longest record keeps the journal's limit; the log leads to the balance, and the doubtful record fits it; and the
--- images are those of the journal.
-pub record IsKept {D : Type 0} (may_leave : D → List ℕ → Type 0) (journal : State D) (balance : ℕ) : Type 0 where
+abbrev pub limits_of : {D : Type 0} → LogState D Entry → Limits
+limits_of ledger = ledger.limits
+
+-- An entry was made, or refused. It is refused exactly where it does not fit, and then at the limits; but for a fault, a refused
+-- one leaves all as it was.
+pub record Enters {D : Type 0} (disks : Ghosts D) (entry : Entry) (old new : LogState D Entry) (result : Result ℕ EntryWhy) : Type 0 where
+  pub added : AddsRecord disks entries_in entry old new result
+  pub refused : fits old.log entry ≡ false → result ≡ Err why.Refused
+  pub refused_only : IsErrOf result why.Refused → fits old.log entry ≡ false
+  pub full : fits old.log entry ≡ true → is_full old.limits (sizes_of old.log) (length (record_of entry)) ≡ true → result ≢ Err why.OutOfMemory → result ≡ Err (why.Full (length old.log))
+  pub full_only : (n : ℕ) → result ≡ Err (why.Full n) → (is_full old.limits (sizes_of old.log) (length (record_of entry)) ≡ true) × (n ≡ length old.log)
+  pub untouched : IfErr result (λ reason. reason ≢ why.Fault → new ≡ old)
+  pub cause : HasCause (disks.faults old.disk) (disks.faults new.disk) (IsErrOf result why.Fault)
+
+-- the balance is that of the entries, which took no more than they added
+pub record IsRun (entries : List Entry) (balance : ℕ) : Type 0 where
+  pub balance_is : balance ≡ balance_of entries
+  pub covered : sum_by withdrawn entries ≤ sum_by deposited entries
+
+-- the journal has the records of the entries, and the longest record keeps its limit
+pub record IsLedger {D : Type 0} (disks : Ghosts D) (journal : State D) (entries : List Entry) (balance : ℕ) : Type 0 where
+  pub keeps : KeepsLog disks entry_of fits record_of journal entries
+  pub run : IsRun entries balance
   pub room : largest_record ≤ journal.limits.largest
-  pub replays : Replays after_record 0 journal.log journal.further balance
-  pub safe : (image : List ℕ) → may_leave journal.disk image → StandsFor journal.limits.largest journal.log journal.further image
 
 -- why an entry is not made whose record is not appended
 abbrev pub why_of : AppendWhy → EntryWhy
-why_of (append.Full records) = entry.Full records
-why_of append.Fault = entry.Fault
-why_of append.OutOfMemory = entry.OutOfMemory
+why_of (append.Full records) = why.Full records
+why_of append.Fault = why.Fault
+why_of append.OutOfMemory = why.OutOfMemory

@@ -1,32 +1,66 @@
-//! What the records of a journal lead to.
-ghost use Rattle.std.specs.Prelude.{◌≡◌, ◌≤◌, ℕ, List, Ok, Err, IfOk, IfSome, IsErrOf};
-ghost use Rattle.up_journal.specs.Cells.{Rises};
+//! The entries of a journal's records.
+ghost use Rattle.std.specs.Prelude.{◌≡◌, ◌≤◌, ◌++◌, ◌∷◌, [], ℕ, List, Ok, Err, Some, None, true, false, length, sum_by, IfErr, IfOk, IfSome, IsErrOf, OnOk};
+ghost use Rattle.up_faults.specs.Counts.{HasCause};
+ghost use Rattle.up_journal.specs.Logs.{log_step};
+ghost use Rattle.up_journal.specs.Opened.{IsDamageOf};
 ghost use Rattle.up_journal.specs.Records.{OnlyPayloads, replay};
-ghost use Rattle.up_ledger.specs.Entries.{after_record};
+ghost use Rattle.up_ledger.specs.Entries.{balance_of, deposited, entry_of, fits, withdrawn};
+ghost use Rattle.up_ledger.specs.Ledger.{IsRun, sizes_of};
 
-use crate::entry::after_record;
+use crate::entry::{Entry, applied, read_entry};
+use std::alloc::{AllocFailed, Global};
 use up_disk::Disk;
-use up_journal::{FIRST_GATE, HEAD, Journal, OpenWhy};
+use up_journal::{Journal, OpenWhy};
 
-/// The balance after all records. `Damaged` names the gate of the first one that does not decode or does not fit.
-pub fn replay<D: Disk>(journal: &mut Journal<D>) -> Result<u64, OpenWhy>
-    ensures balance { IfOk result (λ balance. (log : List (List ℕ)) → journal.old.log ≡ Some log → replay after_record 0 log ≡ Ok balance) }
-    ensures damaged { (gate : ℕ) → result ≡ Err (OpenWhy.Damaged gate) → (log : List (List ℕ)) → journal.old.log ≡ Some log → replay after_record 0 log ≡ Err gate }
-    ensures read { OnlyPayloads D.content D.may_leave D.moment D.left_since journal.old journal.new }
-    ensures counts { Rises (D.faults journal.old.disk) (D.faults journal.new.disk) (IsErrOf result OpenWhy.Fault) }
+/// Entries, each of which fits behind those before it, and their balance.
+#[derive(Drop)]
+pub struct Run {
+    pub entries: Vec<Entry>,
+    pub balance: u64,
+}
+
+/// Takes the entry whose record a payload is; `false` where it is no entry's, or the entry does not fit.
+#[tactic(auto, unfolding(crate::specs::Entries::fits))]
+fn take(run: &mut Run, payload: &[u8]) -> Result<bool, AllocFailed<Entry>>
+    requires { IsRun run.old.entries.items run.old.balance }
+    ensures run { OnOk result (IsRun run.new.entries.items run.new.balance) }
+    ensures taken { result ≡ Ok true
+        → log_step entry_of fits run.old.entries.items payload.now ≡ Some run.new.entries.items }
+    ensures not_taken { result ≡ Ok false → log_step entry_of fits run.old.entries.items payload.now ≡ None }
+    ensures sizes { result ≡ Ok true
+        → sizes_of run.new.entries.items ≡ sizes_of run.old.entries.items ++ length payload.now ∷ [] }
 {
-    let records = journal.len();
-    let end = journal.bytes();
-    // the bytes from the record's gate on
-    let mut left = end - FIRST_GATE;
-    let mut balance = 0;
-    for n in 0..records {
+    let Some(entry) = read_entry(payload) else {
+        return Ok(false);
+    };
+    let Some(balance) = applied(run.balance, entry) else {
+        return Ok(false);
+    };
+    run.entries.push(entry)?;
+    run.balance = balance;
+    Ok(true)
+}
+
+/// The entries of all records. `Damaged` names the gate of the first one that is no entry's or does not fit.
+pub fn replay<D: Disk>(alloc: Global, journal: &mut Journal<D>) -> Result<Run, OpenWhy>
+    ensures run { IfOk result (λ run. IsRun run.entries.items run.balance) }
+    ensures log { IfOk result (λ run. (log : List (List ℕ)) → journal.old.log ≡ Some log
+        → replay (log_step entry_of fits) [] log ≡ Ok run.entries.items) }
+    ensures sizes { IfOk result (λ run. journal.old.sizes ≡ sizes_of run.entries.items) }
+    ensures damaged { IfErr result (IsDamageOf (replay (log_step entry_of fits) []) journal.old.log) }
+    ensures read { OnlyPayloads D.Disk journal.old journal.new }
+    ensures counts { HasCause (D.faults journal.old.disk) (D.faults journal.new.disk)
+        (IsErrOf result OpenWhy.Fault) }
+{
+    let mut run = Run {
+        entries: Vec::new(alloc),
+        balance: 0,
+    };
+    for n in 0..journal.len() {
         let payload = journal.payload(n + 1)?;
-        let Some(next) = after_record(balance, payload.as_slice()) else {
-            return Err(OpenWhy::Damaged(end - left));
-        };
-        balance = next;
-        left -= HEAD + payload.len();
+        if !take(&mut run, payload.as_slice())? {
+            return Err(OpenWhy::Damaged(journal.gate_of(n + 1)));
+        }
     }
-    Ok(balance)
+    Ok(run)
 }

@@ -112,6 +112,13 @@ pub fn add_open_fault(why: OpenWhy, answer: &mut Answer) {
             answer.word("damaged");
             answer.number(gate);
         }
+        OpenWhy::Chain(gate, wanted, got) => {
+            answer.word("chain");
+            answer.number(gate);
+            answer.digits(wanted.bytes());
+            answer.digits(got.bytes());
+        }
+        OpenWhy::OldFormat => answer.word("oldformat"),
         OpenWhy::Fault => answer.word("fault"),
         OpenWhy::OutOfMemory => answer.word("out of memory"),
     }

@@ -1,14 +1,16 @@
-use Rattle.std.proofs.Common.{◌≤◌, ◌-◌}
+use Rattle.std.proofs.Common.{◌-◌}
+use Rattle.up_faults.specs.Counts.{HasCause}
 use Rattle.up_journal.specs.Cells.{OnlyRead}
+use Rattle.up_journal.specs.Format2.{format2}
 use Rattle.up_journal.specs.Kept.{AreGates}
 use Rattle.up_journal.proofs.open.read_gates.Given as goal
 
-abbrev pub invariant-loop-spans : goal.invariant-loop-spans
-invariant-loop-spans g l = record {
-  gates : AreGates l.largest l.spans.items l.gate l.device (g.D.Disk.content l.fn.disk);
-  read : OnlyRead g.D.Disk.content g.D.Disk.size_of g.D.Disk.may_leave g.D.Disk.moment g.D.Disk.left_since l.fn.disk l.disk;
-  later : g.D.Disk.faults l.fn.disk ≤ g.D.Disk.faults l.disk;
+abbrev pub invariant-loop-found : goal.invariant-loop-found
+invariant-loop-found g l = record {
+  gates : AreGates format2 l.largest l.found.spans.items l.found.gate l.found.head l.device (g.D.Disk.content l.disk);
+  read : OnlyRead g.D.Disk l.fn.disk l.disk;
+  counts : HasCause (g.D.Disk.faults l.fn.disk) (g.D.Disk.faults l.disk) ⊥;
 }
 
-abbrev pub decreases-loop-spans : goal.decreases-loop-spans
-decreases-loop-spans g l = l.device - l.gate
+abbrev pub decreases-loop-found : goal.decreases-loop-found
+decreases-loop-found g l = l.device - l.found.gate

@@ -8,24 +8,24 @@ pub returns-in_err-write_at-clause-any_moment : goal.returns-in_err-write_at-cla
 returns-in_err-write_at-clause-any_moment g c front place shape =
     let d = g.D.Disk in
     let told : is_some (d.content c.write_at.new.self) ≡ is_some (d.content c.args.disk.now) = told_step _ _ _ c.in_err-write_at.ensures.failed in
-    let first = begins d.content d.may_leave d.moment d.left_since g.met.D.Disk.told g.met.D.Disk.only_now c.args.disk.now None front shape in
+    let first = begins d g.met.D.Disk.told g.met.D.Disk.only_now c.args.disk.now None front shape in
     let wrote = wrote_behind _ _ c.args.gate _ front place shape c.write_at.ensures.crash in
-    goes d.content d.may_leave d.moment d.left_since g.met.D.Disk.told c.args.disk.now c.args.disk.now c.write_at.new.self None front first c.write_at.ensures.time told wrote
+    goes d g.met.D.Disk.told c.args.disk.now c.args.disk.now c.write_at.new.self None front first c.write_at.ensures.time told wrote
 
 pub returns-clause-any_moment : goal.returns-clause-any_moment
 returns-clause-any_moment g c front place shape =
     let d = g.D.Disk in
     let wrote_told : is_some (d.content c.write_at.new.self) ≡ is_some (d.content c.args.disk.now) = told_map _ _ _ c.in_ok-write_at.ensures.written in
-    let first = begins d.content d.may_leave d.moment d.left_since g.met.D.Disk.told g.met.D.Disk.only_now c.args.disk.now None front shape in
+    let first = begins d g.met.D.Disk.told g.met.D.Disk.only_now c.args.disk.now None front shape in
     let wrote = wrote_behind _ _ c.args.gate _ front place shape c.write_at.ensures.crash in
-    let next = goes d.content d.may_leave d.moment d.left_since g.met.D.Disk.told c.args.disk.now c.args.disk.now c.write_at.new.self None front first c.write_at.ensures.time wrote_told wrote in
-    goes d.content d.may_leave d.moment d.left_since g.met.D.Disk.told c.args.disk.now c.write_at.new.self c.sync.new.self None front next c.sync.ensures.time
+    let next = goes d g.met.D.Disk.told c.args.disk.now c.args.disk.now c.write_at.new.self None front first c.write_at.ensures.time wrote_told wrote in
+    goes d g.met.D.Disk.told c.args.disk.now c.write_at.new.self c.sync.new.self None front next c.sync.ensures.time
     (ap is_some c.sync.ensures.content ∙ wrote_told) (fewer _ front _ _ wrote c.sync.ensures.crash)
 
 pub returns-clause-written : goal.returns-clause-written
 returns-clause-written g c =
     let d = g.D.Disk in
     on_ok_weaker c.sync.result
-    (λ durable payload front frame place shape. synced_behind (d.content c.args.disk.now) (d.content c.sync.new.self) (d.may_leave c.args.disk.now) (d.may_leave c.sync.new.self) c.args.gate c.args.framed.now
-    (g.met.D.Disk.leaves_read c.args.disk.now) (c.sync.ensures.content ∙ c.in_ok-write_at.ensures.written) durable payload front frame place shape)
+    (λ durable front place shape. synced_behind (d.content c.args.disk.now) (d.content c.sync.new.self) (d.may_leave c.args.disk.now) (d.may_leave c.sync.new.self) c.args.gate c.args.behind.now
+    (g.met.D.Disk.leaves_read c.args.disk.now) (c.sync.ensures.content ∙ c.in_ok-write_at.ensures.written) durable front place shape)
     c.sync.ensures.durable

@@ -1,44 +1,42 @@
-use Rattle.std.proofs.Common.{◌≡◌, ◌+◌, ◌-◌, Some, None, Err, length, sym, ◌∙◌, ap, arith}
-use Rattle.up_journal.specs.Format.{head_size}
-use Rattle.up_journal.proofs.Records.{left_next, payload_read, payload_seen, read_more, read_unfit, size_seen}
-use Rattle.up_ledger.specs.Entries.{after_record}
+use Rattle.std.proofs.Common.{◌≡◌, None, Some, Ok, true, IsErrOf, ℕ, List, [], ◌∷◌, ◌++◌, ◌∙◌, ap, sym, length, take}
+use Rattle.up_journal.specs.Journal.{State}
+use Rattle.up_journal.specs.declared.fault.ReadWhy.TheVariants as read_why
+use Rattle.up_journal.specs.Logs.{log_step}
+use Rattle.up_journal.proofs.Records.{next_damaged, next_read, payload_read, size_seen, take_next}
+use Rattle.up_faults.proofs.Causes.{HasCause-then, HasCause-weaker}
+use Rattle.up_ledger.specs.Entries.{entry_of, fits}
+use Rattle.up_ledger.specs.Ledger.{sizes_of}
 use Rattle.up_ledger.proofs.replay.replay.Goals as goal
 
-pub returns-in_default-clause-damaged : goal.returns-in_default-clause-damaged
-returns-in_default-clause-damaged g c gate is log told =
-    let old = c.args.journal.now in
+pub returns-then-not-branch-clause-damaged : goal.returns-then-not-branch-clause-damaged
+returns-then-not-branch-clause-damaged g c =
     let i = c.loop-n.invariant in
     let payload = c.in_ok-payload.payload in
-    let at : c.bytes-end.result - c.loop-n.left ≡ gate = cc in
-    let seen = payload_seen old.log c.loop-n.journal.log c.loop-n.n payload (ap (λ j. j.log) i.read.unchanged) c.in_ok-payload.ensures.payload in
-    let unfit : after_record c.loop-n.balance payload ≡ None = ap (after_record c.loop-n.balance) (sym c.as_slice.ensures) ∙ sym c.after_record.ensures ∙ c.in_default.is in
-    read_unfit after_record 0 old.log c.loop-n.n (c.bytes-end.result - c.loop-n.left) c.loop-n.balance payload i.so_far seen unfit log told ∙ ap Err at
+    let unfit : log_step entry_of fits c.loop-n.run.entries.items payload ≡ None = ap (log_step entry_of fits c.loop-n.run.entries.items) (sym c.as_slice.ensures) ∙ c.take.ensures.not_taken (c.in_ok-take.was ∙ ap Ok c.if-not-branch.true) in
+    next_damaged g.D.Disk (log_step entry_of fits) [] c.args.journal.now c.loop-n.journal c.payload.new.self c.loop-n.n c.gate_of.result c.loop-n.run.entries.items payload i.so_far i.read
+    c.in_ok-payload.ensures.payload c.payload.ensures.unchanged c.gate_of.ensures unfit
 
-pub overflow_sub-left-in-loop-n : goal.overflow_sub-left-in-loop-n
-overflow_sub-left-in-loop-n g c =
-    let i = c.loop-n.invariant in
-    let size = size_seen c.args.journal.now.sizes c.loop-n.journal.sizes c.loop-n.n (length c.in_ok-payload.payload) (ap (λ j. j.sizes) i.read.unchanged) c.in_ok-payload.ensures.size in
-    let left = left_next c.args.journal.now.sizes c.loop-n.n (length c.in_ok-payload.payload) c.loop-n.left size i.behind in
-    omega (arith, left.0, c.len.ensures)
+pub returns-then-not-branch-clause-read : goal.returns-then-not-branch-clause-read
+returns-then-not-branch-clause-read g c =
+    let e = c.payload.ensures in
+    payload_read g.D.Disk c.args.journal.now c.loop-n.journal c.payload.new.self c.loop-n.invariant.read e.unchanged e.content e.fewer e.crash
 
 pub loop-n-preserved : goal.loop-n-preserved
 loop-n-preserved g c =
-    let d = g.D.Disk in
-    let old = c.args.journal.now in
     let i = c.loop-n.invariant in
+    let e = c.payload.ensures in
+    let old = c.args.journal.now in
+    let mid = c.loop-n.journal in
     let payload = c.in_ok-payload.payload in
-    let size = size_seen old.sizes c.loop-n.journal.sizes c.loop-n.n (length payload) (ap (λ j. j.sizes) i.read.unchanged) c.in_ok-payload.ensures.size in
-    let left = left_next old.sizes c.loop-n.n (length payload) c.loop-n.left size i.behind in
-    let seen = payload_seen old.log c.loop-n.journal.log c.loop-n.n payload (ap (λ j. j.log) i.read.unchanged) c.in_ok-payload.ensures.payload in
-    let fits : after_record c.loop-n.balance payload ≡ Some c.in-Some.next = ap (after_record c.loop-n.balance) (sym c.as_slice.ensures) ∙ sym c.after_record.ensures ∙ c.in-Some.is in
-    let gate = c.bytes-end.result - c.loop-n.left in
-    let behind = c.bytes-end.result - (c.loop-n.left - (5 + c.len.result)) in
-    let place : behind ≡ gate + head_size + length payload = omega (arith, i.within, left.0, c.len.ensures) in
+    let taken : c.take.result ≡ Ok true = c.in_ok-take.was ∙ ap Ok c.if-not-branch.false in
+    let size = size_seen old.sizes mid.sizes c.loop-n.n (length payload) (ap (λ (j : State g.row.D.Denot). j.sizes) i.read.unchanged) c.in_ok-payload.ensures.size in
+    let fit : log_step entry_of fits c.loop-n.run.entries.items payload ≡ Some c.take.new.run.entries.items = ap (log_step entry_of fits c.loop-n.run.entries.items) (sym c.as_slice.ensures) ∙ c.take.ensures.taken taken in
     record {
-      so_far = read_more after_record 0 old.log c.loop-n.n gate c.loop-n.balance c.in-Some.next payload behind i.so_far seen fits place;
-      read = payload_read d.content d.may_leave d.moment d.left_since old c.loop-n.journal c.payload.new.self i.read c.payload.ensures.unchanged c.payload.ensures.content c.payload.ensures.crash c.payload.ensures.any_moment;
-      later = omega (arith, i.later, c.payload.ensures.counts.later);
-      behind = omega (arith, left.1, c.len.ensures);
-      within = omega (arith, i.within);
-      ends = i.ends;
+      so_far = next_read g.D.Disk (log_step entry_of fits) [] old mid c.loop-n.n c.loop-n.run.entries.items c.take.new.run.entries.items payload i.so_far i.read c.in_ok-payload.ensures.payload c.in_ok-payload.ensures.size fit;
+      read = payload_read g.D.Disk old mid c.payload.new.self i.read e.unchanged e.content e.fewer e.crash;
+      counts = HasCause-then (g.D.Disk.faults old.disk) (g.D.Disk.faults mid.disk) (g.D.Disk.faults c.payload.new.self.disk) ⊥ ⊥ i.counts
+          (HasCause-weaker (g.D.Disk.faults mid.disk) (g.D.Disk.faults c.payload.new.self.disk) (IsErrOf c.payload.result read_why.Fault) ⊥ e.counts (λ none. absurd none));
+      run = c.in_ok-take.ensures.run;
+      sizes = c.take.ensures.sizes taken ∙ ap (λ (l : List ℕ). sizes_of c.loop-n.run.entries.items ++ length l ∷ []) c.as_slice.ensures
+          ∙ ap (λ (l : List ℕ). l ++ length payload ∷ []) i.sizes ∙ sym (take_next old.sizes c.loop-n.n (length payload) size);
     }

@@ -1,16 +1,17 @@
-use Rattle.std.proofs.Common.{◌≡◌, ◌≤◌, ◌+◌, ◌-◌, drop, sum_by}
-use Rattle.up_journal.specs.Format.{head_size}
-use Rattle.up_journal.specs.Journal.{bytes_of}
+use Rattle.std.proofs.Common.{◌≡◌, take, []}
+use Rattle.up_faults.specs.Counts.{HasCause}
+use Rattle.up_journal.specs.Journal.{gate_behind}
+use Rattle.up_journal.specs.Logs.{log_step}
 use Rattle.up_journal.specs.Records.{OnlyPayloads, ReadUpTo}
-use Rattle.up_ledger.specs.Entries.{after_record}
+use Rattle.up_ledger.specs.Entries.{entry_of, fits}
+use Rattle.up_ledger.specs.Ledger.{IsRun, sizes_of}
 use Rattle.up_ledger.proofs.replay.replay.Given as goal
 
 abbrev pub invariant-loop-n : goal.invariant-loop-n
 invariant-loop-n g l = record {
-  so_far : ReadUpTo after_record 0 l.fn.journal.log l.n (l.end - l.left) l.balance;
-  read : OnlyPayloads g.D.Disk.content g.D.Disk.may_leave g.D.Disk.moment g.D.Disk.left_since l.fn.journal l.journal;
-  later : g.D.Disk.faults l.fn.journal.disk ≤ g.D.Disk.faults l.journal.disk;
-  behind : l.left ≡ sum_by (λ s. s + head_size) (drop l.n l.fn.journal.sizes) + 1;
-  within : l.left + 8 ≤ l.end;
-  ends : l.end ≡ bytes_of l.fn.journal.sizes;
+  so_far : ReadUpTo (log_step entry_of fits) [] l.fn.journal.log l.n (gate_behind (take l.n l.fn.journal.sizes)) l.run.entries.items;
+  read : OnlyPayloads g.D.Disk l.fn.journal l.journal;
+  counts : HasCause (g.D.Disk.faults l.fn.journal.disk) (g.D.Disk.faults l.journal.disk) ⊥;
+  run : IsRun l.run.entries.items l.run.balance;
+  sizes : sizes_of l.run.entries.items ≡ take l.n l.fn.journal.sizes;
 }

@@ -1,175 +1,113 @@
-use Rattle.std.proofs.Common.{◌≡◌, ◌≤◌, ◌<◌, ◌+◌, ◌^◌, List, [], ◌∷◌, ◌++◌, length, Some, None, refl, sym, ◌∙◌, ap, subst, inl, inr, ⊎_elim, arith}
-use Rattle.std.proofs.lemmas.Result.{err_from_is_err_and}
-use Rattle.up_disk.proofs.Moments.{started, weaker}
-use Rattle.up_journal.specs.Format.{behind_gate}
+use Rattle.std.proofs.Common.{◌≡◌, ◌≤◌, ◌<◌, ◌+◌, ◌-◌, ◌^◌, [], ◌∷◌, ◌++◌, List, length, false, None, option_map, refl, sym, ◌∙◌, ap, subst, arith}
+use Rattle.up_refs.specs.Sha256.{sha256}
+use Rattle.up_disk.specs.Disk.{written}
+use Rattle.up_journal.specs.Format2.{head_size}
+use Rattle.up_journal.specs.Gates.{behind_gate}
+use Rattle.up_journal.specs.Journal.{gate_behind}
+use Rattle.up_journal.specs.Kept.{sizes_of}
 use Rattle.up_journal.specs.declared.limits.Limits.{Limits}
 use Rattle.up_journal.specs.declared.limits.Span.{Span}
-use Rattle.up_journal.proofs.Appended.{appended_to, log_more, may_have}
-use Rattle.up_journal.proofs.Cells.{length-behind_gate}
-use Rattle.up_journal.proofs.Kept.{kept_safe}
-use Rattle.up_journal.proofs.Moved.{base, further_same, log_same, moved}
-use Rattle.up_journal.proofs.Settled.{doubt_by, further_one}
+use Rattle.up_journal.proofs.Appended.{Appended, Refused, appended, on_err, record_front, refused, small_by}
+use Rattle.up_journal.proofs.Kept.{kept_gate, still_crash}
+use Rattle.up_journal.proofs.Moved.{length-behind_gate}
+use Rattle.up_journal.proofs.journal.Journal.append.Given.{Over}
 use Rattle.up_journal.proofs.journal.Journal.append.Goals as goal
-
-pub returns-in_err-framed-clause-safe : goal.returns-in_err-framed-clause-safe
-returns-in_err-framed-clause-safe g c =
-    let j = c.self.inside in
-    let d = g.D.Disk in
-    rw c.room.ensures.spans (kept_safe (d.size_of j.disk) (d.may_leave j.disk) j.limits j.spans.items j.gate (d.content j.disk) j.doubtful c.self.invariant (g.met.D.Disk.sized j.disk) (g.met.D.Disk.told j.disk))
-
-pub returns-in_err-framed-clause-any_moment : goal.returns-in_err-framed-clause-any_moment
-returns-in_err-framed-clause-any_moment g c =
-    let j = c.self.inside in
-    let d = g.D.Disk in
-    rw (← c.self.view_is) (started d.moment d.left_since j.disk _ (λ image left. inl (kept_safe (d.size_of j.disk) (d.may_leave j.disk) j.limits j.spans.items j.gate (d.content j.disk) j.doubtful c.self.invariant (g.met.D.Disk.sized j.disk) (g.met.D.Disk.told j.disk)
-    image (g.met.D.Disk.only_now j.disk image left))))
 
 pub write_record-requires-clause-end : goal.write_record-requires-clause-end
 write_record-requires-clause-end g c =
-    let frame : c.deref.result.now ≡ behind_gate c.args.payload.now = c.deref.ensures.value ∙ c.in_ok-framed.ensures.framed in
-    omega (arith, ap length frame, length-behind_gate c.args.payload.now, c.in_ok-framed.ensures.within, c.self.invariant.good.device)
+    let small = small_by _ c.args.self.now c.self.view_is c.self.inside.gate (length c.args.payload.now)
+    (kept_gate g.D.Disk c.self.inside.disk c.self.inside.limits c.self.inside.spans.items c.self.inside.gate c.self.inside.head c.self.inside.doubtful c.self.invariant (g.met.D.Disk.sized c.self.inside.disk))
+    c.self.invariant.good.device (sym c.if-would_be_full.ensures) in
+    let frame : c.deref.result.now ≡ behind_gate c.self.inside.head c.args.payload.now = c.deref.ensures.value ∙ c.in_ok-behind.ensures.bytes in
+    omega (arith, small, ap length frame, length-behind_gate c.self.inside.head c.args.payload.now c.self.invariant.gates.long)
 
 pub write_record-requires-clause-sized : goal.write_record-requires-clause-sized
 write_record-requires-clause-sized g c =
-    let frame : c.deref.result.now ≡ behind_gate c.args.payload.now = c.deref.ensures.value ∙ c.in_ok-framed.ensures.framed in
-    omega (arith, ap length frame, length-behind_gate c.args.payload.now)
+    let frame : c.deref.result.now ≡ behind_gate c.self.inside.head c.args.payload.now = c.deref.ensures.value ∙ c.in_ok-behind.ensures.bytes in
+    omega (arith, ap length frame, length-behind_gate c.self.inside.head c.args.payload.now c.self.invariant.gates.long)
+
+pub returns-in_err-behind-clause-crash : goal.returns-in_err-behind-clause-crash
+returns-in_err-behind-clause-crash g c =
+    let j = c.self.inside in
+    let laws = g.met.D.Disk in
+    rw (c.made_ready.ensures.spans, ← c.self.view_is)
+    (still_crash g.D.Disk laws.only_now j.disk j.limits j.spans.items j.gate j.head j.doubtful c.self.invariant (laws.sized j.disk) (laws.told j.disk) c.args.payload.now)
+
+-- what holds after a refusal of the disk
+after_refusal : (g : Over) (c : goal.After-drop-behind g)
+    → Refused g.D.Disk c.self.inside.disk c.write_record.new.disk c.self.inside.limits c.self.inside.spans.items c.self.inside.gate c.self.inside.head c.args.payload.now c.self.inside.doubtful c.write_record.new.doubtful
+after_refusal g c =
+    let j = c.self.inside in
+    let laws = g.met.D.Disk in
+    let w = c.write_record in
+    let small = small_by _ c.args.self.now c.self.view_is c.self.inside.gate (length c.args.payload.now)
+    (kept_gate g.D.Disk c.self.inside.disk c.self.inside.limits c.self.inside.spans.items c.self.inside.gate c.self.inside.head c.self.inside.doubtful c.self.invariant (g.met.D.Disk.sized c.self.inside.disk))
+    c.self.invariant.good.device (sym c.if-would_be_full.ensures) in
+    let frame : c.deref.result.now ≡ behind_gate c.self.inside.head c.args.payload.now = c.deref.ensures.value ∙ c.in_ok-behind.ensures.bytes in
+    let fits = subst (λ (l : Limits). length c.args.payload.now ≤ l.largest) (sym (ap (λ v. v.limits) c.self.view_is)) c.requires in
+    refused g.D.Disk laws.sized laws.told laws.leaves_read j.disk w.new.disk j.limits j.spans.items j.gate j.head c.args.payload.now c.deref.result.now j.doubtful c.self.invariant
+    frame fits small w.ensures.told w.ensures.any_moment w.new.doubtful w.ensures.no_shorter c.in_err-write_record.ensures.doubtful c.in_err-write_record.ensures.refused
 
 pub invariant_of-self-in_err-write_record : goal.invariant_of-self-in_err-write_record
-invariant_of-self-in_err-write_record g c =
-    let j = c.self.inside in
-    let d = g.D.Disk in
-    let kept = c.self.invariant in
-    let b = base (d.size_of j.disk) (d.may_leave j.disk) j.limits j.spans.items j.gate (d.content j.disk) j.doubtful kept (g.met.D.Disk.sized j.disk) (g.met.D.Disk.told j.disk) in
-    let w = c.write_record in
-    let frame : c.deref.result.now ≡ behind_gate c.args.payload.now = c.deref.ensures.value ∙ c.in_ok-framed.ensures.framed in
-    let fits : length c.args.payload.now ≤ j.limits.largest = subst (λ (l : Limits). length c.args.payload.now ≤ l.largest) (sym (ap (λ v. v.limits) c.self.view_is)) c.requires in
-    let inside : j.gate + 5 + length c.args.payload.now < 2 ^ 62 = omega (arith, c.in_ok-framed.ensures.within, kept.good.device) in
-    let e = c.in_err-write_record.ensures.refused b.held c.args.payload.now b.front frame b.stands in
-    let framed_size : length c.deref.result.now ≡ length c.args.payload.now + 5 = omega (arith, ap length frame, length-behind_gate c.args.payload.now) in
-    let doubt = doubt_by j.doubtful w.new.doubtful j.gate (length c.args.payload.now) (d.size_of j.disk) (d.size_of w.new.disk) j.limits.largest
-    (⊎_elim (λ none. inl none) (λ other. ⊎_elim (λ same. inr (inl same)) (λ new. inr (inr (new.0, omega (arith, new.1, framed_size)))) other) c.in_err-write_record.ensures.doubtful)
-    kept.doubt inside fits w.ensures.no_shorter in
-    rw c.room.ensures.spans (moved j.limits j.spans.items j.gate (d.size_of j.disk) (d.size_of w.new.disk) (d.may_leave j.disk) (d.may_leave w.new.disk) j.doubtful w.new.doubtful
-    (d.content j.disk) (d.content w.new.disk) kept b w.ensures.told (g.met.D.Disk.leaves_read w.new.disk) w.ensures.no_shorter doubt e.which e.sized e.shape)
+invariant_of-self-in_err-write_record g c = rw c.made_ready.ensures.spans (after_refusal g c).kept
 
 pub returns-in_err-write_record-clause-log : goal.returns-in_err-write_record-clause-log
-returns-in_err-write_record-clause-log g c =
-    let p = err_from_is_err_and c.from_residual-in_err-write_record.result c.from_residual-in_err-write_record.ensures.1 in
-    let j = c.self.inside in
-    let d = g.D.Disk in
-    let kept = c.self.invariant in
-    let b = base (d.size_of j.disk) (d.may_leave j.disk) j.limits j.spans.items j.gate (d.content j.disk) j.doubtful kept (g.met.D.Disk.sized j.disk) (g.met.D.Disk.told j.disk) in
-    let w = c.write_record in
-    let frame : c.deref.result.now ≡ behind_gate c.args.payload.now = c.deref.ensures.value ∙ c.in_ok-framed.ensures.framed in
-    let e = c.in_err-write_record.ensures.refused b.held c.args.payload.now b.front frame b.stands in
-    rw (p.1, ← c.self.view_is, c.room.ensures.spans) (log_same j.limits j.spans.items j.gate (d.size_of j.disk) (d.size_of w.new.disk) (d.may_leave j.disk) (d.may_leave w.new.disk) j.doubtful w.new.doubtful
-    (d.content j.disk) (d.content w.new.disk) kept b w.ensures.told (g.met.D.Disk.leaves_read w.new.disk) e.which e.shape)
+returns-in_err-write_record-clause-log g c = rw (c.made_ready.ensures.spans, ← c.self.view_is) (on_err _ (after_refusal g c).log)
 
 pub returns-in_err-write_record-clause-further : goal.returns-in_err-write_record-clause-further
-returns-in_err-write_record-clause-further g c =
-    let p = err_from_is_err_and c.from_residual-in_err-write_record.result c.from_residual-in_err-write_record.ensures.1 in
-    let j = c.self.inside in
-    let d = g.D.Disk in
-    let kept = c.self.invariant in
-    let b = base (d.size_of j.disk) (d.may_leave j.disk) j.limits j.spans.items j.gate (d.content j.disk) j.doubtful kept (g.met.D.Disk.sized j.disk) (g.met.D.Disk.told j.disk) in
-    let w = c.write_record in
-    let frame : c.deref.result.now ≡ behind_gate c.args.payload.now = c.deref.ensures.value ∙ c.in_ok-framed.ensures.framed in
-    let e = c.in_err-write_record.ensures.refused b.held c.args.payload.now b.front frame b.stands in
-    let further = further_same j.limits j.spans.items j.gate (d.size_of j.disk) (d.size_of w.new.disk) (d.may_leave j.disk) (d.may_leave w.new.disk) j.doubtful w.new.doubtful
-    (d.content j.disk) (d.content w.new.disk) b w.ensures.told (g.met.D.Disk.leaves_read w.new.disk) e.which e.sized e.shape in
-    rw (p.1, ← c.self.view_is) (further_one (d.content j.disk) (d.content w.new.disk) (d.may_leave j.disk) j.gate j.doubtful w.new.doubtful e.which c.args.payload.now b w.ensures.told further e.one)
+returns-in_err-write_record-clause-further g c = rw (← c.self.view_is) (on_err _ (after_refusal g c).further)
 
-pub returns-in_err-write_record-clause-safe : goal.returns-in_err-write_record-clause-safe
-returns-in_err-write_record-clause-safe g c =
-    let j = c.self.inside in
-    let d = g.D.Disk in
-    let kept = c.self.invariant in
-    let b = base (d.size_of j.disk) (d.may_leave j.disk) j.limits j.spans.items j.gate (d.content j.disk) j.doubtful kept (g.met.D.Disk.sized j.disk) (g.met.D.Disk.told j.disk) in
-    let w = c.write_record in
-    let frame : c.deref.result.now ≡ behind_gate c.args.payload.now = c.deref.ensures.value ∙ c.in_ok-framed.ensures.framed in
-    let fits : length c.args.payload.now ≤ j.limits.largest = subst (λ (l : Limits). length c.args.payload.now ≤ l.largest) (sym (ap (λ v. v.limits) c.self.view_is)) c.requires in
-    let inside : j.gate + 5 + length c.args.payload.now < 2 ^ 62 = omega (arith, c.in_ok-framed.ensures.within, kept.good.device) in
-    let e = c.in_err-write_record.ensures.refused b.held c.args.payload.now b.front frame b.stands in
-    let framed_size : length c.deref.result.now ≡ length c.args.payload.now + 5 = omega (arith, ap length frame, length-behind_gate c.args.payload.now) in
-    let doubt = doubt_by j.doubtful w.new.doubtful j.gate (length c.args.payload.now) (d.size_of j.disk) (d.size_of w.new.disk) j.limits.largest
-    (⊎_elim (λ none. inl none) (λ other. ⊎_elim (λ same. inr (inl same)) (λ new. inr (inr (new.0, omega (arith, new.1, framed_size)))) other) c.in_err-write_record.ensures.doubtful)
-    kept.doubt inside fits w.ensures.no_shorter in
-    rw c.room.ensures.spans (kept_safe (d.size_of w.new.disk) (d.may_leave w.new.disk) j.limits j.spans.items j.gate (d.content w.new.disk) w.new.doubtful
-    (moved j.limits j.spans.items j.gate (d.size_of j.disk) (d.size_of w.new.disk) (d.may_leave j.disk) (d.may_leave w.new.disk) j.doubtful w.new.doubtful
-    (d.content j.disk) (d.content w.new.disk) kept b w.ensures.told (g.met.D.Disk.leaves_read w.new.disk) w.ensures.no_shorter doubt e.which e.sized e.shape) (g.met.D.Disk.sized w.new.disk) (g.met.D.Disk.told w.new.disk))
+pub returns-in_err-write_record-clause-crash : goal.returns-in_err-write_record-clause-crash
+returns-in_err-write_record-clause-crash g c = rw (c.made_ready.ensures.spans, ← c.self.view_is) (after_refusal g c).crash
 
-pub returns-in_err-write_record-clause-any_moment : goal.returns-in_err-write_record-clause-any_moment
-returns-in_err-write_record-clause-any_moment g c =
+-- what holds once the record is written
+after_write : (g : Over) (c : goal.After-drop-behind-2 g)
+    → Appended g.D.Disk c.self.inside.disk c.write_record.new.disk c.self.inside.limits c.self.inside.spans.items c.push_reserved.new.self.items c.self.inside.gate
+    (c.self.inside.gate + (37 + length c.args.payload.now)) c.of-self-inside.result c.args.payload.now c.self.inside.doubtful
+after_write g c =
     let j = c.self.inside in
-    let d = g.D.Disk in
-    let kept = c.self.invariant in
-    let b = base (d.size_of j.disk) (d.may_leave j.disk) j.limits j.spans.items j.gate (d.content j.disk) j.doubtful kept (g.met.D.Disk.sized j.disk) (g.met.D.Disk.told j.disk) in
+    let laws = g.met.D.Disk in
     let w = c.write_record in
-    let frame : c.deref.result.now ≡ behind_gate c.args.payload.now = c.deref.ensures.value ∙ c.in_ok-framed.ensures.framed in
-    let fits : length c.args.payload.now ≤ j.limits.largest = subst (λ (l : Limits). length c.args.payload.now ≤ l.largest) (sym (ap (λ v. v.limits) c.self.view_is)) c.requires in
-    let inside : j.gate + 5 + length c.args.payload.now < 2 ^ 62 = omega (arith, c.in_ok-framed.ensures.within, kept.good.device) in
-    rw (← c.self.view_is) (weaker d.moment d.left_since _ _ _ _ (w.ensures.any_moment b.held c.args.payload.now b.front frame b.stands)
-    (may_have j.limits j.spans.items j.gate (d.size_of j.disk) (d.may_leave j.disk) j.doubtful c.args.payload.now fits (d.content j.disk) kept (g.met.D.Disk.sized j.disk) b))
+    let small = small_by _ c.args.self.now c.self.view_is c.self.inside.gate (length c.args.payload.now)
+    (kept_gate g.D.Disk c.self.inside.disk c.self.inside.limits c.self.inside.spans.items c.self.inside.gate c.self.inside.head c.self.inside.doubtful c.self.invariant (g.met.D.Disk.sized c.self.inside.disk))
+    c.self.invariant.good.device (sym c.if-would_be_full.ensures) in
+    let frame : c.deref.result.now ≡ behind_gate c.self.inside.head c.args.payload.now = c.deref.ensures.value ∙ c.in_ok-behind.ensures.bytes in
+    let fits = subst (λ (l : Limits). length c.args.payload.now ≤ l.largest) (sym (ap (λ v. v.limits) c.self.view_is)) c.requires in
+    let span : Span = record { at = j.gate + 37; size = length c.args.payload.now } in
+    let more : c.push_reserved.new.self.items ≡ j.spans.items ++ span ∷ [] = c.push_reserved.ensures.items ∙ ap (λ (ss : List Span). ss ++ span ∷ []) c.made_ready.ensures.spans in
+    let bytes : c.deref-2.result.now ≡ behind_gate j.head c.args.payload.now = c.deref-2.ensures.value ∙ c.in_ok-behind.ensures.bytes in
+    let next = c.of-self-inside.ensures ∙ ap sha256 (record_front j.head c.args.payload.now c.deref-2.result.now c.len-2.result bytes (c.len-2.ensures ∙ sym c.deref-2.ensures.len)) in
+    appended g.D.Disk laws.sized laws.told laws.leaves_read j.disk w.new.disk j.limits j.spans.items j.gate j.head c.args.payload.now c.deref.result.now j.doubtful c.self.invariant
+    frame fits small w.ensures.told w.ensures.any_moment c.push_reserved.new.self.items span (j.gate + (37 + length c.args.payload.now)) c.of-self-inside.result more refl refl (omega arith) next
+    c.in_ok-write_record.ensures.size c.in_ok-write_record.ensures.written
+
+pub overflow_add-self-inside : goal.overflow_add-self-inside
+overflow_add-self-inside g c =
+    let small = small_by _ c.args.self.now c.self.view_is c.self.inside.gate (length c.args.payload.now)
+    (kept_gate g.D.Disk c.self.inside.disk c.self.inside.limits c.self.inside.spans.items c.self.inside.gate c.self.inside.head c.self.inside.doubtful c.self.invariant (g.met.D.Disk.sized c.self.inside.disk))
+    c.self.invariant.good.device (sym c.if-would_be_full.ensures) in
+    omega (arith, small)
+
+pub overflow_add-self-2 : goal.overflow_add-self-2
+overflow_add-self-2 g c =
+    let small = small_by _ c.args.self.now c.self.view_is c.self.inside.gate (length c.args.payload.now)
+    (kept_gate g.D.Disk c.self.inside.disk c.self.inside.limits c.self.inside.spans.items c.self.inside.gate c.self.inside.head c.self.inside.doubtful c.self.invariant (g.met.D.Disk.sized c.self.inside.disk))
+    c.self.invariant.good.device (sym c.if-would_be_full.ensures) in
+    omega (arith, small)
 
 pub invariant_of-self-2 : goal.invariant_of-self-2
-invariant_of-self-2 g c =
-    let j = c.self.inside in
-    let d = g.D.Disk in
-    let kept = c.self.invariant in
-    let b = base (d.size_of j.disk) (d.may_leave j.disk) j.limits j.spans.items j.gate (d.content j.disk) j.doubtful kept (g.met.D.Disk.sized j.disk) (g.met.D.Disk.told j.disk) in
-    let w = c.write_record in
-    let frame : c.deref.result.now ≡ behind_gate c.args.payload.now = c.deref.ensures.value ∙ c.in_ok-framed.ensures.framed in
-    let fits : length c.args.payload.now ≤ j.limits.largest = subst (λ (l : Limits). length c.args.payload.now ≤ l.largest) (sym (ap (λ v. v.limits) c.self.view_is)) c.requires in
-    let inside : j.gate + 5 + length c.args.payload.now < 2 ^ 62 = omega (arith, c.in_ok-framed.ensures.within, kept.good.device) in
-    let whole = c.in_ok-write_record.ensures.written b.held c.args.payload.now b.front frame b.stands in
-    let span : Span = record { at = j.gate + 5; size = length c.args.payload.now } in
-    let more : c.push_reserved.new.self.items ≡ j.spans.items ++ span ∷ [] = c.push_reserved.ensures.items ∙ ap (λ (ss : List Span). ss ++ span ∷ []) c.room.ensures.spans in
-    let framed_size : length c.deref.result.now ≡ length c.args.payload.now + 5 = omega (arith, ap length frame, length-behind_gate c.args.payload.now) in
-    let room : j.gate + 5 + length c.args.payload.now < d.size_of w.new.disk = omega (arith, c.in_ok-write_record.ensures.size, framed_size) in
-    rw c.in_ok-write_record.ensures.settled (appended_to j.limits j.spans.items c.push_reserved.new.self.items span j.gate (d.size_of j.disk) (d.size_of w.new.disk) (d.may_leave j.disk) (d.may_leave w.new.disk) j.doubtful c.args.payload.now more refl refl fits (d.content j.disk) (d.content w.new.disk) kept b w.ensures.told (g.met.D.Disk.leaves_read w.new.disk) whole room inside (j.gate + (5 + length c.args.payload.now)) (omega arith))
+invariant_of-self-2 g c = rw c.in_ok-write_record.ensures.settled (after_write g c).kept
 
 pub returns-clause-appended : goal.returns-clause-appended
-returns-clause-appended g c =
-    let j = c.self.inside in
-    let d = g.D.Disk in
-    let kept = c.self.invariant in
-    let b = base (d.size_of j.disk) (d.may_leave j.disk) j.limits j.spans.items j.gate (d.content j.disk) j.doubtful kept (g.met.D.Disk.sized j.disk) (g.met.D.Disk.told j.disk) in
-    let w = c.write_record in
-    let frame : c.deref.result.now ≡ behind_gate c.args.payload.now = c.deref.ensures.value ∙ c.in_ok-framed.ensures.framed in
-    let fits : length c.args.payload.now ≤ j.limits.largest = subst (λ (l : Limits). length c.args.payload.now ≤ l.largest) (sym (ap (λ v. v.limits) c.self.view_is)) c.requires in
-    let inside : j.gate + 5 + length c.args.payload.now < 2 ^ 62 = omega (arith, c.in_ok-framed.ensures.within, kept.good.device) in
-    let whole = c.in_ok-write_record.ensures.written b.held c.args.payload.now b.front frame b.stands in
-    let span : Span = record { at = j.gate + 5; size = length c.args.payload.now } in
-    let more : c.push_reserved.new.self.items ≡ j.spans.items ++ span ∷ [] = c.push_reserved.ensures.items ∙ ap (λ (ss : List Span). ss ++ span ∷ []) c.room.ensures.spans in
-    rw (← c.self.view_is) (log_more j.limits j.spans.items c.push_reserved.new.self.items span j.gate (d.size_of j.disk) (d.size_of w.new.disk) (d.may_leave j.disk) (d.may_leave w.new.disk) j.doubtful c.args.payload.now more refl refl fits (d.content j.disk) (d.content w.new.disk) kept b w.ensures.told (g.met.D.Disk.leaves_read w.new.disk) whole)
+returns-clause-appended g c = rw (← c.self.view_is) (after_write g c).log
 
-pub returns-clause-safe : goal.returns-clause-safe
-returns-clause-safe g c =
+pub returns-clause-written : goal.returns-clause-written
+returns-clause-written g c =
     let j = c.self.inside in
-    let d = g.D.Disk in
-    let kept = c.self.invariant in
-    let b = base (d.size_of j.disk) (d.may_leave j.disk) j.limits j.spans.items j.gate (d.content j.disk) j.doubtful kept (g.met.D.Disk.sized j.disk) (g.met.D.Disk.told j.disk) in
-    let w = c.write_record in
-    let frame : c.deref.result.now ≡ behind_gate c.args.payload.now = c.deref.ensures.value ∙ c.in_ok-framed.ensures.framed in
-    let fits : length c.args.payload.now ≤ j.limits.largest = subst (λ (l : Limits). length c.args.payload.now ≤ l.largest) (sym (ap (λ v. v.limits) c.self.view_is)) c.requires in
-    let inside : j.gate + 5 + length c.args.payload.now < 2 ^ 62 = omega (arith, c.in_ok-framed.ensures.within, kept.good.device) in
-    let whole = c.in_ok-write_record.ensures.written b.held c.args.payload.now b.front frame b.stands in
-    let span : Span = record { at = j.gate + 5; size = length c.args.payload.now } in
-    let more : c.push_reserved.new.self.items ≡ j.spans.items ++ span ∷ [] = c.push_reserved.ensures.items ∙ ap (λ (ss : List Span). ss ++ span ∷ []) c.room.ensures.spans in
-    let framed_size : length c.deref.result.now ≡ length c.args.payload.now + 5 = omega (arith, ap length frame, length-behind_gate c.args.payload.now) in
-    let room : j.gate + 5 + length c.args.payload.now < d.size_of w.new.disk = omega (arith, c.in_ok-write_record.ensures.size, framed_size) in
-    rw c.in_ok-write_record.ensures.settled (kept_safe (d.size_of w.new.disk) (d.may_leave w.new.disk) j.limits c.push_reserved.new.self.items (j.gate + (5 + length c.args.payload.now)) (d.content w.new.disk) None
-    (appended_to j.limits j.spans.items c.push_reserved.new.self.items span j.gate (d.size_of j.disk) (d.size_of w.new.disk) (d.may_leave j.disk) (d.may_leave w.new.disk) j.doubtful c.args.payload.now more refl refl fits (d.content j.disk) (d.content w.new.disk) kept b w.ensures.told (g.met.D.Disk.leaves_read w.new.disk) whole room inside (j.gate + (5 + length c.args.payload.now)) (omega arith)) (g.met.D.Disk.sized w.new.disk) (g.met.D.Disk.told w.new.disk))
+    let frame : c.deref.result.now ≡ behind_gate c.self.inside.head c.args.payload.now = c.deref.ensures.value ∙ c.in_ok-behind.ensures.bytes in
+    rw (← c.self.view_is) (c.in_ok-write_record.ensures.content
+    ∙ ap (λ place. option_map (written place (1 ∷ c.deref.result.now)) (g.D.Disk.content j.disk)) (kept_gate g.D.Disk j.disk j.limits j.spans.items j.gate j.head j.doubtful c.self.invariant (g.met.D.Disk.sized j.disk))
+    ∙ ap (λ behind. option_map (written (gate_behind (sizes_of j.spans.items)) (1 ∷ behind)) (g.D.Disk.content j.disk)) frame)
 
-pub returns-clause-any_moment : goal.returns-clause-any_moment
-returns-clause-any_moment g c =
-    let j = c.self.inside in
-    let d = g.D.Disk in
-    let kept = c.self.invariant in
-    let b = base (d.size_of j.disk) (d.may_leave j.disk) j.limits j.spans.items j.gate (d.content j.disk) j.doubtful kept (g.met.D.Disk.sized j.disk) (g.met.D.Disk.told j.disk) in
-    let w = c.write_record in
-    let frame : c.deref.result.now ≡ behind_gate c.args.payload.now = c.deref.ensures.value ∙ c.in_ok-framed.ensures.framed in
-    let fits : length c.args.payload.now ≤ j.limits.largest = subst (λ (l : Limits). length c.args.payload.now ≤ l.largest) (sym (ap (λ v. v.limits) c.self.view_is)) c.requires in
-    let inside : j.gate + 5 + length c.args.payload.now < 2 ^ 62 = omega (arith, c.in_ok-framed.ensures.within, kept.good.device) in
-    rw (← c.self.view_is) (weaker d.moment d.left_since _ _ _ _ (w.ensures.any_moment b.held c.args.payload.now b.front frame b.stands)
-    (may_have j.limits j.spans.items j.gate (d.size_of j.disk) (d.may_leave j.disk) j.doubtful c.args.payload.now fits (d.content j.disk) kept (g.met.D.Disk.sized j.disk) b))
+pub returns-clause-crash : goal.returns-clause-crash
+returns-clause-crash g c = rw (c.in_ok-write_record.ensures.settled, ← c.self.view_is) (after_write g c).crash

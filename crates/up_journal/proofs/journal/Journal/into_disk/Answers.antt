@@ -4,4 +4,4 @@ use Rattle.up_journal.proofs.journal.Journal.into_disk.Goals as goal
 pub returns-clause-safe : goal.returns-clause-safe
 returns-clause-safe g c =
     let j = c.self.inside in
-    rw (← c.self.view_is) (kept_safe (g.D.Disk.size_of j.disk) (g.D.Disk.may_leave j.disk) j.limits j.spans.items j.gate (g.D.Disk.content j.disk) j.doubtful c.self.invariant (g.met.D.Disk.sized j.disk) (g.met.D.Disk.told j.disk))
+    rw (← c.self.view_is) (kept_safe g.D.Disk j.disk j.limits j.spans.items j.gate j.head j.doubtful c.self.invariant (g.met.D.Disk.sized j.disk) (g.met.D.Disk.told j.disk))

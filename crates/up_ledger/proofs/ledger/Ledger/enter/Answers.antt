@@ -1,85 +1,72 @@
-use Rattle.std.proofs.Common.{◌≡◌, Some, refl, sym, ◌∙◌, ap, subst}
-use Rattle.up_disk.specs.Disk.{LeavesOnly}
-use Rattle.up_journal.specs.Journal.{MayHave}
-use Rattle.up_ledger.specs.Entries.{after_record, record_of}
-use Rattle.up_ledger.proofs.Kept.{fits_some, kept_more, kept_safe, kept_same, kept_settled, meanwhile, still}
+use Rattle.std.proofs.Common.{◌≡◌, ◌++◌, ◌∷◌, [], ℕ, Some, length, Result, Ok, Err, IsErrOf, sym, ap, ◌∙◌}
+use Rattle.up_faults.proofs.Causes.{HasCause-weaker}
+use Rattle.up_journal.specs.Logs.{log_state}
+use Rattle.up_journal.specs.declared.fault.AppendWhy.{AppendWhy}
+use Rattle.up_journal.specs.declared.fault.AppendWhy.TheVariants as append
+use Rattle.up_ledger.specs.Entries.{applied, entry_of, record_of}
+use Rattle.up_ledger.specs.Ledger.{Enters, IsLedger, why_of}
+use Rattle.up_ledger.proofs.Entering.{entered, err_is, no_memory, not_entered, refused}
+use Rattle.up_ledger.proofs.ledger.Ledger.enter.Given.{Over}
 use Rattle.up_ledger.proofs.ledger.Ledger.enter.Goals as goal
 
-pub returns-in_default-clause-safe : goal.returns-in_default-clause-safe
-returns-in_default-clause-safe g c = rw (← c.self.view_is) (kept_safe g.D.Disk.may_leave c.self.inside.journal c.self.inside.balance c.self.invariant)
+pub returns-in_default-clause-enters : goal.returns-in_default-clause-enters
+returns-in_default-clause-enters g c =
+    let i = c.self.inside in
+    rw (← c.self.view_is) (refused g.D.Disk g.met.D.Disk.only_now i.journal i.entries.items i.balance c.args.entry c.self.invariant (sym c.applied.ensures ∙ c.in_default.is))
 
-pub returns-in_default-clause-any_moment : goal.returns-in_default-clause-any_moment
-returns-in_default-clause-any_moment g c =
-    let d = g.D.Disk in
-    rw (← c.self.view_is) (still d.may_leave d.moment d.left_since g.met.D.Disk.only_now c.self.inside.journal c.self.inside.balance (record_of c.args.entry) c.self.invariant)
+pub returns-in_err-payload-clause-enters : goal.returns-in_err-payload-clause-enters
+returns-in_err-payload-clause-enters g c =
+    let i = c.self.inside in
+    rw (← c.self.view_is) (no_memory g.D.Disk g.met.D.Disk.only_now i.journal i.entries.items i.balance c.args.entry c.in-Some.balance c.from_residual.result c.self.invariant (sym c.applied.ensures ∙ c.in-Some.is)
+    (err_is c.from_residual.result _ c.from_residual.ensures.1))
 
-pub returns-in_err-payload-clause-safe : goal.returns-in_err-payload-clause-safe
-returns-in_err-payload-clause-safe g c = rw (← c.self.view_is) (kept_safe g.D.Disk.may_leave c.self.inside.journal c.self.inside.balance c.self.invariant)
+pub returns-in_err-reserve-clause-enters : goal.returns-in_err-reserve-clause-enters
+returns-in_err-reserve-clause-enters g c =
+    let i = c.self.inside in
+    rw (c.reserve.ensures.items, ← c.self.view_is) (no_memory g.D.Disk g.met.D.Disk.only_now i.journal i.entries.items i.balance c.args.entry c.in-Some.balance c.from_residual-in_err-reserve.result c.self.invariant (sym c.applied.ensures ∙ c.in-Some.is)
+    (err_is c.from_residual-in_err-reserve.result _ c.from_residual-in_err-reserve.ensures.1))
 
-pub returns-in_err-payload-clause-any_moment : goal.returns-in_err-payload-clause-any_moment
-returns-in_err-payload-clause-any_moment g c =
-    let d = g.D.Disk in
-    rw (← c.self.view_is) (still d.may_leave d.moment d.left_since g.met.D.Disk.only_now c.self.inside.journal c.self.inside.balance (record_of c.args.entry) c.self.invariant)
+abbrev failed : AppendWhy → Result ℕ AppendWhy
+failed a = Err a
 
-pub returns-in_err-position-clause-safe : goal.returns-in_err-position-clause-safe
-returns-in_err-position-clause-safe g c =
-    let j = c.self.inside.journal in
-    let payload = c.as_slice.result.now in
-    let same : payload ≡ record_of c.args.entry = c.as_slice.ensures ∙ c.in_ok-payload.ensures.bytes in
-    let fits : after_record c.self.inside.balance payload ≡ Some c.in-Some.balance =
-    ap (after_record c.self.inside.balance) same ∙ c.record_of.ensures.again c.self.inside.balance ∙ sym c.in-Some.ensures in
+err_inj : (a b : AppendWhy) → failed a ≡ failed b → a ≡ b
+err_inj a b is = cc
+
+-- after the journal has refused it
+after_refusal : (g : Over) (c : goal.After-drop-payload-inside-in_err-position g)
+    → IsLedger g.D.Disk c.append.new.self c.self.inside.entries.items c.self.inside.balance
+    × Enters g.D.Disk c.args.entry (log_state entry_of c.self.inside.journal c.self.inside.entries.items) (log_state entry_of c.append.new.self c.self.inside.entries.items) (Err (why_of c.in_err-position.field-0.0))
+after_refusal g c =
+    let i = c.self.inside in
+    let a = c.in_err-position.field-0.0 in
     let e = c.in_err-position.ensures in
-    kept_safe g.D.Disk.may_leave c.append.new.self c.self.inside.balance
-    (kept_same g.D.Disk.may_leave j c.append.new.self c.self.inside.balance payload c.self.invariant (fits_some _ _ _ fits refl) c.append.ensures.limits e.log e.further c.append.ensures.safe)
+    let was : c.append.result ≡ Err a = c.in_err-position.was in
+    not_entered g.D.Disk i.journal c.append.new.self i.entries.items i.balance c.in-Some.balance c.args.entry c.as_slice.result.now a c.self.invariant
+    (sym c.applied.ensures ∙ c.in-Some.is) c.record_of.ensures.again (c.as_slice.ensures ∙ c.in_ok-payload.ensures.bytes) e.sizes e.log e.limits e.further e.crash
+    (λ full. err_inj a (append.Full (length i.journal.sizes)) (sym was ∙ c.append.ensures.full full)) (λ n is. c.append.ensures.full_only n (was ∙ ap Err is)) e.untouched
+    (HasCause-weaker (g.D.Disk.faults i.journal.disk) (g.D.Disk.faults c.append.new.self.disk) (IsErrOf c.append.result append.Fault) (a ≡ append.Fault) c.append.ensures.counts (λ is. was ∙ ap Err is))
 
-pub returns-in_err-position-clause-any_moment : goal.returns-in_err-position-clause-any_moment
-returns-in_err-position-clause-any_moment g c =
-    let d = g.D.Disk in
-    let j = c.self.inside.journal in
-    let payload = c.as_slice.result.now in
-    let same : payload ≡ record_of c.args.entry = c.as_slice.ensures ∙ c.in_ok-payload.ensures.bytes in
-    let fits : after_record c.self.inside.balance (record_of c.args.entry) ≡ Some c.in-Some.balance = c.record_of.ensures.again c.self.inside.balance ∙ sym c.in-Some.ensures in
-    rw (← c.self.view_is) (meanwhile d.may_leave d.moment d.left_since j c.append.new.self c.self.inside.balance (record_of c.args.entry) c.self.invariant (fits_some _ _ _ fits refl)
-    (subst (λ q. LeavesOnly d.moment d.left_since j.disk c.append.new.self.disk (MayHave j.limits.largest j.log j.further q)) same c.append.ensures.any_moment))
+pub invariant_of-self-in_err-position : goal.invariant_of-self-in_err-position
+invariant_of-self-in_err-position g c = rw c.reserve.ensures.items (after_refusal g c).0
+
+pub returns-in_err-position-clause-enters : goal.returns-in_err-position-clause-enters
+returns-in_err-position-clause-enters g c = rw (err_is c.from_residual-in_err-position.result _ c.from_residual-in_err-position.ensures.1, c.reserve.ensures.items, ← c.self.view_is) (after_refusal g c).1
+
+-- after it has appended the record
+after_append : (g : Over) (c : goal.After-drop-payload-inside-2 g)
+    → IsLedger g.D.Disk c.append.new.self (c.self.inside.entries.items ++ c.args.entry ∷ []) c.in-Some.balance
+    × Enters g.D.Disk c.args.entry (log_state entry_of c.self.inside.journal c.self.inside.entries.items) (log_state entry_of c.append.new.self (c.self.inside.entries.items ++ c.args.entry ∷ [])) (Ok c.in_ok-position.position)
+after_append g c =
+    let i = c.self.inside in
+    let e = c.in_ok-position.ensures in
+    let was : c.append.result ≡ Ok c.in_ok-position.position = c.in_ok-position.was in
+    entered g.D.Disk i.journal c.append.new.self i.entries.items i.balance c.in-Some.balance c.args.entry c.as_slice.result.now c.in_ok-position.position c.self.invariant
+    (sym c.applied.ensures ∙ c.in-Some.is) c.record_of.ensures.again (c.as_slice.ensures ∙ c.in_ok-payload.ensures.bytes) e.sizes e.appended e.settled e.limits e.position e.crash
+    (λ full. absurd (let both = sym was ∙ c.append.ensures.full full in cc))
+    (HasCause-weaker (g.D.Disk.faults i.journal.disk) (g.D.Disk.faults c.append.new.self.disk) (IsErrOf c.append.result append.Fault) ⊥ c.append.ensures.counts (λ none. absurd none))
 
 pub invariant_of-self-2 : goal.invariant_of-self-2
-invariant_of-self-2 g c =
-    let j = c.self.inside.journal in
-    let payload = c.as_slice.result.now in
-    let same : payload ≡ record_of c.args.entry = c.as_slice.ensures ∙ c.in_ok-payload.ensures.bytes in
-    let fits : after_record c.self.inside.balance payload ≡ Some c.in-Some.balance =
-    ap (after_record c.self.inside.balance) same ∙ c.record_of.ensures.again c.self.inside.balance ∙ sym c.in-Some.ensures in
-    let e = c.in_ok-position.ensures in
-    kept_more g.D.Disk.may_leave j c.append.new.self c.self.inside.balance c.in-Some.balance payload c.self.invariant fits c.append.ensures.limits e.appended e.settled.1 c.append.ensures.safe
+invariant_of-self-2 g c = rw (c.push_reserved.ensures.items, c.reserve.ensures.items) (after_append g c).0
 
-pub returns-clause-acknowledged : goal.returns-clause-acknowledged
-returns-clause-acknowledged g c =
-    let j = c.self.inside.journal in
-    let payload = c.as_slice.result.now in
-    let same : payload ≡ record_of c.args.entry = c.as_slice.ensures ∙ c.in_ok-payload.ensures.bytes in
-    let fits : after_record c.self.inside.balance payload ≡ Some c.in-Some.balance =
-    ap (after_record c.self.inside.balance) same ∙ c.record_of.ensures.again c.self.inside.balance ∙ sym c.in-Some.ensures in
-    let e = c.in_ok-position.ensures in
-    kept_settled g.D.Disk.may_leave c.append.new.self c.in-Some.balance
-    (kept_more g.D.Disk.may_leave j c.append.new.self c.self.inside.balance c.in-Some.balance payload c.self.invariant fits c.append.ensures.limits e.appended e.settled.1 c.append.ensures.safe) e.settled.1
-
-pub returns-clause-safe : goal.returns-clause-safe
-returns-clause-safe g c =
-    let j = c.self.inside.journal in
-    let payload = c.as_slice.result.now in
-    let same : payload ≡ record_of c.args.entry = c.as_slice.ensures ∙ c.in_ok-payload.ensures.bytes in
-    let fits : after_record c.self.inside.balance payload ≡ Some c.in-Some.balance =
-    ap (after_record c.self.inside.balance) same ∙ c.record_of.ensures.again c.self.inside.balance ∙ sym c.in-Some.ensures in
-    let e = c.in_ok-position.ensures in
-    kept_safe g.D.Disk.may_leave c.append.new.self c.in-Some.balance
-    (kept_more g.D.Disk.may_leave j c.append.new.self c.self.inside.balance c.in-Some.balance payload c.self.invariant fits c.append.ensures.limits e.appended e.settled.1 c.append.ensures.safe)
-
-pub returns-clause-any_moment : goal.returns-clause-any_moment
-returns-clause-any_moment g c =
-    let d = g.D.Disk in
-    let j = c.self.inside.journal in
-    let payload = c.as_slice.result.now in
-    let same : payload ≡ record_of c.args.entry = c.as_slice.ensures ∙ c.in_ok-payload.ensures.bytes in
-    let fits : after_record c.self.inside.balance (record_of c.args.entry) ≡ Some c.in-Some.balance = c.record_of.ensures.again c.self.inside.balance ∙ sym c.in-Some.ensures in
-    rw (← c.self.view_is) (meanwhile d.may_leave d.moment d.left_since j c.append.new.self c.self.inside.balance (record_of c.args.entry) c.self.invariant (fits_some _ _ _ fits refl)
-    (subst (λ q. LeavesOnly d.moment d.left_since j.disk c.append.new.self.disk (MayHave j.limits.largest j.log j.further q)) same c.append.ensures.any_moment))
+pub returns-clause-enters : goal.returns-clause-enters
+returns-clause-enters g c = rw (c.push_reserved.ensures.items, c.reserve.ensures.items, ← c.self.view_is) (after_append g c).1

@@ -1,21 +1,22 @@
-use Rattle.std.proofs.Common.{Ok, Err, ap}
-use Rattle.up_journal.proofs.Records.{content_damaged, content_state, state_read}
-use Rattle.up_ledger.specs.Entries.{after_record}
+use Rattle.std.proofs.Common.{sym, ap, ◌∙◌}
+use Rattle.up_journal.proofs.Logs.{opens_log, refuses_opened, refuses_read}
+use Rattle.up_journal.proofs.Records.{opened_and_read}
+use Rattle.up_ledger.specs.Entries.{entry_of, fits, record_of}
 use Rattle.up_ledger.proofs.ledger.Ledger.open.Goals as goal
 
-pub returns-in-Err-clause-damaged : goal.returns-in-Err-clause-damaged
-returns-in-Err-clause-damaged g c gate is =
-    content_damaged after_record 0 c.args.limits.largest (g.D.Disk.content c.args.disk) gate (c.in-Err.ensures.damaged gate is)
+pub returns-in-Err-clause-refuses : goal.returns-in-Err-clause-refuses
+returns-in-Err-clause-refuses g c =
+    let e = c.in-Err.ensures in
+    refuses_opened g.D.Disk entry_of fits c.args.disk c.args.limits c.in-Err.fault e.damaged e.synced
 
-pub returns-in-Ok-replay-clause-balance : goal.returns-in-Ok-replay-clause-balance
-returns-in-Ok-replay-clause-balance g c =
-    content_state after_record 0 c.args.limits.largest (g.D.Disk.content c.args.disk) c.in-Ok.journal.log (Ok c.in-Ok-replay.balance) c.in-Ok.ensures.log c.in-Ok-replay.ensures.balance
+pub returns-in-Ok-replay-clause-opens : goal.returns-in-Ok-replay-clause-opens
+returns-in-Ok-replay-clause-opens g c =
+    let e = c.in-Ok.ensures in
+    let r = c.in-Ok-replay.ensures in
+    (opens_log g.D.Disk entry_of fits record_of c.args.disk c.args.limits c.in-Ok.journal c.replay.new.journal c.in-Ok-replay.run'.entries.items e.log e.settled e.limits e.safe r.sizes r.log c.replay.ensures.read).1
 
-pub returns-in-Ok-replay-clause-safe : goal.returns-in-Ok-replay-clause-safe
-returns-in-Ok-replay-clause-safe g c image left =
-    let has = c.in-Ok.ensures.safe image (c.replay.ensures.read.fewer image left) in
-    state_read after_record 0 c.args.limits.largest image has.payloads (Ok c.in-Ok-replay.balance) has.read (c.in-Ok-replay.ensures.balance has.payloads has.told)
-
-pub returns-in-Err-replay-clause-damaged : goal.returns-in-Err-replay-clause-damaged
-returns-in-Err-replay-clause-damaged g c gate is =
-    content_state after_record 0 c.args.limits.largest (g.D.Disk.content c.args.disk) c.in-Ok.journal.log (Err gate) c.in-Ok.ensures.log (c.in-Err-replay.ensures.damaged gate (ap Err is))
+pub returns-in-Err-replay-clause-refuses : goal.returns-in-Err-replay-clause-refuses
+returns-in-Err-replay-clause-refuses g c =
+    let e = c.in-Ok.ensures in
+    rw c.into_disk.ensures.disk
+    (refuses_read g.D.Disk entry_of fits c.args.disk c.args.limits c.in-Ok.journal c.replay.new.journal c.in-Err-replay.why e.log e.safe c.in-Err-replay.ensures.damaged c.replay.ensures.read)

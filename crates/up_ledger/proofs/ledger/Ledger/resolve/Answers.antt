@@ -1,21 +1,23 @@
-use Rattle.up_ledger.proofs.Kept.{kept_resolved, kept_safe, settled_on_ok, settling}
+use Rattle.std.proofs.Common.{subst, sym, ◌≤◌}
+use Rattle.up_journal.specs.Logs.{KeepsLog, ResolvesLog, log_state}
+use Rattle.up_journal.specs.declared.limits.Limits.{Limits}
+use Rattle.up_journal.proofs.Logs.{resolves_log}
+use Rattle.up_ledger.specs.Entries.{entries_in, entry_of, fits, largest_record, record_of}
+use Rattle.up_ledger.proofs.ledger.Ledger.resolve.Given.{Over}
 use Rattle.up_ledger.proofs.ledger.Ledger.resolve.Goals as goal
 
-pub returns-clause-acknowledged : goal.returns-clause-acknowledged
-returns-clause-acknowledged g c =
-    let j = c.self.inside.journal in
+after : (g : Over) (c : goal.After-resolve g) → KeepsLog g.D.Disk entry_of fits record_of c.resolve.new.self c.self.inside.entries.items
+    × ResolvesLog g.D.Disk entries_in (log_state entry_of c.self.inside.journal c.self.inside.entries.items) (log_state entry_of c.resolve.new.self c.self.inside.entries.items) c.resolve.result
+after g c =
     let e = c.resolve.ensures in
-    let kept = kept_resolved g.D.Disk.may_leave c.resolve.result j c.resolve.new.self c.self.inside.balance c.self.invariant e.limits e.log e.settled e.refused e.safe in
-    settled_on_ok g.D.Disk.may_leave c.resolve.result c.resolve.new.self c.self.inside.balance kept e.settled
+    resolves_log g.D.Disk entry_of fits record_of c.resolve.result c.self.inside.journal c.resolve.new.self c.self.inside.entries.items c.self.invariant.keeps e.sizes e.log e.limits e.settled e.refused e.crash
 
-pub returns-clause-safe : goal.returns-clause-safe
-returns-clause-safe g c =
-    let j = c.self.inside.journal in
-    let e = c.resolve.ensures in
-    kept_safe g.D.Disk.may_leave c.resolve.new.self c.self.inside.balance
-    (kept_resolved g.D.Disk.may_leave c.resolve.result j c.resolve.new.self c.self.inside.balance c.self.invariant e.limits e.log e.settled e.refused e.safe)
+pub returns-clause-resolves : goal.returns-clause-resolves
+returns-clause-resolves g c = rw (← c.self.view_is) (after g c).1
 
-pub returns-clause-any_moment : goal.returns-clause-any_moment
-returns-clause-any_moment g c =
-    let d = g.D.Disk in
-    rw (← c.self.view_is) (settling d.may_leave d.moment d.left_since c.self.inside.journal c.resolve.new.self c.self.inside.balance c.self.invariant c.resolve.ensures.any_moment)
+pub invariant_of-self : goal.invariant_of-self
+invariant_of-self g c = record {
+  keeps = (after g c).0;
+  run = c.self.invariant.run;
+  room = subst (λ (l : Limits). largest_record ≤ l.largest) (sym c.resolve.ensures.limits) c.self.invariant.room;
+}

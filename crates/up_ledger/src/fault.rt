@@ -1,8 +1,11 @@
 //! Why an entry was not made.
-ghost use Rattle.std.specs.Prelude.{◌≡◌};
-ghost use Rattle.up_ledger.specs.declared.why.EntryWhy.TheVariants as entry;
+ghost use Rattle.std.specs.Prelude.{◌≡◌, Some};
+ghost use Rattle.up_ledger.specs.Messages.{message};
+ghost use Rattle.up_ledger.specs.declared.fault.EntryWhy.TheVariants as entry;
 
-use std::alloc::AllocError;
+use std::alloc::{AllocError, AllocFailed};
+use std::error::Error;
+use std::fmt;
 use up_journal::AppendWhy;
 
 /// Why an entry was not made. The balance is then as before.
@@ -16,6 +19,21 @@ pub enum EntryWhy {
     Fault,
     OutOfMemory,
 }
+
+impl fmt::Display for EntryWhy {
+    ghost output = { λ why. Some (message why) };
+
+    fn fmt<W: fmt::Write>(&self, f: &mut fmt::Formatter<W>) -> fmt::Result {
+        match self {
+            EntryWhy::Refused => write!(f, "the balance does not allow it"),
+            EntryWhy::Full(records) => write!(f, "the ledger is full with {records} records"),
+            EntryWhy::Fault => write!(f, "the disk failed"),
+            EntryWhy::OutOfMemory => write!(f, "out of memory"),
+        }
+    }
+}
+
+impl Error for EntryWhy {}
 
 impl From<AppendWhy> for EntryWhy {
     ghost use Rattle.up_ledger.specs.Ledger.{why_of};
