@@ -9,7 +9,7 @@ use Rattle.up_entry.specs.declared.entries.Entry.{Entry}
 use Rattle.up_entry.specs.declared.reading.Heading.{Heading}
 use Rattle.up_entry.specs.Attrs.{attr_byte}
 use Rattle.up_entry.specs.Reading.{block_at, blocks_at, heading_at, entry_at}
-use Rattle.up_entry.specs.Spelling.{block, entry, endpoint_text, link_text, IsBlock, HasAddress, FitsBlock, FitsBlocks, FitsEntry, FitsWhole}
+use Rattle.up_entry.specs.Spelling.{block, entry, heading, endpoint_text, link_text, IsBlock, HasAddress, FitsBlock, FitsBlocks, FitsEntry, FitsWhole}
 use Rattle.up_bytes.proofs.Parts.{IsPart, then, last, whole, refit}
 use Rattle.up_bytes.proofs.Lists.{list_part, all_both, all_first, all_second}
 use Rattle.up_bytes.proofs.FieldParts.{byte_part, num_part, int_part, text_part, raw_part}
@@ -17,10 +17,10 @@ use Rattle.up_entry.proofs.EntryFields.{path_part, user_part, attr_part, link_pa
 
 -- ---- parts, each before those behind it
 
-five : (a b c d e : List ℕ) → a ++ b ++ c ++ d ++ e ≡ a ++ (b ++ (c ++ (d ++ e)))
+pub five : (a b c d e : List ℕ) → a ++ b ++ c ++ d ++ e ≡ a ++ (b ++ (c ++ (d ++ e)))
 five a b c d e = append_assoc (a ++ b ++ c) d e ∙ append_assoc (a ++ b) c (d ++ e) ∙ append_assoc a b (c ++ (d ++ e))
 
-six : (a b c d e f : List ℕ) → a ++ b ++ c ++ d ++ e ++ f ≡ a ++ (b ++ (c ++ (d ++ (e ++ f))))
+pub six : (a b c d e f : List ℕ) → a ++ b ++ c ++ d ++ e ++ f ≡ a ++ (b ++ (c ++ (d ++ (e ++ f))))
 six a b c d e f = append_assoc (a ++ b ++ c ++ d) e f ∙ five a b c d (e ++ f)
 
 -- ---- blocks
@@ -53,7 +53,7 @@ pub record HeadingFits (marks : Bool) (h : Heading) : Type 0 where
   pub mark : MarkFits marks h.attr
 
 abbrev pub spelled_heading : Heading → List ℕ
-spelled_heading h = text (canonical h.name) ++ text (canonical h.signed_name) ++ byte h.packing ++ int h.time ++ text h.writer ++ byte (attr_byte h.attr)
+spelled_heading h = heading (canonical h.name) (canonical h.signed_name) h.packing h.time h.writer (attr_byte h.attr)
 
 pub heading_part : (marks : Bool) → IsPart (HeadingFits marks) spelled_heading (heading_at marks)
 unfolding heading_at

@@ -5,3 +5,4 @@ mod CheckingExamples
 pub mod EntryFields
 pub mod EntryParts
 pub mod RecParts
+pub mod RawParts

@@ -1,5 +1,5 @@
 -- The one spelling of an entry and of a record of a tree's log, in the fields of up_bytes. This project's own format.
-use Rattle.std.specs.Prelude.{◌≡◌, ℕ, ◌<◌, false, List, [], ◌++◌, length, Option, Some, None, Ok, IsSome, ⊤}
+use Rattle.std.specs.Prelude.{◌≡◌, ℕ, ℤ, ◌<◌, false, List, [], ◌++◌, length, Option, Some, None, Ok, IsSome, ⊤}
 use Rattle.std.specs.List.{AllByRecursion}
 use Rattle.up_bytes.specs.Num.{num}
 use Rattle.up_bytes.specs.Spelling.{byte, int, text, raw, list, IsByte, IsU64, IsI64, IsText, IsList, HasLength}
@@ -38,19 +38,19 @@ link_text None = []
 link_text (Some target) = canonical target
 
 -- what stands in front of an entry's link: name, signed name, packing, time, writer, attr
-abbrev pub heading : Entry → List ℕ
-heading e =
-    text (canonical e.name)
-    ++ text (canonical e.signed_name)
-    ++ byte e.packing
-    ++ int e.time
-    ++ text e.writer
-    ++ byte (attr_byte e.attr)
+abbrev pub heading : List ℕ → List ℕ → ℕ → ℤ → List ℕ → ℕ → List ℕ
+heading name signed_name packing time writer attr =
+    text name
+    ++ text signed_name
+    ++ byte packing
+    ++ int time
+    ++ text writer
+    ++ byte attr
 
 -- an entry: that, and link, packdata, the list of blocks, sequence
 unfoldable pub entry : Entry → List ℕ
 entry e =
-    heading e
+    heading (canonical e.name) (canonical e.signed_name) e.packing e.time e.writer (attr_byte e.attr)
     ++ text (link_text e.link)
     ++ text e.packdata
     ++ list block e.blocks

@@ -10,6 +10,7 @@ ghost use Rattle.up_entry.specs.declared.puts.PutEntry.{PutEntry};
 ghost use Rattle.up_entry.specs.declared.records.Rec.{Rec};
 ghost use Rattle.up_entry.specs.Checking.{checked_as, IsChecked};
 ghost use Rattle.up_entry.specs.FixedForm.{has_fixed_form, HasFixedForm};
+ghost use Rattle.up_entry.specs.RawEntries.{raw_entry, raw_entry_at, FitsRawEntry};
 ghost use Rattle.up_entry.specs.Reading.{blocks_at, endpoint_at, entry_at, path_at, rec_at, rec_of, user_at};
 ghost use Rattle.up_bytes.specs.Sequences.{AreFields, AreMessages};
 ghost use Rattle.up_entry.specs.Spelling as spelling;
@@ -23,10 +24,11 @@ pub fn parts_have_one_spelling()
     ensures blocks { AreFields FitsBlocks (list spelling.block) blocks_at }
 {}
 
-/// Each entry that keeps its format's rules has one spelling; one that is read without marks is whole.
+/// Each entry that keeps its format's rules has one spelling; one that is read without marks is whole. So has each raw entry.
 pub fn entries_have_one_spelling()
     ensures any { AreFields FitsEntry spelling.entry (entry_at true) }
     ensures whole { AreFields FitsWhole spelling.entry (entry_at false) }
+    ensures raw { AreFields FitsRawEntry raw_entry raw_entry_at }
 {}
 
 /// Each record has one spelling, and exactly the bytes that spell a record are read as one.
