@@ -4,12 +4,22 @@
 //! `Request` and answer a `Reply`.
 #![tactic(auto)]
 
+mod answering;
+mod asking;
 mod keys;
+mod laws;
 mod messages;
 mod replies;
 mod requests;
+mod rows;
+mod shapes;
+mod words;
 
-pub use keys::{KeyCard, KeyRecord};
-pub use messages::{ClientFrame, ServerFrame};
+pub use answering::{bounded, reply_size};
+pub use keys::{KeyCard, KeyRecord, key_record_size, read_key_record, write_key_record};
+pub use laws::{key_records_have_one_spelling, messages_have_one_spelling};
+pub use messages::{
+    ClientFrame, ServerFrame, read_client, read_server, write_client, write_server,
+};
 pub use replies::{Done, Reply, Row, WatchEvent};
 pub use requests::Request;

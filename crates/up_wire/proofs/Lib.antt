@@ -1,0 +1,4 @@
+pub mod KeyParts
+pub mod ClientParts
+pub mod WordParts
+pub mod ServerParts

@@ -1,0 +1,4 @@
+pub mod Keys
+pub mod Spelling
+pub mod Reading
+pub mod Bounds
