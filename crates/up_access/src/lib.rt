@@ -1,4 +1,8 @@
 //! Access texts: which rights a directory grants, and to whom.
+//!
+//! [`parse_access`] gives exactly the rules of a text, in order, or `BadText` with exactly the number of its first bad line.
+//! [`print_access`] gives exactly the text that the definition names; that text, read again with any owner, stands for the same
+//! rules, where they are rules that a text gave.
 #![tactic(auto)]
 
 mod parsing;

@@ -1,4 +1,9 @@
 //! Bytes, and the fields that records and messages are spelled with: what a writer appends and a reader takes.
+//!
+//! A field has one spelling for each value: what is written is read again whatever follows, what is read is spelled so, `Short`
+//! comes exactly where the input ends within a field and `Spelling` exactly where no spelling begins ([`fields_are_forms`],
+//! [`num_has_one_spelling`]). What is made of several fields has the trait [`Fields`]; lists of such, and messages that are the
+//! whole of some bytes, are read, written and measured once for all of them.
 #![tactic(auto)]
 
 use up_lists::Items;

@@ -1,4 +1,7 @@
 //! Frames on a stream of bytes that comes in any pieces: four bytes of length, high byte first, and as many bytes.
+//!
+//! The frames that were fed so far and a rest are the stream, however it was cut, and it has no other reading
+//! (`Frames::feed`, `Frames::next`, and the law `stream_has_one_reading`).
 #![tactic(auto)]
 
 mod cutting;

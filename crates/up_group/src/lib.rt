@@ -1,4 +1,6 @@
 //! Group texts: whom a group has as members.
+//!
+//! [`parse_group`] gives exactly the items of a text, in order, or `BadText` with exactly the number of its first bad line.
 #![tactic(auto)]
 
 ghost use Rattle.std.specs.Prelude.{◌≡◌, length, slice_get};

@@ -1,4 +1,7 @@
 //! References: what blocks of bytes are named by in a store.
+//!
+//! A reference is the SHA-256 digest of the bytes, by the definition of the kit's `sha2`. Its text is 64 upper-case hexadecimal
+//! digits, and [`Reference::parse`] accepts exactly those.
 #![tactic(auto)]
 
 ghost use Rattle.std.specs.Prelude.{◌≡◌, length, is_some, IfOk, IfSome, Some};

@@ -1,4 +1,8 @@
 //! The five rights that an Access file can grant, and sets of them.
+//!
+//! [`read_right`] gives exactly the rights that a word of an Access file stands for, and `None` exactly where it is no
+//! right; [`Right::word`] and [`Right::from_word`] are exact. A [`RightSet`] has exactly what was put into it (`has`,
+//! `with`, `union`, `all`, `empty`, `is_empty`).
 #![tactic(auto)]
 
 ghost use Rattle.std.specs.Prelude.{◌≡◌, ◌||◌, not};

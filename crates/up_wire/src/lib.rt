@@ -2,6 +2,12 @@
 //!
 //! The types are the whole vocabulary of requests and replies: directory, store and key server each take their part of
 //! `Request` and answer a `Reply`.
+//!
+//! [`write_client`] and [`write_server`] write the one spelling of a message, [`read_client`] and [`read_server`] take exactly
+//! the spellings and answer `Short` and `Spelling` by the first field that fails, or by the first byte behind the last one.
+//! [`reply_size`] is exactly the length of what `write_server` would give; [`bounded`] puts `TooLarge` in place of a reply of
+//! what was done that is longer than 67,108,864 bytes. That no spelling begins another, and that a cut one is short, are laws
+//! ([`messages_have_one_spelling`], [`key_records_have_one_spelling`]).
 #![tactic(auto)]
 
 mod answering;
