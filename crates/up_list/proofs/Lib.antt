@@ -1,0 +1,17 @@
+pub mod LinkLemmas
+pub mod ItemLemmas
+pub mod DecidingLemmas
+pub mod BelowLemmas
+pub mod PatternLemmas
+pub mod MeetLemmas
+pub mod SortedLemmas
+pub mod PickLemmas
+pub mod ChildLemmas
+pub mod LiteralLemmas
+pub mod DownLemmas
+pub mod RowLemmas
+pub mod OrderLemmas
+pub mod FrontLemmas
+pub mod SortLemmas
+pub mod PassLemmas
+pub mod GlobLemmas

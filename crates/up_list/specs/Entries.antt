@@ -1,0 +1,31 @@
+-- The entries of a tree, and where they stand.
+use Rattle.std.specs.Prelude.{if◌then◌else◌, List, map, Option, Some, None}
+use Rattle.std.specs.Map.{values_of}
+use Rattle.std.specs.Option.{option_map, option_and_then}
+use Rattle.up_names.specs.PathNames.{PathName}
+use Rattle.up_entry.specs.declared.entries.Entry.{Entry}
+use Rattle.up_replay.specs.declared.node.Node.{Node}
+use Rattle.up_replay.specs.Trees.{Tree, node_at, is_parent, is_link, made_of, standing_prefix}
+
+abbrev pub entry_of : Node → Entry
+entry_of node = node.entry
+
+-- the entry at a path
+abbrev pub entry_at : Tree → PathName → Option Entry
+entry_at tree path = option_map entry_of (node_at tree path)
+
+-- the entry at the longest prefix of a path, the path itself included, at which something stands
+abbrev pub entry_on_way : Tree → PathName → Option Entry
+entry_on_way tree path = option_and_then (entry_at tree) (standing_prefix tree path)
+
+-- the children of a directory with their nodes, in order of paths
+abbrev pub nodes_in : Tree → PathName → List (PathName × Node)
+nodes_in tree dir = made_of (λ path node. if is_parent dir path then Some node else None) tree
+
+-- the entries of the children of a directory, in order of paths
+abbrev pub entries_in : Tree → PathName → List Entry
+entries_in tree dir = map entry_of (values_of (nodes_in tree dir))
+
+-- an entry that is a link
+abbrev pub if_link : Entry → Option Entry
+if_link entry = if is_link entry.attr.kind then Some entry else None

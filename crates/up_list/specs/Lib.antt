@@ -1,0 +1,13 @@
+pub mod Looks
+pub mod Entries
+pub mod Governing
+pub mod Checks
+pub mod Reads
+pub mod Globs
+pub mod Asking
+pub mod Changes
+pub mod Founds
+pub mod Rooted
+pub mod Deciding
+pub mod Walking
+pub mod Places

@@ -1,0 +1,131 @@
+//! What a request asks of a directory.
+ghost use Rattle.std.specs.Prelude.{◌≡◌, negsuc, int_le};
+ghost use Rattle.up_entry.specs.Checking.{Gives, path_or, rule};
+ghost use Rattle.up_names.specs.declared.faults.NameFault.TheVariants as name;
+ghost use Rattle.up_replay.specs.Rights.{is_group};
+ghost use Rattle.up_policy.specs.Trees.{owns_snapshots};
+ghost use Rattle.up_list.specs.Asking.{asked_of, owner_asked, pattern_or_fault};
+
+use std::alloc::Global;
+use up_entry::{Checked, EntryFault, What, check_entry};
+use up_names::{Control, NameFault, Path, User, parse_path};
+use up_pattern::{Pattern, PatternFault, parse_pattern};
+use up_wire::Request;
+
+/// A request to a directory whose texts were read.
+#[derive(Debug, Drop)]
+pub enum Asked {
+    Lookup(Path),
+    WhichAccess(Path),
+    /// Of a Group path.
+    GroupText(Path),
+    Delete(Path),
+    /// The entry keeps all rules of entries.
+    Put(Checked),
+    Glob(Pattern),
+    /// The path that is watched, which is of no snapshot tree, and the sequence from which on, at least -2.
+    Watch(Path, i64),
+}
+
+impl Asked {
+    /// The owner of the path, or of the pattern, that is asked of.
+    pub fn owner(&self) -> &User
+        ensures { result.now ≡ owner_asked self.now }
+    {
+        match self {
+            Asked::Lookup(path)
+            | Asked::WhichAccess(path)
+            | Asked::GroupText(path)
+            | Asked::Delete(path)
+            | Asked::Watch(path, _) => path.owner(),
+            Asked::Put(put) => put.entry.name.owner(),
+            Asked::Glob(pattern) => pattern.owner(),
+        }
+    }
+}
+
+/// What a user's request asks of a directory, or what of it is malformed: a path is no path text; a pattern is none; an entry
+/// may not be put; GroupText does not ask of a Group path; a Watch has a sequence below -2, or is of a snapshot tree. A request
+/// to the store or the keys names no path.
+#[tactic(auto, unfolding(crate::specs::Asking::asked_of))]
+pub fn asked_of(alloc: Global, user: &User, request: &Request) -> Result<Asked, EntryFault>
+    ensures { Gives (λ asked. asked) result (asked_of user.now request.now) }
+{
+    match request {
+        Request::Lookup(text) => Ok(Asked::Lookup(path_asked(alloc, text.as_slice())?)),
+        Request::WhichAccess(text) => Ok(Asked::WhichAccess(path_asked(alloc, text.as_slice())?)),
+        Request::GroupText(text) => {
+            let path = path_asked(alloc, text.as_slice())?;
+            rule(What::GroupName, is_group(&path))?;
+            Ok(Asked::GroupText(path))
+        }
+        Request::Delete(text) => Ok(Asked::Delete(path_asked(alloc, text.as_slice())?)),
+        Request::Put(put) => Ok(Asked::Put(check_entry(alloc, put, user)?)),
+        Request::Glob(text) => Ok(Asked::Glob(pattern_asked(alloc, text.as_slice())?)),
+        Request::Watch(text, sequence) => {
+            let path = path_asked(alloc, text.as_slice())?;
+            rule(What::Sequence, *sequence >= -2)?;
+            rule(What::SnapshotWatch, !owns_snapshots(path.owner()))?;
+            Ok(Asked::Watch(path, *sequence))
+        }
+        Request::Get(_)
+        | Request::StorePut(_)
+        | Request::StoreDelete(_)
+        | Request::KeyLookup(_)
+        | Request::KeyPut(_) => Err(EntryFault::Invalid(What::Name)),
+    }
+}
+
+/// A rule that holds, or fails by this word.
+fn rule(what: What, holds: bool) -> Result<(), EntryFault>
+    ensures { Gives (λ _. tt) result (rule what holds) }
+{
+    if holds {
+        Ok(())
+    } else {
+        Err(EntryFault::Invalid(what))
+    }
+}
+
+/// The path of a text that has to be a path text.
+fn path_asked(alloc: Global, text: &[u8]) -> Result<Path, EntryFault>
+    ensures { Gives (λ path. path) result (path_or What.Name text.now) }
+{
+    match parse_path(alloc, text) {
+        Ok(path) => Ok(path),
+        Err(NameFault::OutOfMemory) => Err(EntryFault::OutOfMemory),
+        Err(_) => Err(EntryFault::Invalid(What::Name)),
+    }
+}
+
+/// The pattern of a text that has to be one.
+fn pattern_asked(alloc: Global, text: &[u8]) -> Result<Pattern, EntryFault>
+    ensures { Gives (λ pattern. pattern) result (pattern_or_fault text.now) }
+{
+    match parse_pattern(alloc, text) {
+        Ok(pattern) => Ok(pattern),
+        Err(PatternFault::Name) => Err(EntryFault::Invalid(What::Name)),
+        Err(PatternFault::Element(place)) => Err(EntryFault::Invalid(What::Pattern(place))),
+        Err(PatternFault::OutOfMemory) => Err(EntryFault::OutOfMemory),
+    }
+}
+
+/// Whether a path is for a Group file.
+fn is_group(path: &Path) -> bool
+    ensures { result ≡ is_group path.now }
+{
+    match path.control_kind() {
+        Control::Group => true,
+        Control::Access | Control::Ordinary => false,
+    }
+}
+
+/// Whether the tree of this owner is a snapshot tree.
+fn owns_snapshots(owner: &User) -> bool
+    ensures { result ≡ owns_snapshots owner.now }
+{
+    match owner.suffix() {
+        Some(suffix) => suffix == "snapshot",
+        None => false,
+    }
+}
