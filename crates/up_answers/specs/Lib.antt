@@ -1,0 +1,14 @@
+pub mod Events
+pub mod Watches
+pub mod Calendar
+pub mod SnapshotTrees
+pub mod SnapshotReplies
+pub mod Fetching
+pub mod Puts
+pub mod Deletes
+pub mod Answers
+pub mod Routes
+pub mod Needs
+pub mod Views
+pub mod Agreement
+pub mod Laws
