@@ -58,9 +58,12 @@ fn images_of(alloc: Global, disk: &MemDisk) -> Result<Vec<MemDisk>, AllocError> 
     Ok(images)
 }
 
-// Counts a read of each of these bytes.
+// Counts a read of each of these bytes, as far as they are counted at all.
 fn touch(seen: &mut [u8], at: usize, size: usize) {
-    for times in seen.iter_mut().skip(at).take(size) {
+    if at > seen.len() {
+        return;
+    }
+    for times in seen[at..].iter_mut().take(size) {
         *times = times.saturating_add(1);
     }
 }
