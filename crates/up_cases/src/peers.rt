@@ -4,7 +4,7 @@ use crate::fault::Fault;
 use crate::texts::add_members;
 use crate::topic::Topic;
 use crate::words::{Words, bytes_of, path_of, text_of, user_of};
-use std::alloc::{AllocError, Global};
+use std::alloc::Global;
 use up_bytes::Bytes;
 use up_entry::Fetch;
 use up_lists::Items;
@@ -106,59 +106,57 @@ fn told_answer(alloc: Global, word: &str) -> Result<PeerAnswer, Fault> {
 // `peers PEER .. : QUESTION; ..`: what a list of peers gives to each question, and the sum of the counts as it is closed.
 fn peers_line(alloc: Global, words: Words<'_>, answer: &mut Answer) -> Result<(), Fault> {
     let (told, questions) = words.some()?.split_once(" : ").ok_or(Fault::BadLine)?;
-    let mut peers = peers_of(alloc, told)?;
+    let told = told_peers(alloc, told)?;
+    ask_peers(alloc, told, questions, answer)
+}
+
+fn told_peers(alloc: Global, words: &str) -> Result<Vec<Told>, Fault> {
+    let mut told = Vec::new(alloc);
+    for word in words.split(' ') {
+        add_told(alloc, &mut told, word)?;
+    }
+    Ok(told)
+}
+
+fn add_told(alloc: Global, told: &mut Vec<Told>, word: &str) -> Result<(), Fault> {
+    told.push(told_peer(alloc, word)?)?;
+    Ok(())
+}
+
+// Makes the list of peers and asks it. The boxes are made here, where the list ends too.
+fn ask_peers(
+    alloc: Global,
+    told: Vec<Told>,
+    questions: &str,
+    answer: &mut Answer,
+) -> Result<(), Fault> {
+    let mut peers = Peers::new(alloc);
+    for one in told {
+        let Told {
+            owners,
+            address,
+            answers,
+        } = one;
+        let peer: Box<dyn Peer + Send> = match answers {
+            Some(answers) => Box::new(alloc, ListPeer::new(alloc, answers))?,
+            None => Box::new(alloc, RefusingPeer::new(alloc))?,
+        };
+        peers.add(owners, address, peer)?;
+    }
     ask_all(alloc, &mut peers, questions, answer)?;
+    add_close(peers, answer);
+    Ok(())
+}
+
+fn add_close(peers: Peers, answer: &mut Answer) {
     answer.part();
     answer.word("close");
     answer.number(u64::try_from(peers.close()).unwrap_or(u64::MAX));
-    Ok(())
 }
 
-fn peers_of(alloc: Global, told: &str) -> Result<Peers, Fault> {
-    let mut peers = Peers::new(alloc);
-    for word in told.split(' ') {
-        add_peer(alloc, &mut peers, word)?;
-    }
-    Ok(peers)
-}
-
-fn add_peer(alloc: Global, peers: &mut Peers, word: &str) -> Result<(), Fault> {
-    let Told {
-        owners,
-        address,
-        answers,
-    } = told_peer(alloc, word)?;
-    match answers {
-        Some(answers) => add_list(alloc, peers, owners, address, answers)?,
-        None => add_refusing(alloc, peers, owners, address)?,
-    }
-    Ok(())
-}
-
-fn add_list(
+fn ask_all<L: Loader>(
     alloc: Global,
-    peers: &mut Peers,
-    owners: Items<User>,
-    address: Bytes,
-    answers: Items<PeerAnswer>,
-) -> Result<(), AllocError> {
-    let peer: Box<dyn Peer + Send> = Box::new(alloc, ListPeer::new(alloc, answers))?;
-    peers.add(owners, address, peer)
-}
-
-fn add_refusing(
-    alloc: Global,
-    peers: &mut Peers,
-    owners: Items<User>,
-    address: Bytes,
-) -> Result<(), AllocError> {
-    let peer: Box<dyn Peer + Send> = Box::new(alloc, RefusingPeer::new(alloc))?;
-    peers.add(owners, address, peer)
-}
-
-fn ask_all(
-    alloc: Global,
-    peers: &mut Peers,
+    peers: &mut L,
     questions: &str,
     answer: &mut Answer,
 ) -> Result<(), Fault> {
@@ -169,9 +167,9 @@ fn ask_all(
     Ok(())
 }
 
-fn ask(
+fn ask<L: Loader>(
     alloc: Global,
-    peers: &mut Peers,
+    peers: &mut L,
     mut words: Words<'_>,
     answer: &mut Answer,
 ) -> Result<(), Fault> {
@@ -183,9 +181,9 @@ fn ask(
 }
 
 // `load ASKER NAME`.
-fn load(
+fn load<L: Loader>(
     alloc: Global,
-    peers: &mut Peers,
+    peers: &mut L,
     mut words: Words<'_>,
     answer: &mut Answer,
 ) -> Result<(), Fault> {
@@ -194,9 +192,9 @@ fn load(
     load_as(alloc, peers, asker, &name, answer)
 }
 
-fn load_as(
+fn load_as<L: Loader>(
     alloc: Global,
-    peers: &mut Peers,
+    peers: &mut L,
     asker: &str,
     name: &Path,
     answer: &mut Answer,
@@ -207,9 +205,9 @@ fn load_as(
 }
 
 // `fetch ADDRESS DIGITS`.
-fn fetch(
+fn fetch<L: Loader>(
     alloc: Global,
-    peers: &mut Peers,
+    peers: &mut L,
     mut words: Words<'_>,
     answer: &mut Answer,
 ) -> Result<(), Fault> {
@@ -218,9 +216,9 @@ fn fetch(
     fetch_at(alloc, peers, address, &reference, answer)
 }
 
-fn fetch_at(
+fn fetch_at<L: Loader>(
     alloc: Global,
-    peers: &mut Peers,
+    peers: &mut L,
     address: &str,
     reference: &Reference,
     answer: &mut Answer,
