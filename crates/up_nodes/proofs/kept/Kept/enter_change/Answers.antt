@@ -1,0 +1,19 @@
+use Rattle.std.proofs.Common.{[], ◌∷◌, ◌++◌, refl, sym, subst, ◌∙◌}
+use Rattle.up_nodes.specs.Kept.{IsStepFor}
+use Rattle.up_nodes.specs.Slots.{AreSlotsOf}
+use Rattle.up_nodes.proofs.Within.{last_after, slots_after, snaps_after}
+use Rattle.up_nodes.proofs.kept.Kept.enter_change.Goals as goal
+
+pub returns-in-Some : goal.returns-in-Some
+returns-in-Some c =
+    let self = c.args.self.now in
+    let rec = c.args.rec.now in
+    let is = subst (IsStepFor self rec) c.in-Some.is c.requires.ready.is in
+    record {
+      owner = refl;
+      log = refl;
+      befores = refl;
+      slots = subst (AreSlotsOf self.owner (self.log.items ++ rec ∷ [])) (sym c.enter_step.ensures.slots) (slots_after self c.requires.stands rec c.in-Some.step is c.requires.fits);
+      snaps = snaps_after self c.requires.stands rec c.in-Some.step is c.requires.fits;
+      last = c.enter_step.ensures.before ∙ last_after self c.requires.stands rec c.in-Some.step is c.requires.fits;
+    }

@@ -1,0 +1,28 @@
+-- What contracts see of a tree in memory. This project's own.
+use Rattle.std.specs.Prelude.{List, Option, Some, None, option_map, ⊤}
+use Rattle.up_names.specs.Texts.{UserName}
+use Rattle.up_entry.specs.declared.records.Rec.{Rec}
+use Rattle.up_nodes.specs.Kept.{IsReadyFor, Stands}
+use Rattle.up_nodes.specs.declared.kept.Kept.{Kept}
+use Rattle.up_nodes.specs.declared.mem_tree.Ready.{Ready}
+use Rattle.up_replay.specs.Fits.{Fits}
+
+-- the owner, the records, and the record that was made ready to be entered, where one was
+pub record TreeLog : Type 0 where
+  pub owner : UserName
+  pub log : List Rec
+  pub ready : Option Rec
+
+-- the record that was made ready
+abbrev pub ready_record : Option Ready → Option Rec
+ready_record ready = option_map (λ (made : Ready). made.rec) ready
+
+-- it fits, and can be entered
+abbrev pub CanEnter : Kept → Option Ready → Type 0
+CanEnter kept None = ⊤
+CanEnter kept (Some made) = Fits kept.owner kept.log.items made.rec × IsReadyFor kept made.rec made.step
+
+-- all that is kept stands for the log, and what was made ready can be entered
+pub record IsMemTree (kept : Kept) (ready : Option Ready) : Type 0 where
+  pub stands : Stands kept
+  pub can : CanEnter kept ready

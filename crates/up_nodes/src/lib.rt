@@ -1,0 +1,32 @@
+//! The tree that a log gives, kept in memory.
+//!
+//! A [`MemTree`] is seen as its owner, the records of its log, and the record that was made ready to be entered next. `node` is
+//! exactly what stands at a path, `child` a directory's children in the order of paths, `access_at` and `group_at` the texts of
+//! control files after any number of records, `nearest_at` the one that governs a path; `fits` tells exactly whether a record fits
+//! the log. `make_ready` takes all memory that a record needs, so that `enter` takes none. Each call costs what it looks at, times a
+//! logarithm; only `changes_under` looks at each record above a position. `laws.rt` says what holds of every log.
+#![tactic(auto)]
+
+mod changes;
+mod edits;
+mod entering;
+mod fitting;
+mod history;
+mod kept;
+mod laws;
+mod making;
+mod mem_tree;
+mod nearest;
+mod positions;
+mod reading;
+mod rooms;
+mod slots;
+mod steps;
+mod walk;
+
+pub use laws::{
+    fits_is_told_by_rules, fronts_are_logs, items_stand_below_directories,
+    items_stand_in_directories, sequences_are_positions,
+};
+pub use mem_tree::MemTree;
+pub use up_replay::Node;

@@ -1,0 +1,204 @@
+//! A tree in memory.
+ghost use Rattle.std.specs.Prelude.{◌≡◌, ◌≤◌, [], ◌∷◌, ◌++◌, false, None, Some, length, option_map, slice_get, IfOk, IfSome, IsSome, OnOk};
+ghost use Rattle.std.specs.Option.{option_copied};
+ghost use Rattle.up_policy.specs.Trees.{owns_snapshots};
+ghost use Rattle.std.specs.Map.{keys_of};
+ghost use Rattle.up_names.specs.PathNames.{cut};
+ghost use Rattle.up_policy.specs.Governors.{first_text, prefixes};
+ghost use Rattle.up_replay.specs.Changes.{change_before, changes_under, record_at};
+ghost use Rattle.up_replay.specs.Fits.{Fits, IsLog, fits};
+ghost use Rattle.up_replay.specs.Rights.{facts_of, governing_prefix};
+ghost use Rattle.up_replay.specs.Snapshots.{snap_at, snapshots_of};
+ghost use Rattle.up_replay.specs.Trees.{children, node_at, tree_at, tree_of};
+
+use crate::kept::Kept;
+use crate::steps::Step;
+use std::alloc::{AllocError, Global};
+use std::marker::Model;
+use std::mem;
+use up_access::AccessText;
+use up_entry::Rec;
+use up_group::GroupText;
+use up_lists::Items;
+use up_names::{Path, User};
+use up_replay::Node;
+
+/// A record that was made ready, and its step.
+#[derive(Drop)]
+pub(crate) struct Ready {
+    pub(crate) rec: Rec,
+    pub(crate) step: Option<Step>,
+}
+
+/// A tree in memory: the records of its log, and what they give. It is seen as its owner, its log, and the record that was made
+/// ready to be entered next, where one was.
+#[derive(Drop)]
+pub struct MemTree {
+    kept: Kept,
+    ready: Option<Ready>,
+}
+
+impl Model for MemTree {
+    ghost use Rattle.up_nodes.specs.MemTrees.{IsMemTree, TreeLog, ready_record};
+
+    ghost Value = { TreeLog };
+
+    ghost view = { λ tree. record { owner = tree.kept.owner; log = tree.kept.log.items; ready = ready_record tree.ready } };
+
+    ghost invariant = { λ tree. IsMemTree tree.kept tree.ready };
+}
+
+/// Puts what was made ready in the place of what is there.
+fn hold(place: &mut Option<Ready>, made: Option<Ready>)
+    ensures { place.new ≡ made }
+{
+    drop(mem::replace(place, made));
+}
+
+impl MemTree {
+    /// The tree of an empty log. It takes no memory.
+    pub fn new(alloc: Global, owner: User) -> MemTree
+        requires { owns_snapshots owner ≡ false }
+        ensures owner { result.owner ≡ owner }
+        ensures log { result.log ≡ [] }
+    {
+        MemTree {
+            kept: Kept::new(alloc, owner),
+            ready: None,
+        }
+    }
+
+    /// The owner.
+    pub fn owner(&self) -> &User
+        ensures { result.now ≡ self.now.owner }
+    {
+        &self.kept.owner
+    }
+
+    /// The number of records. What it says besides holds of every tree at every moment: each record fits those before it, and the
+    /// owner is no snapshot user.
+    pub fn position(&self) -> u64
+        ensures count { result ≡ length self.now.log }
+        ensures log { IsLog self.now.owner self.now.log }
+    {
+        self.kept.log.len() as u64
+    }
+
+    /// Record `n`, from 1, or `None` exactly where there is none.
+    pub fn rec_at(&self, n: u64) -> Option<&Rec>
+        ensures { option_copied result ≡ record_at self.now.log n }
+    {
+        if n == 0 {
+            return None;
+        }
+        self.kept.log.get(n as usize - 1)
+    }
+
+    /// What stands at a path.
+    pub fn node(&self, path: &Path) -> Option<&Node>
+        ensures { option_copied result ≡ node_at (tree_of self.now.log) path.now }
+    {
+        self.kept.node(path)
+    }
+
+    /// The path of child `i` of a directory, from 0, in the order of paths.
+    pub fn child(&self, dir: &Path, i: u64) -> Option<&Path>
+        ensures { option_copied result ≡ slice_get (children (tree_of self.now.log) dir.now) i }
+    {
+        self.kept.child(dir, i)
+    }
+
+    /// The rules of the Access file in a directory after the first `n` records. It takes no memory and parses nothing.
+    pub fn access_at(&self, dir: &Path, n: u64) -> Option<&AccessText>
+        requires { n ≤ length self.now.log }
+        ensures { option_copied result ≡ (facts_of self.now.owner (tree_at self.now.log n)).access dir.now }
+    {
+        self.kept.access_at(dir, n)
+    }
+
+    /// The items of the Group file at a path after the first `n` records. It takes no memory and parses nothing.
+    pub fn group_at(&self, path: &Path, n: u64) -> Option<&GroupText>
+        requires { n ≤ length self.now.log }
+        ensures { option_copied result ≡ (facts_of self.now.owner (tree_at self.now.log n)).group path.now }
+    {
+        self.kept.group_at(path, n)
+    }
+
+    /// The rules of the Access file that governed a path after the first `n` records, and the number of elements of the directory in
+    /// which it stood. It takes no memory, and reads the path's text once.
+    pub fn nearest_at(&self, path: &Path, n: u64) -> Option<(u64, &AccessText)>
+        requires { n ≤ length self.now.log }
+        ensures text { option_map (λ found. found.1.now) result
+            ≡ first_text (facts_of self.now.owner (tree_at self.now.log n)).access (prefixes path.now) }
+        ensures dir { option_map (λ found. cut found.0 path.now) result
+            ≡ governing_prefix (tree_at self.now.log n) path.now }
+    {
+        self.kept.nearest_at(path, n)
+    }
+
+    /// The position of the last record before record `n`, from 1, that changes the path which that one changes.
+    pub fn change_before(&self, n: u64) -> Option<u64>
+        ensures { result ≡ change_before self.now.log n }
+    {
+        self.kept.change_before(n)
+    }
+
+    /// The positions above `above` of the records that change a path under this one, in order.
+    pub fn changes_under(&self, path: &Path, above: u64) -> Result<Items<u64>, AllocError>
+        ensures { IfOk result (λ found. found ≡ changes_under self.now.log path.now above) }
+    {
+        self.kept.changes_under(path, above)
+    }
+
+    /// The position of the snapshot of that time.
+    pub fn snap_at(&self, time: u64) -> Option<u64>
+        ensures { result ≡ snap_at self.now.log time }
+    {
+        self.kept.snap_at(time)
+    }
+
+    /// The time of snapshot `i`, from 0, in the order of times.
+    pub fn snap_time(&self, i: u64) -> Option<u64>
+        ensures { result ≡ slice_get (keys_of (snapshots_of self.now.log)) i }
+    {
+        self.kept.snap_time(i)
+    }
+
+    /// Whether a record fits as the next one.
+    pub fn fits(&self, rec: &Rec) -> Result<bool, AllocError>
+        ensures { IfOk result (λ fitting. fitting ≡ fits self.now.owner self.now.log rec.now) }
+    {
+        self.kept.fits(rec)
+    }
+
+    /// Makes a record ready to be entered: all memory that this takes. The tree stays as it is, whatever the answer.
+    pub fn make_ready(&mut self, rec: Rec) -> Result<(), AllocError>
+        requires { Fits self.old.owner self.old.log rec }
+        ensures owner { self.new.owner ≡ self.old.owner }
+        ensures log { self.new.log ≡ self.old.log }
+        ensures ready { OnOk result (self.new.ready ≡ Some rec) }
+    {
+        hold(&mut self.ready, None);
+        match self.kept.make_ready(&rec) {
+            Ok(step) => {
+                hold(&mut self.ready, Some(Ready { rec, step }));
+                Ok(())
+            }
+            Err(fault) => {
+                drop(rec);
+                Err(fault)
+            }
+        }
+    }
+
+    /// Enters the record that was made ready. It takes no memory.
+    pub fn enter(&mut self)
+        requires { IsSome self.old.ready }
+        ensures owner { self.new.owner ≡ self.old.owner }
+        ensures log { IfSome self.old.ready (λ rec. self.new.log ≡ self.old.log ++ rec ∷ []) }
+    {
+        if let Some(made) = self.ready.take() {
+            self.kept.enter(made.rec, made.step);
+        }
+    }
+}
