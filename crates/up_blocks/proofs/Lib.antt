@@ -1,0 +1,4 @@
+pub mod Given
+pub mod Indexed
+pub mod Replayed
+pub mod Stored

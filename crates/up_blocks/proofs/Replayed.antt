@@ -1,0 +1,103 @@
+-- The records of a log are read, one payload after the other.
+use Rattle.std.proofs.Common.{◌≡◌, ◌≤◌, ◌+◌, IfSome, ℕ, zero, suc, List, [], ◌∷◌, ◌++◌, length, map, take, drop, Option, Some, None, option_map, Result, Ok, Err, IsErrAnd, IfErr, ◌⊎◌, inl, inr, ⊎_elim, refl, sym, ap, ◌∙◌, subst, arith, slice_get}
+use Rattle.std.proofs.lemmas.List.{length-map, map-append}
+use Rattle.up_blocks.specs.Kept.{IsIndex, IsTaken, log_seen, record_of, untold}
+use Rattle.up_blocks.specs.Records.{decoded, fits}
+use Rattle.up_blocks.specs.declared.record.BlockRecord.{BlockRecord}
+use Rattle.up_blocks.specs.declared.record.Kept.{Kept}
+use Rattle.up_journal.specs.Damages.{Damage}
+use Rattle.up_journal.specs.Damages as damages
+use Rattle.up_journal.specs.Logs.{log_step}
+use Rattle.up_journal.specs.Opened.{IsDamageOf, why_of, why_of_read}
+use Rattle.up_journal.specs.declared.fault.OpenWhy.{OpenWhy}
+use Rattle.up_journal.specs.declared.fault.OpenWhy.TheVariants as open_why
+use Rattle.up_journal.specs.declared.fault.ReadWhy.{ReadWhy}
+use Rattle.up_journal.specs.declared.fault.ReadWhy.TheVariants as read_why
+use Rattle.up_journal.specs.Records.{ReadUpTo, replay, replay_from}
+use Rattle.up_journal.proofs.Records.{take_next}
+
+-- the log up to the record with that number, from 0
+abbrev pub up_to : ℕ → Option (List (List ℕ)) → List Kept → List BlockRecord
+up_to n told records = log_seen (option_map (take n) told) records
+
+told_next : (payloads : List (List ℕ)) (n : ℕ) (payload : List ℕ) → slice_get payloads n ≡ Some payload
+    → map record_of (take (n + 1) payloads) ≡ map record_of (take n payloads) ++ record_of payload ∷ []
+told_next payloads n payload is = ap (map record_of) (take_next payloads n payload is) ∙ map-append record_of (take n payloads) (payload ∷ [])
+
+-- a payload more is read
+pub read_next : (told : Option (List (List ℕ))) (n gate : ℕ) (payload : List ℕ) (before records : List Kept) → IfSome told (λ payloads. slice_get payloads n ≡ Some payload)
+    → ReadUpTo (log_step decoded fits) [] told (n + 1) gate (up_to n told before ++ record_of payload ∷ [])
+    → ReadUpTo (log_step decoded fits) [] told (n + 1) gate (up_to (n + 1) told records)
+read_next None n gate payload before records is so_far = record { rest = λ payloads told. absurd (cc) }
+read_next (Some payloads) n gate payload before records is so_far =
+    subst (λ l. ReadUpTo (log_step decoded fits) [] (Some payloads) (n + 1) gate l) (sym (told_next payloads n payload is)) so_far
+
+pub index_next : (told : Option (List (List ℕ))) (n : ℕ) (payload : List ℕ) (before records : List Kept) (numbers : List (List ℕ × ℕ)) → IfSome told (λ payloads. slice_get payloads n ≡ Some payload)
+    → IsTaken (up_to n told before) payload before records numbers → IsIndex (up_to (n + 1) told records) records numbers
+index_next None n payload before records numbers is taken =
+    let same : map untold records ≡ map untold before ++ untold taken.change ∷ [] = ap (map untold) taken.added ∙ map-append untold before (taken.change ∷ []) in
+    subst (λ l. IsIndex l records numbers) (sym same) taken.silent
+index_next (Some payloads) n payload before records numbers is taken =
+    subst (λ l. IsIndex l records numbers) (sym (told_next payloads n payload is)) taken.told
+
+-- nothing is read yet
+pub index_none : (told : Option (List (List ℕ))) (records : List Kept) (numbers : List (List ℕ × ℕ)) → records ≡ [] → numbers ≡ [] → IsIndex (up_to 0 told records) records numbers
+index_none told records numbers none empty = subst (λ r. IsIndex (up_to 0 told r) r numbers) (sym none) (subst (λ n. IsIndex (up_to 0 told []) [] n) (sym empty) (start told))
+  where
+    start : (told : Option (List (List ℕ))) → IsIndex (up_to 0 told []) [] []
+    start None = record { same = refl; held = record { same = refl } }
+    start (Some payloads) = record { same = refl; held = record { same = refl } }
+
+-- all is read
+take_all : {X : Type 0} (xs : List X) (n : ℕ) → length xs ≤ n → take n xs ≡ xs
+take_all [] zero le = refl
+take_all [] (suc n) le = refl
+take_all (x ∷ xs) zero le = absurd (omega (arith, le))
+take_all (x ∷ xs) (suc n) le = ap (λ ys. x ∷ ys) (take_all xs n (omega (arith, le)))
+
+drop_all : {X : Type 0} (xs : List X) (n : ℕ) → length xs ≤ n → drop n xs ≡ []
+drop_all [] zero le = refl
+drop_all [] (suc n) le = refl
+drop_all (x ∷ xs) zero le = absurd (omega (arith, le))
+drop_all (x ∷ xs) (suc n) le = drop_all xs n (omega (arith, le))
+
+take_whole : {X : Type 0} (xs : List X) (n : ℕ) → length xs ≡ n → take n xs ≡ xs
+take_whole xs n is = take_all xs n (omega (arith, is))
+
+pub index_all : (told : Option (List (List ℕ))) (sizes : List ℕ) (n : ℕ) (records : List Kept) (numbers : List (List ℕ × ℕ)) → IfSome told (λ payloads. map length payloads ≡ sizes) → n ≡ length sizes
+    → IsIndex (up_to n told records) records numbers → IsIndex (log_seen told records) records numbers
+index_all None sizes n records numbers sized all index = index
+index_all (Some payloads) sizes n records numbers sized all index =
+    let count : length payloads ≡ n = sym (length-map payloads length) ∙ ap length sized ∙ sym all in
+    subst (λ l. IsIndex (map record_of l) records numbers) (take_whole payloads n count) index
+
+pub log_all : (told : Option (List (List ℕ))) (sizes : List ℕ) (n gate : ℕ) (records : List Kept) → IfSome told (λ payloads. map length payloads ≡ sizes) → n ≡ length sizes
+    → ReadUpTo (log_step decoded fits) [] told n gate (up_to n told records) → (payloads : List (List ℕ)) → told ≡ Some payloads → replay (log_step decoded fits) [] payloads ≡ Ok (map record_of payloads)
+log_all None sizes n gate records sized all so_far payloads is = absurd (cc)
+log_all (Some found) sizes n gate records sized all so_far payloads is =
+    let same : found ≡ payloads = cc in
+    let count : length found ≡ n = sym (length-map found length) ∙ ap length sized ∙ sym all in
+    subst (λ l. replay (log_step decoded fits) [] l ≡ Ok (map record_of l)) same
+    (so_far.rest found refl ∙ ended found n count ∙ ap (λ l. Ok (map record_of l)) (take_whole found n count))
+  where
+    ended : (ps : List (List ℕ)) (m : ℕ) → length ps ≡ m → replay_from (log_step decoded fits) gate (map record_of (take m ps)) (drop m ps) ≡ Ok (map record_of (take m ps))
+    ended ps m is = ap (λ l. replay_from (log_step decoded fits) gate (map record_of (take m ps)) l) (drop_all ps m (omega (arith, is)))
+
+-- ---- a fault or want of memory is no damage
+
+not_damage : (why : OpenWhy) → (why ≡ open_why.Fault) ⊎ (why ≡ open_why.OutOfMemory) → (damage : Damage) → why ≡ why_of damage → ⊥
+not_damage why which damage is = ⊎_elim (λ fault. by_damage open_why.Fault damage (inl refl) (sym fault ∙ is)) (λ memory. by_damage open_why.OutOfMemory damage (inr refl) (sym memory ∙ is)) which
+  where
+    by_damage : (why : OpenWhy) (damage : Damage) → (why ≡ open_why.Fault) ⊎ (why ≡ open_why.OutOfMemory) → why ≡ why_of damage → ⊥
+    by_damage why (damages.Damaged gate) which is = ⊎_elim (λ f. let both = sym f ∙ is in cc) (λ o. let both = sym o ∙ is in cc) which
+    by_damage why (damages.Chain gate wanted got) which is = ⊎_elim (λ f. let both = sym f ∙ is in cc) (λ o. let both = sym o ∙ is in cc) which
+    by_damage why damages.OldFormat which is = ⊎_elim (λ f. let both = sym f ∙ is in cc) (λ o. let both = sym o ∙ is in cc) which
+
+pub memory_damage : {X A T : Type 0} (read : A → Result T Damage) (told : Option A) (result : Result X OpenWhy) → IsErrAnd result (λ why. why ≡ open_why.OutOfMemory) → IfErr result (IsDamageOf read told)
+memory_damage read told (Ok x) is = tt
+memory_damage read told (Err why) is = λ damage same. absurd (not_damage why (inr is) damage same)
+
+pub read_damage : {X A T : Type 0} (read : A → Result T Damage) (told : Option A) (result : Result X OpenWhy) (r : ReadWhy) → IsErrAnd result (λ why. why ≡ why_of_read r) → IfErr result (IsDamageOf read told)
+read_damage read told (Ok x) r is = tt
+read_damage read told (Err why) read_why.Fault is = λ damage same. absurd (not_damage why (inl is) damage same)
+read_damage read told (Err why) read_why.OutOfMemory is = λ damage same. absurd (not_damage why (inr is) damage same)
