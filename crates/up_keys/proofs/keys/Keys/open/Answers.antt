@@ -1,0 +1,21 @@
+use Rattle.up_journal.proofs.Logs.{opens_log, refuses_opened, refuses_read}
+use Rattle.up_keys.specs.Records.{decoded, fits}
+use Rattle.up_wire.specs.Keys.{logged}
+use Rattle.up_keys.proofs.keys.Keys.open.Goals as goal
+
+pub returns-in-Err-clause-refuses : goal.returns-in-Err-clause-refuses
+returns-in-Err-clause-refuses g c =
+    let e = c.in-Err.ensures in
+    refuses_opened g.D.Disk decoded fits c.args.disk c.args.limits c.in-Err.fault e.damaged e.synced
+
+pub returns-in-Ok-replay-clause-opens : goal.returns-in-Ok-replay-clause-opens
+returns-in-Ok-replay-clause-opens g c =
+    let e = c.in-Ok.ensures in
+    let r = c.in-Ok-replay.ensures in
+    (opens_log g.D.Disk decoded fits logged c.args.disk c.args.limits c.in-Ok.journal c.replay.new.journal c.in-Ok-replay.known.records.items e.log e.settled e.limits e.safe r.sizes r.log c.replay.ensures.read).1
+
+pub returns-in-Err-replay-clause-refuses : goal.returns-in-Err-replay-clause-refuses
+returns-in-Err-replay-clause-refuses g c =
+    let e = c.in-Ok.ensures in
+    rw c.into_disk.ensures.disk
+    (refuses_read g.D.Disk decoded fits c.args.disk c.args.limits c.in-Ok.journal c.replay.new.journal c.in-Err-replay.why e.log e.safe c.in-Err-replay.ensures.damaged c.replay.ensures.read)
