@@ -1,6 +1,8 @@
 pub mod Matching
 pub mod Elements
 pub mod Reading
+pub mod Spelling
+pub mod Laws
 pub mod Patterns
 pub mod PatternGives
 pub use Rattle.up_names.specs.PathNames
