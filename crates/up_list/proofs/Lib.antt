@@ -15,3 +15,4 @@ pub mod FrontLemmas
 pub mod SortLemmas
 pub mod PassLemmas
 pub mod GlobLemmas
+pub mod ViewLemmas

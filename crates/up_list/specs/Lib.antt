@@ -11,3 +11,4 @@ pub mod Rooted
 pub mod Deciding
 pub mod Walking
 pub mod Places
+pub mod Seen
