@@ -11,10 +11,11 @@ use crate::answer::Answer;
 use crate::fault::Fault;
 use crate::topic::Topic;
 use crate::words::Words;
-pub use on_disk::new_disk;
-pub use on_journal::{Running, payload};
-pub use stage::{Stage, stage_turn};
+pub use on_disk::{new_disk, turn as on_disk_turn};
+pub use on_journal::{Running, add_log_of, payload};
+pub use stage::{Stage, limits_of, stage_turn};
 use std::alloc::Global;
+pub use watched::Watched;
 
 /// Lines about a disk. Each begins with an empty one.
 #[derive(Clone, Copy)]

@@ -14,6 +14,7 @@ mod files;
 mod frames;
 mod lines;
 mod logs;
+mod moves;
 mod names;
 mod patterns;
 mod peers;

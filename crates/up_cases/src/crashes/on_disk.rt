@@ -53,6 +53,7 @@ fn plain_turn(
         "images" => add_images(alloc, &disk.disk, answer)?,
         "logs" => add_logs(alloc, &disk.disk, answer)?,
         "noted" => add_noted(alloc, &disk.noted, answer)?,
+        "kept" => add_kept(alloc, &disk.noted, answer)?,
         "watch" => watch(alloc, disk, answer)?,
         "lists" => add_lists(alloc, answer)?,
         "hooks" => add_hooks(alloc, answer)?,
@@ -172,6 +173,14 @@ fn add_logs(alloc: Global, disk: &MemDisk, answer: &mut Answer) -> Result<(), Al
 fn add_noted(alloc: Global, noted: &[MemDisk], answer: &mut Answer) -> Result<(), AllocError> {
     for kept in noted {
         add_log_of(alloc, kept.image(0)?, answer);
+    }
+    Ok(())
+}
+
+// The contents of images that were kept.
+fn add_kept(alloc: Global, noted: &[MemDisk], answer: &mut Answer) -> Result<(), AllocError> {
+    for kept in noted {
+        add_image(alloc, kept, 0, answer)?;
     }
     Ok(())
 }

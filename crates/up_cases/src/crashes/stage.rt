@@ -108,8 +108,8 @@ fn crash(
     Ok(Stage::Disk(Watched::new(alloc, image)))
 }
 
-// The limits that three numbers are.
-fn limits_of(mut words: Words<'_>) -> Result<Limits, Fault>
+/// The limits that three numbers are.
+pub fn limits_of(mut words: Words<'_>) -> Result<Limits, Fault>
     ensures { IfOk result (λ limits. AreLimits limits) }
 {
     let records = words.number()?;
