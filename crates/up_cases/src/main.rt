@@ -20,6 +20,7 @@ mod patterns;
 mod peers;
 mod records;
 mod references;
+mod replies;
 mod rights;
 mod scripts;
 mod signing;
