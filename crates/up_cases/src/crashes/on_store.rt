@@ -157,12 +157,10 @@ fn add_held<D: Disk>(store: &Blocks<D>, answer: &mut Answer) {
 }
 
 fn add_references<D: Disk>(store: &Blocks<D>, answer: &mut Answer) {
-    let mut i = 0;
-    while i < store.len() {
+    for i in 0..store.len() {
         if let Some(reference) = store.reference(i) {
             answer.digits(&reference.bytes()[..4]);
         }
-        i += 1;
     }
 }
 
