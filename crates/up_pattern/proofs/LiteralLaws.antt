@@ -55,11 +55,8 @@ sole (NoneOf ranges ∷ terms) word reads = absurd (cc reads)
 pub literal_matches : (terms : List Term) (word : List ℕ) → literal_of terms ≡ Some word →
     (text : List ℕ) × (flat_map encode_utf8 text ≡ word) × ((other : List ℕ) → (matches terms other ≡ true) ↔ (other ≡ text))
 literal_matches terms word reads =
-    let s = sole terms word reads in (
-      s.text,
-      s.encoded,
-      λ other. (
-        λ found. let m = matches-pieces terms other found in sym m.1 ∙ s.only m.0 m.2,
-        λ same. subst (λ t. matches terms t ≡ true) (s.only s.pieces s.fit ∙ sym same) (pieces-matches terms (concat s.pieces) s.pieces refl s.fit),
-      ),
-    )
+    let s = sole terms word reads in
+    (s.text, s.encoded, λ other. (
+      λ found. let m = matches-pieces terms other found in sym m.1 ∙ s.only m.0 m.2,
+      λ same. subst (λ t. matches terms t ≡ true) (s.only s.pieces s.fit ∙ sym same) (pieces-matches terms (concat s.pieces) s.pieces refl s.fit),
+    ))

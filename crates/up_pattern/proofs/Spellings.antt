@@ -47,20 +47,20 @@ tokens_read [] all = refl
 tokens_read (token ∷ tokens) all =
     let both = and_parts (is_token token) (list_all is_token tokens) all in
     elim (cases_Bool token.is_escaped) [
-      | inl escaped ↦
-          let whole : flat_map spelled (token ∷ tokens) ≡ byte "\\" ∷ token.character ∷ flat_map spelled tokens = rw escaped refl in
-          let same : Token = record { character = token.character; is_escaped = true } in
-          let is : same ≡ token = ap (λ (b : Bool). record { character = token.character; is_escaped = b }) (sym escaped) in
-          ap (tokens_behind false) whole ∙ (ap (prepended (same ∷ [])) (tokens_read tokens both.1) ∙ ap (λ t. Some (t ∷ tokens)) is)
-      | inr plain ↦
-          let whole : flat_map spelled (token ∷ tokens) ≡ token.character ∷ flat_map spelled tokens = rw plain refl in
-          let same : Token = record { character = token.character; is_escaped = false } in
-          let is : same ≡ token = ap (λ (b : Bool). record { character = token.character; is_escaped = b }) (sym plain) in
-          let itself : not (token.character == byte "\\") ≡ true = ap (λ b. b || not (token.character == byte "\\")) (sym plain) ∙ both.0 in
-          ap (tokens_behind false) whole
-          ∙ (tokens_behind-cons false token.character (flat_map spelled tokens)
-          ∙ (rw (not-true (token.character == byte "\\") itself) (ap (prepended (same ∷ [])) (tokens_read tokens both.1) ∙ ap (λ t. Some (t ∷ tokens)) is)))
-    ]
+  | inl escaped ↦
+      let whole : flat_map spelled (token ∷ tokens) ≡ byte "\\" ∷ token.character ∷ flat_map spelled tokens = rw escaped refl in
+      let same : Token = record { character = token.character; is_escaped = true } in
+      let is : same ≡ token = ap (λ (b : Bool). record { character = token.character; is_escaped = b }) (sym escaped) in
+      ap (tokens_behind false) whole ∙ (ap (prepended (same ∷ [])) (tokens_read tokens both.1) ∙ ap (λ t. Some (t ∷ tokens)) is)
+  | inr plain ↦
+      let whole : flat_map spelled (token ∷ tokens) ≡ token.character ∷ flat_map spelled tokens = rw plain refl in
+      let same : Token = record { character = token.character; is_escaped = false } in
+      let is : same ≡ token = ap (λ (b : Bool). record { character = token.character; is_escaped = b }) (sym plain) in
+      let itself : not (token.character == byte "\\") ≡ true = ap (λ b. b || not (token.character == byte "\\")) (sym plain) ∙ both.0 in
+      ap (tokens_behind false) whole
+      ∙ (tokens_behind-cons false token.character (flat_map spelled tokens)
+      ∙ (rw (not-true (token.character == byte "\\") itself) (ap (prepended (same ∷ [])) (tokens_read tokens both.1) ∙ ap (λ t. Some (t ∷ tokens)) is)))
+]
 
 -- ---- ranges
 

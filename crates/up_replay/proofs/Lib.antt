@@ -1,5 +1,0 @@
-pub mod Paths
-pub mod Rising
-pub mod Fronts
-pub mod Trees
-pub mod Rooted
