@@ -30,7 +30,7 @@ pub trait Facts {
     fn nearest(&self, path: &Path) -> Option<&AccessText>
         ensures { option_copied result ≡ first_text (tree self.now).access (prefixes path.now) };
 
-    /// The text of the Group file at a path, where there is one. At another owner's path there is none.
+    /// The text of the Group file at a path, where the tree has one there.
     fn group(&self, path: &Path) -> Option<&GroupText>
         ensures { option_copied result ≡ (tree self.now).group path.now };
 
