@@ -20,7 +20,6 @@ mod patterns;
 mod peers;
 mod records;
 mod references;
-mod replies;
 mod rights;
 mod scripts;
 mod signing;

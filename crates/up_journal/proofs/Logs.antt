@@ -1,20 +1,19 @@
 -- Logs of records over a journal, whatever the records are.
-use Rattle.std.proofs.Common.{◌≡◌, ◌≢◌, ◌<◌, ◌≤◌, ◌^◌, IfSome, ℕ, Bool, true, false, cond, List, [], ◌∷◌, ◌++◌, length, map, Option, Some, None, is_some, IsSome, Result, Ok, Err, OnOk, OnErr, refl, sym, ap, ◌∙◌, subst, ◌⊎◌, inl, inr, ⊎_elim}
+use Rattle.std.proofs.Common.{◌≡◌, ◌≢◌, IfSome, ℕ, Bool, true, false, cond, List, [], ◌∷◌, ◌++◌, length, map, Option, Some, None, is_some, IsSome, Result, Ok, Err, OnOk, OnErr, refl, sym, ap, ◌∙◌, subst, ◌⊎◌, inl, inr, ⊎_elim}
 use Rattle.std.proofs.lemmas.List.{length-map, map-append}
 use Rattle.std.specs.Option.{option_and_then}
-use Rattle.up_disk.specs.Disk.{LeavesOnly}
 use Rattle.up_disk.specs.declared.disk.Disk.{Ghosts}
 use Rattle.up_disk.proofs.Moments.{started, weaker}
 use Rattle.up_journal.specs.Crashes.{Leaves, LeavesNow}
 use Rattle.up_journal.specs.Damages.{Damage}
 use Rattle.up_journal.specs.Format2.{log_of}
 use Rattle.up_journal.specs.Journal.{HasLog, IsReadAs, IsSettled, MayHave, StandsFor, State, is_full, with_further}
-use Rattle.up_journal.specs.Logs.{AddsRecord, HasOneMore, IsFurther, IsSettledLog, KeepsLog, LogState, MayHaveLog, OpensLog, RefusesLog, ResolvesLog, StandsForLog, further_record, grown, log_in, log_state, log_step}
+use Rattle.up_journal.specs.Logs.{AddsRecord, IsFurther, IsSettledLog, KeepsLog, MayHaveLog, OpensLog, RefusesLog, ResolvesLog, StandsForLog, further_record, grown, log_in, log_state, log_step}
 use Rattle.up_journal.specs.Opened.{IsDamageOf, IsLogOf}
 use Rattle.up_journal.specs.declared.fault.OpenFault.{OpenFault}
 use Rattle.up_journal.specs.declared.fault.OpenWhy.{OpenWhy}
 use Rattle.up_journal.specs.declared.fault.OpenWhy.TheVariants as open_why
-use Rattle.up_journal.specs.Records.{HasNext, MayHaveState, OnlyPayloads, Replays, StandsForState, replay, state_of}
+use Rattle.up_journal.specs.Records.{MayHaveState, OnlyPayloads, StandsForState, replay}
 use Rattle.up_journal.specs.declared.limits.Limits.{Limits}
 use Rattle.up_journal.proofs.Records.{content_damaged, content_state, may_have_state, read_safe, refused_synced, replays_kept, replays_more, replays_opened, replays_settled, settled_state, stands_for_state}
 
@@ -79,13 +78,13 @@ which_record decode old new payload rec decoded which = ⊎_elim (λ none. inl (
 
 -- ---- what a reader keeps over its journal
 
-module _ {D R : Type 0} (disks : Ghosts D) (decode : List ℕ → Option R) (fits : List R → R → Bool) (spelling : R → List ℕ) where
-  -- the bytes of the spellings
+module _ {D R : Type 0} (disks : Ghosts D) (decode : List ℕ → Option R) (fits : List R → R → Bool) (size_of : R → ℕ) where
+  -- the bytes of the payloads
   abbrev sizes : List R → List ℕ
-  sizes log = map (λ rec. length (spelling rec)) log
+  sizes log = map size_of log
 
   -- what a crash leaves now
-  pub keeps_safe : (journal : State D) (log : List R) → KeepsLog disks decode fits spelling journal log
+  pub keeps_safe : (journal : State D) (log : List R) → KeepsLog disks decode fits size_of journal log
       → LeavesNow disks journal.disk (StandsForLog (log_in decode fits journal.limits.largest) log (further_record decode journal.further))
   keeps_safe journal log keeps = record {
     each = λ image left. stands_for_log decode fits journal.limits.largest log journal.further image
@@ -93,7 +92,7 @@ module _ {D R : Type 0} (disks : Ghosts D) (decode : List ℕ → Option R) (fit
   }
 
   -- the same, where no record is doubtful
-  pub keeps_settled : (journal : State D) (log : List R) → KeepsLog disks decode fits spelling journal log → journal.further ≡ None
+  pub keeps_settled : (journal : State D) (log : List R) → KeepsLog disks decode fits size_of journal log → journal.further ≡ None
       → LeavesNow disks journal.disk (λ image. log_in decode fits journal.limits.largest image ≡ Ok log)
   keeps_settled journal log keeps none = record {
     each = λ image left. settled_state (log_step decode fits) [] journal.limits.largest journal.further log image none
@@ -102,7 +101,7 @@ module _ {D R : Type 0} (disks : Ghosts D) (decode : List ℕ → Option R) (fit
 
   -- once the device is opened, and its records are read
   pub keeps_opened : (opened read : State D) (log : List R) → opened.sizes ≡ sizes log → ((payloads : List (List ℕ)) → opened.log ≡ Some payloads → replay (log_step decode fits) [] payloads ≡ Ok log)
-      → opened.further ≡ None → LeavesNow disks opened.disk (StandsFor opened.limits.largest opened.log opened.further) → OnlyPayloads disks opened read → KeepsLog disks decode fits spelling read log
+      → opened.further ≡ None → LeavesNow disks opened.disk (StandsFor opened.limits.largest opened.log opened.further) → OnlyPayloads disks opened read → KeepsLog disks decode fits size_of read log
   keeps_opened opened read log sized whole none safe reads = record {
     sizes = ap (λ (j : State D). j.sizes) reads.unchanged ∙ sized;
     replays = replays_opened (log_step decode fits) [] read.log read.further log (λ payloads told. whole payloads (sym (ap (λ (j : State D). j.log) reads.unchanged) ∙ told))
@@ -111,19 +110,19 @@ module _ {D R : Type 0} (disks : Ghosts D) (decode : List ℕ → Option R) (fit
   }
 
   -- once a record is appended
-  pub keeps_more : (old new : State D) (log : List R) (rec : R) (payload : List ℕ) → KeepsLog disks decode fits spelling old log → decode payload ≡ Some rec → fits log rec ≡ true → payload ≡ spelling rec
+  pub keeps_more : (old new : State D) (log : List R) (rec : R) (payload : List ℕ) → KeepsLog disks decode fits size_of old log → decode payload ≡ Some rec → fits log rec ≡ true → length payload ≡ size_of rec
       → new.sizes ≡ old.sizes ++ length payload ∷ [] → new.log ≡ with_further old.log (Some payload) → new.further ≡ None
-      → LeavesNow disks new.disk (StandsFor new.limits.largest new.log new.further) → KeepsLog disks decode fits spelling new (log ++ rec ∷ [])
+      → LeavesNow disks new.disk (StandsFor new.limits.largest new.log new.further) → KeepsLog disks decode fits size_of new (log ++ rec ∷ [])
   keeps_more old new log rec payload keeps decoded fitted spelled sized longer none safe = record {
-    sizes = sized ∙ ap (λ s. s ++ length payload ∷ []) keeps.sizes ∙ ap (λ p. sizes log ++ length p ∷ []) spelled ∙ sym (map-append (λ (r : R). length (spelling r)) log (rec ∷ []));
+    sizes = sized ∙ ap (λ s. s ++ length payload ∷ []) keeps.sizes ∙ ap (λ n. sizes log ++ n ∷ []) spelled ∙ sym (map-append size_of log (rec ∷ []));
     replays = replays_more (log_step decode fits) [] old.log new.log old.further new.further log (log ++ rec ∷ []) payload keeps.replays (added decode fits log payload rec decoded fitted) longer none;
     safe = safe;
   }
 
   -- once one is not appended
-  pub keeps_same : (old new : State D) (log : List R) (rec : R) (payload : List ℕ) → KeepsLog disks decode fits spelling old log → decode payload ≡ Some rec → fits log rec ≡ true
+  pub keeps_same : (old new : State D) (log : List R) (rec : R) (payload : List ℕ) → KeepsLog disks decode fits size_of old log → decode payload ≡ Some rec → fits log rec ≡ true
       → new.sizes ≡ old.sizes → new.log ≡ old.log → (new.further ≡ None) ⊎ ((new.further ≡ old.further) ⊎ (new.further ≡ Some payload))
-      → LeavesNow disks new.disk (StandsFor new.limits.largest new.log new.further) → KeepsLog disks decode fits spelling new log
+      → LeavesNow disks new.disk (StandsFor new.limits.largest new.log new.further) → KeepsLog disks decode fits size_of new log
   keeps_same old new log rec payload keeps decoded fitted sized same which safe = record {
     sizes = sized ∙ keeps.sizes;
     replays = replays_kept (log_step decode fits) [] old.log new.log old.further new.further log payload keeps.replays (is_added decode fits log payload rec decoded fitted) same which;
@@ -131,9 +130,9 @@ module _ {D R : Type 0} (disks : Ghosts D) (decode : List ℕ → Option R) (fit
   }
 
   -- once a doubtful record is settled, or not
-  pub keeps_resolved : {T E : Type 0} (result : Result T E) (old new : State D) (log : List R) → KeepsLog disks decode fits spelling old log → new.sizes ≡ old.sizes → new.log ≡ old.log
+  pub keeps_resolved : {T E : Type 0} (result : Result T E) (old new : State D) (log : List R) → KeepsLog disks decode fits size_of old log → new.sizes ≡ old.sizes → new.log ≡ old.log
       → OnOk result (IsSettled new) → OnErr result ((new.doubtful ≡ old.doubtful) × (new.further ≡ old.further))
-      → LeavesNow disks new.disk (StandsFor new.limits.largest new.log new.further) → KeepsLog disks decode fits spelling new log
+      → LeavesNow disks new.disk (StandsFor new.limits.largest new.log new.further) → KeepsLog disks decode fits size_of new log
   keeps_resolved {T} {E} result old new log keeps sized same settled refused safe = record {
     sizes = sized ∙ keeps.sizes;
     replays = replays_settled (log_step decode fits) [] old.log new.log old.further new.further log keeps.replays same (which result settled refused);
@@ -145,14 +144,14 @@ module _ {D R : Type 0} (disks : Ghosts D) (decode : List ℕ → Option R) (fit
       which (Err e) settled refused = inr refused.1
 
   -- a success settles it
-  pub settled_on_ok : {T E : Type 0} (result : Result T E) (new : State D) (log : List R) → KeepsLog disks decode fits spelling new log → OnOk result (IsSettled new)
+  pub settled_on_ok : {T E : Type 0} (result : Result T E) (new : State D) (log : List R) → KeepsLog disks decode fits size_of new log → OnOk result (IsSettled new)
       → OnOk result (LeavesNow disks new.disk (λ image. log_in decode fits new.limits.largest image ≡ Ok log))
   settled_on_ok (Ok x) new log keeps settled = keeps_settled new log keeps settled.nothing
   settled_on_ok (Err e) new log keeps settled = tt
 
   -- what a crash left where the disk was not called
   pub leaves_still : ((disk : D) (image : List ℕ) → disks.left_since disk (disks.moment disk) image → disks.may_leave disk image) → (journal : State D) (log : List R) (rec : R)
-      → KeepsLog disks decode fits spelling journal log
+      → KeepsLog disks decode fits size_of journal log
       → Leaves disks journal.disk journal.disk (StandsForLog (log_in decode fits journal.limits.largest) log (further_record decode journal.further))
       (MayHaveLog (log_in decode fits journal.limits.largest) log (further_record decode journal.further) rec)
   leaves_still only_now journal log rec keeps =
@@ -164,7 +163,7 @@ module _ {D R : Type 0} (disks : Ghosts D) (decode : List ℕ → Option R) (fit
       }
 
   -- what a crash left during an append, and leaves after it
-  pub leaves_append : (old new : State D) (log next : List R) (rec : R) (payload : List ℕ) → KeepsLog disks decode fits spelling old log → KeepsLog disks decode fits spelling new next
+  pub leaves_append : (old new : State D) (log next : List R) (rec : R) (payload : List ℕ) → KeepsLog disks decode fits size_of old log → KeepsLog disks decode fits size_of new next
       → decode payload ≡ Some rec → fits log rec ≡ true
       → Leaves disks old.disk new.disk (StandsFor new.limits.largest new.log new.further) (MayHave old.limits.largest old.log old.further payload)
       → Leaves disks old.disk new.disk (StandsForLog (log_in decode fits new.limits.largest) next (further_record decode new.further))
@@ -178,7 +177,7 @@ module _ {D R : Type 0} (disks : Ghosts D) (decode : List ℕ → Option R) (fit
   }
 
   -- what a crash left while a doubtful record was settled, and leaves afterwards
-  pub leaves_resolve : (old new : State D) (log : List R) → KeepsLog disks decode fits spelling old log → KeepsLog disks decode fits spelling new log
+  pub leaves_resolve : (old new : State D) (log : List R) → KeepsLog disks decode fits size_of old log → KeepsLog disks decode fits size_of new log
       → Leaves disks old.disk new.disk (StandsFor new.limits.largest new.log new.further) (StandsFor old.limits.largest old.log old.further)
       → Leaves disks old.disk new.disk (StandsForLog (log_in decode fits new.limits.largest) log (further_record decode new.further))
       (StandsForLog (log_in decode fits old.limits.largest) log (further_record decode old.further))
@@ -192,13 +191,13 @@ module _ {D R : Type 0} (disks : Ghosts D) (decode : List ℕ → Option R) (fit
 
   -- ---- the limits, by the log
 
-  pub keeps_len : (journal : State D) (log : List R) → KeepsLog disks decode fits spelling journal log → length journal.sizes ≡ length log
-  keeps_len journal log keeps = ap length keeps.sizes ∙ length-map log (λ (rec : R). length (spelling rec))
+  pub keeps_len : (journal : State D) (log : List R) → KeepsLog disks decode fits size_of journal log → length journal.sizes ≡ length log
+  keeps_len journal log keeps = ap length keeps.sizes ∙ length-map log size_of
 
-  pub keeps_full : (journal : State D) (log : List R) (rec : R) (payload : List ℕ) → KeepsLog disks decode fits spelling journal log → payload ≡ spelling rec
-      → is_full journal.limits journal.sizes (length payload) ≡ is_full journal.limits (sizes log) (length (spelling rec))
+  pub keeps_full : (journal : State D) (log : List R) (rec : R) (payload : List ℕ) → KeepsLog disks decode fits size_of journal log → length payload ≡ size_of rec
+      → is_full journal.limits journal.sizes (length payload) ≡ is_full journal.limits (sizes log) (size_of rec)
   keeps_full journal log rec payload keeps spelled =
-      ap (λ (s : List ℕ). is_full journal.limits s (length payload)) keeps.sizes ∙ ap (λ (p : List ℕ). is_full journal.limits (sizes log) (length p)) spelled
+      ap (λ (s : List ℕ). is_full journal.limits s (length payload)) keeps.sizes ∙ ap (λ (n : ℕ). is_full journal.limits (sizes log) n) spelled
 
   -- ---- calls, as contracts see them
 
@@ -206,10 +205,10 @@ module _ {D R : Type 0} (disks : Ghosts D) (decode : List ℕ → Option R) (fit
   settled_log journal log settled = record { settled = settled.settled; nothing = ap (option_and_then decode) settled.nothing }
 
   -- once its record is appended
-  pub adds_ok : {E : Type 0} (old new : State D) (log : List R) (rec : R) (payload : List ℕ) (position : ℕ) → KeepsLog disks decode fits spelling old log → decode payload ≡ Some rec → fits log rec ≡ true → payload ≡ spelling rec
+  pub adds_ok : {E : Type 0} (old new : State D) (log : List R) (rec : R) (payload : List ℕ) (position : ℕ) → KeepsLog disks decode fits size_of old log → decode payload ≡ Some rec → fits log rec ≡ true → length payload ≡ size_of rec
       → new.sizes ≡ old.sizes ++ length payload ∷ [] → new.log ≡ with_further old.log (Some payload) → IsSettled new → new.limits ≡ old.limits → position ≡ length new.sizes
       → Leaves disks old.disk new.disk (StandsFor new.limits.largest new.log new.further) (MayHave old.limits.largest old.log old.further payload)
-      → KeepsLog disks decode fits spelling new (log ++ rec ∷ [])
+      → KeepsLog disks decode fits size_of new (log ++ rec ∷ [])
       × AddsRecord {E = E} disks (log_in decode fits) rec (log_state decode old log) (log_state decode new (log ++ rec ∷ [])) (Ok position)
   adds_ok old new log rec payload position keeps decoded fitted spelled sized longer settled same place crash =
       let after = keeps_more old new log rec payload keeps decoded fitted spelled sized longer settled.nothing (record { each = crash.safe }) in (
@@ -226,10 +225,10 @@ module _ {D R : Type 0} (disks : Ghosts D) (decode : List ℕ → Option R) (fit
       )
 
   -- once it is refused by the journal
-  pub adds_err : {E : Type 0} (old new : State D) (log : List R) (rec : R) (payload : List ℕ) (why : E) → KeepsLog disks decode fits spelling old log → decode payload ≡ Some rec → fits log rec ≡ true
+  pub adds_err : {E : Type 0} (old new : State D) (log : List R) (rec : R) (payload : List ℕ) (why : E) → KeepsLog disks decode fits size_of old log → decode payload ≡ Some rec → fits log rec ≡ true
       → new.sizes ≡ old.sizes → new.log ≡ old.log → new.limits ≡ old.limits → (new.further ≡ None) ⊎ ((new.further ≡ old.further) ⊎ (new.further ≡ Some payload))
       → Leaves disks old.disk new.disk (StandsFor new.limits.largest new.log new.further) (MayHave old.limits.largest old.log old.further payload)
-      → KeepsLog disks decode fits spelling new log
+      → KeepsLog disks decode fits size_of new log
       × AddsRecord disks (log_in decode fits) rec (log_state decode old log) (log_state decode new log) (Err why)
   adds_err old new log rec payload why keeps decoded fitted sized same_log same which crash =
       let after = keeps_same old new log rec payload keeps decoded fitted sized same_log which (record { each = crash.safe }) in (
@@ -247,7 +246,7 @@ module _ {D R : Type 0} (disks : Ghosts D) (decode : List ℕ → Option R) (fit
 
   -- where the journal is not called
   pub adds_none : {E : Type 0} → ((disk : D) (image : List ℕ) → disks.left_since disk (disks.moment disk) image → disks.may_leave disk image) → (journal : State D) (log : List R) (rec : R) (why : E)
-      → KeepsLog disks decode fits spelling journal log → AddsRecord disks (log_in decode fits) rec (log_state decode journal log) (log_state decode journal log) (Err why)
+      → KeepsLog disks decode fits size_of journal log → AddsRecord disks (log_in decode fits) rec (log_state decode journal log) (log_state decode journal log) (Err why)
   adds_none only_now journal log rec why keeps = record {
     log = refl;
     position = tt;
@@ -259,10 +258,10 @@ module _ {D R : Type 0} (disks : Ghosts D) (decode : List ℕ → Option R) (fit
   }
 
   -- once a doubtful record is settled, or not
-  pub resolves_log : {E : Type 0} (result : Result (Unit {0}) E) (old new : State D) (log : List R) → KeepsLog disks decode fits spelling old log → new.sizes ≡ old.sizes → new.log ≡ old.log → new.limits ≡ old.limits
+  pub resolves_log : {E : Type 0} (result : Result (Unit {0}) E) (old new : State D) (log : List R) → KeepsLog disks decode fits size_of old log → new.sizes ≡ old.sizes → new.log ≡ old.log → new.limits ≡ old.limits
       → OnOk result (IsSettled new) → OnErr result ((new.doubtful ≡ old.doubtful) × (new.further ≡ old.further))
       → Leaves disks old.disk new.disk (StandsFor new.limits.largest new.log new.further) (StandsFor old.limits.largest old.log old.further)
-      → KeepsLog disks decode fits spelling new log × ResolvesLog disks (log_in decode fits) (log_state decode old log) (log_state decode new log) result
+      → KeepsLog disks decode fits size_of new log × ResolvesLog disks (log_in decode fits) (log_state decode old log) (log_state decode new log) result
   resolves_log {E} result old new log keeps sized same_log same settled refused crash =
       let after = keeps_resolved result old new log keeps sized same_log settled refused (record { each = crash.safe }) in (
         after,
@@ -288,7 +287,7 @@ module _ {D R : Type 0} (disks : Ghosts D) (decode : List ℕ → Option R) (fit
   pub opens_log : (disk : D) (limits : Limits) (opened read : State D) (log : List R) → IsLogOf limits.largest (disks.content disk) opened.log → IsSettled opened → opened.limits ≡ limits
       → LeavesNow disks opened.disk (HasLog limits.largest opened.log) → opened.sizes ≡ sizes log
       → ((payloads : List (List ℕ)) → opened.log ≡ Some payloads → replay (log_step decode fits) [] payloads ≡ Ok log) → OnlyPayloads disks opened read
-      → KeepsLog disks decode fits spelling read log × OpensLog disks (log_in decode fits) limits disk (log_state decode read log)
+      → KeepsLog disks decode fits size_of read log × OpensLog disks (log_in decode fits) limits disk (log_state decode read log)
   opens_log disk limits opened read log log_is settled same safe sized whole reads =
       let stands : LeavesNow disks opened.disk (StandsFor opened.limits.largest opened.log opened.further) = record {
         each = λ image left. inl (subst (λ (l : Limits). HasLog l.largest opened.log image) (sym same) (safe.each image left));

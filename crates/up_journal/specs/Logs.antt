@@ -100,9 +100,9 @@ pub record ResolvesLog {D R E : Type 0} (disks : Ghosts D) (read : ℕ → List 
 abbrev pub log_state : {D R : Type 0} → (List ℕ → Option R) → State D → List R → LogState D R
 log_state decode journal log = record { disk = journal.disk; limits = journal.limits; log = log; doubtful = journal.doubtful; further = further_record decode journal.further }
 
--- What a reader keeps over its journal: the sizes are those of the spellings of its records, the payloads lead to them, and a crash
--- leaves what the journal says.
-pub record KeepsLog {D R : Type 0} (disks : Ghosts D) (decode : List ℕ → Option R) (fits : List R → R → Bool) (spelling : R → List ℕ) (journal : State D) (log : List R) : Type 0 where
-  pub sizes : journal.sizes ≡ map (λ rec. length (spelling rec)) log
+-- What a reader keeps over its journal: each payload has as many bytes as its record says, the payloads lead to the records, and a
+-- crash leaves what the journal says. A reader may keep no more of a record than its size and what it looks for.
+pub record KeepsLog {D R : Type 0} (disks : Ghosts D) (decode : List ℕ → Option R) (fits : List R → R → Bool) (size_of : R → ℕ) (journal : State D) (log : List R) : Type 0 where
+  pub sizes : journal.sizes ≡ map size_of log
   pub replays : Replays (log_step decode fits) [] journal.log journal.further log
   pub safe : LeavesNow disks journal.disk (StandsFor journal.limits.largest journal.log journal.further)

@@ -13,7 +13,7 @@ use Rattle.up_journal.specs.declared.fault.AppendWhy.TheVariants as append
 use Rattle.up_journal.specs.declared.limits.Limits.{Limits}
 use Rattle.up_journal.proofs.Logs.{adds_err, adds_none, adds_ok, keeps_full, keeps_len}
 use Rattle.up_ledger.specs.Entries.{applied, balance_of, deposited, entry_of, fits, largest_record, record_of, withdrawn}
-use Rattle.up_ledger.specs.Ledger.{Enters, IsLedger, IsRun, why_of}
+use Rattle.up_ledger.specs.Ledger.{Enters, IsLedger, IsRun, size_of, why_of}
 use Rattle.up_ledger.specs.declared.entry.Entry.{Entry}
 use Rattle.up_ledger.specs.declared.entry.Entry.TheVariants.{Deposit, Withdraw}
 use Rattle.up_ledger.specs.declared.fault.EntryWhy.{EntryWhy}
@@ -82,7 +82,7 @@ module _ {D : Type 0} (disks : Ghosts D) where
     refused kept none =
         let unfits = unfit log balance entry kept.run none in
         record {
-          added = adds_none disks entry_of fits record_of only_now journal log entry why.Refused kept.keeps;
+          added = adds_none disks entry_of fits size_of only_now journal log entry why.Refused kept.keeps;
           refused = λ _. refl;
           refused_only = λ _. unfits;
           full = λ fitted _ _. absurd (true_false (sym fitted ∙ unfits));
@@ -95,7 +95,7 @@ module _ {D : Type 0} (disks : Ghosts D) where
     pub no_memory : (now : ℕ) (result : Result ℕ EntryWhy) → IsLedger disks journal log balance → applied balance entry ≡ Some now → result ≡ Err why.OutOfMemory
         → Enters disks entry (log_state entry_of journal log) (log_state entry_of journal log) result
     no_memory now result kept some is = subst (λ (r : Result ℕ EntryWhy). Enters disks entry (log_state entry_of journal log) (log_state entry_of journal log) r) (sym is) (record {
-      added = adds_none disks entry_of fits record_of only_now journal log entry why.OutOfMemory kept.keeps;
+      added = adds_none disks entry_of fits size_of only_now journal log entry why.OutOfMemory kept.keeps;
       refused = λ unfits. absurd (true_false (sym (fitting log balance now entry kept.run some) ∙ unfits));
       refused_only = λ is. absurd (cc);
       full = λ _ _ other. absurd (other refl);
@@ -115,13 +115,13 @@ module _ {D : Type 0} (disks : Ghosts D) where
         → (is_full old.limits old.sizes (length payload) ≡ true → ⊥) → HasCause (disks.faults old.disk) (disks.faults new.disk) ⊥
         → IsLedger disks new (log ++ entry ∷ []) now × Enters disks entry (log_state entry_of old log) (log_state entry_of new (log ++ entry ∷ [])) (Ok position)
     entered position kept some again spelled sized longer settled same place crash room cause =
-        let adds = adds_ok disks entry_of fits record_of old new log entry payload position kept.keeps (decoded again spelled) (fitting log balance now entry kept.run some) spelled sized longer settled same place crash in (
+        let adds = adds_ok disks entry_of fits size_of old new log entry payload position kept.keeps (decoded again spelled) (fitting log balance now entry kept.run some) (ap length spelled) sized longer settled same place crash in (
           record { keeps = adds.0; run = run_more log balance now entry kept.run some; room = subst (λ (l : Limits). largest_record ≤ l.largest) (sym same) kept.room },
           record {
             added = adds.1;
             refused = λ unfits. absurd (true_false (sym (fitting log balance now entry kept.run some) ∙ unfits));
             refused_only = λ is. absurd (cc);
-            full = λ _ full _. absurd (room (keeps_full disks entry_of fits record_of old log entry payload kept.keeps spelled ∙ full));
+            full = λ _ full _. absurd (room (keeps_full disks entry_of fits size_of old log entry payload kept.keeps (ap length spelled) ∙ full));
             full_only = λ n is. absurd (cc);
             untouched = tt;
             cause = HasCause-weaker (disks.faults old.disk) (disks.faults new.disk) ⊥ (done position ≡ fails why.Fault) cause (λ is. absurd (cc));
@@ -137,9 +137,9 @@ module _ {D : Type 0} (disks : Ghosts D) where
         → (a ≢ append.Fault → new ≡ old) → HasCause (disks.faults old.disk) (disks.faults new.disk) (a ≡ append.Fault)
         → IsLedger disks new log balance × Enters disks entry (log_state entry_of old log) (log_state entry_of new log) (Err (why_of a))
     not_entered a kept some again spelled sized same_log same which crash full full_only untouched cause =
-        let adds = adds_err disks entry_of fits record_of old new log entry payload (why_of a) kept.keeps (decoded again spelled) (fitting log balance now entry kept.run some) sized same_log same which crash in
-        let limit = keeps_full disks entry_of fits record_of old log entry payload kept.keeps spelled in
-        let count = keeps_len disks entry_of fits record_of old log kept.keeps in (
+        let adds = adds_err disks entry_of fits size_of old new log entry payload (why_of a) kept.keeps (decoded again spelled) (fitting log balance now entry kept.run some) sized same_log same which crash in
+        let limit = keeps_full disks entry_of fits size_of old log entry payload kept.keeps (ap length spelled) in
+        let count = keeps_len disks entry_of fits size_of old log kept.keeps in (
           record { keeps = adds.0; run = kept.run; room = subst (λ (l : Limits). largest_record ≤ l.largest) (sym same) kept.room },
           record {
             added = adds.1;

@@ -18,9 +18,13 @@ abbrev pub disk_after : {D : Type 0} → Result (LogState D Entry) (OpenFault D)
 disk_after (Ok ledger) = ledger.disk
 disk_after (Err fault) = fault.disk
 
--- the bytes of the records of entries
+-- the bytes of an entry's record
+abbrev pub size_of : Entry → ℕ
+size_of entry = length (record_of entry)
+
+-- the same of entries
 abbrev pub sizes_of : List Entry → List ℕ
-sizes_of entries = map (λ entry. length (record_of entry)) entries
+sizes_of entries = map size_of entries
 
 -- the entries and the part that stays, for what is told of every state that only grows
 abbrev pub entries_of : {D : Type 0} → LogState D Entry → List Entry
@@ -35,8 +39,8 @@ pub record Enters {D : Type 0} (disks : Ghosts D) (entry : Entry) (old new : Log
   pub added : AddsRecord disks entries_in entry old new result
   pub refused : fits old.log entry ≡ false → result ≡ Err why.Refused
   pub refused_only : IsErrOf result why.Refused → fits old.log entry ≡ false
-  pub full : fits old.log entry ≡ true → is_full old.limits (sizes_of old.log) (length (record_of entry)) ≡ true → result ≢ Err why.OutOfMemory → result ≡ Err (why.Full (length old.log))
-  pub full_only : (n : ℕ) → result ≡ Err (why.Full n) → (is_full old.limits (sizes_of old.log) (length (record_of entry)) ≡ true) × (n ≡ length old.log)
+  pub full : fits old.log entry ≡ true → is_full old.limits (sizes_of old.log) (size_of entry) ≡ true → result ≢ Err why.OutOfMemory → result ≡ Err (why.Full (length old.log))
+  pub full_only : (n : ℕ) → result ≡ Err (why.Full n) → (is_full old.limits (sizes_of old.log) (size_of entry) ≡ true) × (n ≡ length old.log)
   pub untouched : IfErr result (λ reason. reason ≢ why.Fault → new ≡ old)
   pub cause : HasCause (disks.faults old.disk) (disks.faults new.disk) (IsErrOf result why.Fault)
 
@@ -47,7 +51,7 @@ pub record IsRun (entries : List Entry) (balance : ℕ) : Type 0 where
 
 -- the journal has the records of the entries, and the longest record keeps its limit
 pub record IsLedger {D : Type 0} (disks : Ghosts D) (journal : State D) (entries : List Entry) (balance : ℕ) : Type 0 where
-  pub keeps : KeepsLog disks entry_of fits record_of journal entries
+  pub keeps : KeepsLog disks entry_of fits size_of journal entries
   pub run : IsRun entries balance
   pub room : largest_record ≤ journal.limits.largest
 

@@ -1,7 +1,5 @@
 //! Commands of a disk.
 use super::on_journal::add_log_of;
-use super::on_keys::add_key_logs;
-use super::on_store::add_stores;
 use super::others::{add_hooks, add_lists};
 use super::watched::Watched;
 use crate::answer::Answer;
@@ -56,8 +54,6 @@ fn plain_turn(
         "logs" => add_logs(alloc, &disk.disk, answer)?,
         "noted" => add_noted(alloc, &disk.noted, answer)?,
         "kept" => add_kept(alloc, &disk.noted, answer)?,
-        "stores" => add_stores(alloc, &disk.disk, answer)?,
-        "keylogs" => add_key_logs(alloc, &disk.disk, answer)?,
         "watch" => watch(alloc, disk, answer)?,
         "lists" => add_lists(alloc, answer)?,
         "hooks" => add_hooks(alloc, answer)?,

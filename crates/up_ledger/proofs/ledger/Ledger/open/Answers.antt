@@ -1,7 +1,8 @@
 use Rattle.std.proofs.Common.{sym, ap, ◌∙◌}
 use Rattle.up_journal.proofs.Logs.{opens_log, refuses_opened, refuses_read}
 use Rattle.up_journal.proofs.Records.{opened_and_read}
-use Rattle.up_ledger.specs.Entries.{entry_of, fits, record_of}
+use Rattle.up_ledger.specs.Ledger.{size_of}
+use Rattle.up_ledger.specs.Entries.{entry_of, fits}
 use Rattle.up_ledger.proofs.ledger.Ledger.open.Goals as goal
 
 pub returns-in-Err-clause-refuses : goal.returns-in-Err-clause-refuses
@@ -13,7 +14,7 @@ pub returns-in-Ok-replay-clause-opens : goal.returns-in-Ok-replay-clause-opens
 returns-in-Ok-replay-clause-opens g c =
     let e = c.in-Ok.ensures in
     let r = c.in-Ok-replay.ensures in
-    (opens_log g.D.Disk entry_of fits record_of c.args.disk c.args.limits c.in-Ok.journal c.replay.new.journal c.in-Ok-replay.run'.entries.items e.log e.settled e.limits e.safe r.sizes r.log c.replay.ensures.read).1
+    (opens_log g.D.Disk entry_of fits size_of c.args.disk c.args.limits c.in-Ok.journal c.replay.new.journal c.in-Ok-replay.run'.entries.items e.log e.settled e.limits e.safe r.sizes r.log c.replay.ensures.read).1
 
 pub returns-in-Err-replay-clause-refuses : goal.returns-in-Err-replay-clause-refuses
 returns-in-Err-replay-clause-refuses g c =
