@@ -1,19 +1,19 @@
 -- What a journal keeps while the disk behind its closed gate changes.
-use Rattle.std.proofs.Common.{◌≡◌, ◌≤◌, ◌<◌, ◌+◌, ◌^◌, ℕ, List, [], ◌∷◌, ◌++◌, length, take, replicate, Option, Some, None, option_map, is_some, IsSome, IfSome, refl, sym, ◌∙◌, ap, subst, arith, append_assoc, length-append, length-take-le}
+use Rattle.std.proofs.Common.{◌≡◌, ◌≤◌, ◌<◌, ◌+◌, ◌^◌, ℕ, List, [], ◌∷◌, ◌++◌, length, take, drop, replicate, Option, Some, None, option_map, is_some, IsSome, IfSome, Result, Ok, Err, OnOk, OnErr, refl, sym, ◌∙◌, ap, subst, ◌⊎◌, inl, inr, arith, append_assoc, length-append, length-take-le}
 use Rattle.std.proofs.lemmas.List.{take_at, drop_at, length-replicate}
 use Rattle.std.specs.List.{AllByRecursion}
 use Rattle.up_disk.specs.Disk.{part}
 use Rattle.up_disk.specs.declared.disk.Disk.{Ghosts}
-use Rattle.up_journal.specs.Cells.{EachShape, IsSized, Rests, Shape, Stands, Whole}
+use Rattle.up_journal.specs.Cells.{EachShape, IsOneOf, IsSized, Rests, Shape, Stands, Whole}
 use Rattle.up_journal.specs.Format2.{format2, head_size}
 use Rattle.up_journal.specs.Gates.{behind_gate, length_bytes, record_bytes}
 use Rattle.up_journal.specs.Journal.{StandsFor}
-use Rattle.up_journal.specs.Kept.{EndsBy, AreGates, IsFront, IsKept, further_seen, held_for, log_seen, payloads_at}
+use Rattle.up_journal.specs.Kept.{AreGates, IsFront, IsKept, further_seen, held_for, log_seen, payloads_at}
 use Rattle.up_journal.specs.declared.limits.Limits.{Limits}
 use Rattle.up_journal.specs.declared.limits.Span.{Span}
 use Rattle.up_journal.proofs.Gates.{length-length_bytes, length-record_bytes}
-use Rattle.up_journal.proofs.Kept.{gates_fit, stands_for}
-use Rattle.up_journal.proofs.Spans.{behind_within, length-part, payloads_same}
+use Rattle.up_journal.proofs.Kept.{gates_fit, safe_by, stands_for}
+use Rattle.up_journal.proofs.Spans.{EndsBy, behind_within, length-part, payloads_same}
 
 -- a front stays while what stands behind it changes
 pub front_of_shape : (held : Option (List ℕ)) (front image : List ℕ) (gate : ℕ) → length front ≡ gate → Shape held front image → take gate image ≡ front
