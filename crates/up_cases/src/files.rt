@@ -5,7 +5,7 @@ use crate::fields::Fields;
 use crate::frames::Streams;
 use crate::lines::{File, run_lines};
 use crate::logs::Logs;
-use crate::moves::Moves;
+use crate::messages::Messages;
 use crate::names::Names;
 use crate::patterns::Patterns;
 use crate::peers::PeerLines;
@@ -66,7 +66,6 @@ fn run_file<R: Files + RandomSource + AllocGlobal + Print>(
         "texts" => run_lines(rt, file, Texts, tally),
         "ends" => run_lines(rt, file, Ends, tally),
         "logs" => run_lines(rt, file, Logs::new(), tally),
-        "moves" => run_lines(rt, file, Moves, tally),
         "fields" => run_lines(rt, file, Fields, tally),
         "frames" => run_lines(rt, file, Streams, tally),
         "peers" => run_lines(rt, file, PeerLines, tally),
@@ -74,6 +73,7 @@ fn run_file<R: Files + RandomSource + AllocGlobal + Print>(
         "patterns" => run_lines(rt, file, Patterns, tally),
         "references" => run_lines(rt, file, References, tally),
         "crashes" => run_lines(rt, file, Crashes, tally),
+        "messages" => run_lines(rt, file, Messages, tally),
         "records" => run_lines(rt, file, Records::new(), tally),
         "scripts" => run_scripts(rt, file, RandomState::new(rt)?, tally),
         "rights" => run_lines(rt, file, Rights::new(RandomState::new(rt)?), tally),

@@ -15,4 +15,3 @@ pub mod FrontLemmas
 pub mod SortLemmas
 pub mod PassLemmas
 pub mod GlobLemmas
-pub mod ViewLemmas

@@ -46,7 +46,7 @@ in_extended at dir entry parent size longer =
     ∙ ap (λ (p : PathName). extended p (name_at at entry)) (ap (λ n. cut n entry.name) (let e : at ≡ length entry.name.elements - 1 = omega arith in e) ∙ is.1)
 
 -- two names in a directory make one path exactly where they are one
-pub same_end : (dir : PathName) (a b : List ℕ) → path_eq (extended dir a) (extended dir b) ≡ bytes_eq b a
+same_end : (dir : PathName) (a b : List ℕ) → path_eq (extended dir a) (extended dir b) ≡ bytes_eq b a
 same_end dir a b = go (path_eq (extended dir a) (extended dir b)) (bytes_eq b a) refl refl
   where
     name : (x : List ℕ) → last_element (extended dir x) ≡ x

@@ -11,4 +11,3 @@ pub mod Rooted
 pub mod Deciding
 pub mod Walking
 pub mod Places
-pub mod Seen

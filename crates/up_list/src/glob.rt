@@ -66,7 +66,7 @@ fn literal_path(alloc: Global, pattern: &Pattern) -> Result<Path, AllocError>
 
 /// The path with one element more.
 #[tactic(auto, using(crate::proofs::GlobLemmas::joined_is))]
-pub(crate) fn within(dir: &Path, name: &str) -> Result<Path, AllocError>
+fn within(dir: &Path, name: &str) -> Result<Path, AllocError>
     ensures { IfOk result (λ path. path ≡ extended dir.now name.now) }
 {
     match dir.join(name) {

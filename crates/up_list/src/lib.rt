@@ -11,9 +11,6 @@
 //! [`lookup`], [`which_access`] and [`group_text`] reply as `specs/Reads.antt` says, [`glob_for`] as `specs/Globs.antt` does: the
 //! rows of the items that match, in order of paths, each entry as the user is shown it. It looks into those directories alone
 //! whose names match on the way; what it finds there, level by level, are the rows (`rows_sorted` of `proofs/SortLemmas.antt`).
-//!
-//! A [`TreeView`] is the tree of a log as it is or as it was after its first records: what rights are read by (`up_policy`'s
-//! `Facts`). A [`TreeLook`] is an onlooker of the tree as it is, kept in memory.
 #![tactic(auto)]
 
 mod asking;
@@ -23,7 +20,6 @@ mod found;
 mod glob;
 mod onlooker;
 mod reads;
-mod view;
 mod walk;
 
 pub use asking::{Asked, asked_of};
@@ -32,4 +28,3 @@ pub use found::Found;
 pub use glob::glob_for;
 pub use onlooker::Onlooker;
 pub use reads::{group_text, lookup, which_access};
-pub use view::{TreeLook, TreeView};
