@@ -1,10 +1,8 @@
-//! A disk in memory, and a journal, a ledger, a store or a key server's log on it: calls that fail, crashes, and what is then opened. A line is a case of
+//! A disk in memory, and a journal or a ledger on it: calls that fail, crashes, and what is then opened. A line is a case of
 //! its own: commands on an empty disk, parted by `; `, and so are their answers.
 mod on_disk;
 mod on_journal;
-mod on_keys;
 mod on_ledger;
-mod on_store;
 mod others;
 mod stage;
 mod watched;
@@ -13,11 +11,10 @@ use crate::answer::Answer;
 use crate::fault::Fault;
 use crate::topic::Topic;
 use crate::words::Words;
-pub use on_disk::{new_disk, turn as on_disk_turn};
-pub use on_journal::{Running, add_log_of, payload};
-pub use stage::{Stage, limits_of, stage_turn};
+pub use on_disk::new_disk;
+pub use on_journal::{Running, payload};
+pub use stage::{Stage, stage_turn};
 use std::alloc::Global;
-pub use watched::Watched;
 
 /// Lines about a disk. Each begins with an empty one.
 #[derive(Clone, Copy)]

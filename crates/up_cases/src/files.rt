@@ -5,7 +5,6 @@ use crate::fields::Fields;
 use crate::frames::Streams;
 use crate::lines::{File, run_lines};
 use crate::logs::Logs;
-use crate::moves::Moves;
 use crate::names::Names;
 use crate::patterns::Patterns;
 use crate::peers::PeerLines;
@@ -66,7 +65,6 @@ fn run_file<R: Files + RandomSource + AllocGlobal + Print>(
         "texts" => run_lines(rt, file, Texts, tally),
         "ends" => run_lines(rt, file, Ends, tally),
         "logs" => run_lines(rt, file, Logs::new(), tally),
-        "moves" => run_lines(rt, file, Moves, tally),
         "fields" => run_lines(rt, file, Fields, tally),
         "frames" => run_lines(rt, file, Streams, tally),
         "peers" => run_lines(rt, file, PeerLines, tally),

@@ -4,7 +4,7 @@ use crate::fault::Fault;
 use crate::texts::add_members;
 use crate::topic::Topic;
 use crate::words::{Words, bytes_of, path_of, text_of, user_of};
-use std::alloc::Global;
+use std::alloc::{AllocError, Global};
 use up_bytes::Bytes;
 use up_entry::Fetch;
 use up_lists::Items;
@@ -106,57 +106,59 @@ fn told_answer(alloc: Global, word: &str) -> Result<PeerAnswer, Fault> {
 // `peers PEER .. : QUESTION; ..`: what a list of peers gives to each question, and the sum of the counts as it is closed.
 fn peers_line(alloc: Global, words: Words<'_>, answer: &mut Answer) -> Result<(), Fault> {
     let (told, questions) = words.some()?.split_once(" : ").ok_or(Fault::BadLine)?;
-    let told = told_peers(alloc, told)?;
-    ask_peers(alloc, told, questions, answer)
-}
-
-fn told_peers(alloc: Global, words: &str) -> Result<Vec<Told>, Fault> {
-    let mut told = Vec::new(alloc);
-    for word in words.split(' ') {
-        add_told(alloc, &mut told, word)?;
-    }
-    Ok(told)
-}
-
-fn add_told(alloc: Global, told: &mut Vec<Told>, word: &str) -> Result<(), Fault> {
-    told.push(told_peer(alloc, word)?)?;
-    Ok(())
-}
-
-// Makes the list of peers and asks it. The boxes are made here, where the list ends too.
-fn ask_peers(
-    alloc: Global,
-    told: Vec<Told>,
-    questions: &str,
-    answer: &mut Answer,
-) -> Result<(), Fault> {
-    let mut peers = Peers::new(alloc);
-    for one in told {
-        let Told {
-            owners,
-            address,
-            answers,
-        } = one;
-        let peer: Box<dyn Peer + Send> = match answers {
-            Some(answers) => Box::new(alloc, ListPeer::new(alloc, answers))?,
-            None => Box::new(alloc, RefusingPeer::new(alloc))?,
-        };
-        peers.add(owners, address, peer)?;
-    }
+    let mut peers = peers_of(alloc, told)?;
     ask_all(alloc, &mut peers, questions, answer)?;
-    add_close(peers, answer);
-    Ok(())
-}
-
-fn add_close(peers: Peers, answer: &mut Answer) {
     answer.part();
     answer.word("close");
     answer.number(u64::try_from(peers.close()).unwrap_or(u64::MAX));
+    Ok(())
 }
 
-fn ask_all<L: Loader>(
+fn peers_of(alloc: Global, told: &str) -> Result<Peers, Fault> {
+    let mut peers = Peers::new(alloc);
+    for word in told.split(' ') {
+        add_peer(alloc, &mut peers, word)?;
+    }
+    Ok(peers)
+}
+
+fn add_peer(alloc: Global, peers: &mut Peers, word: &str) -> Result<(), Fault> {
+    let Told {
+        owners,
+        address,
+        answers,
+    } = told_peer(alloc, word)?;
+    match answers {
+        Some(answers) => add_list(alloc, peers, owners, address, answers)?,
+        None => add_refusing(alloc, peers, owners, address)?,
+    }
+    Ok(())
+}
+
+fn add_list(
     alloc: Global,
-    peers: &mut L,
+    peers: &mut Peers,
+    owners: Items<User>,
+    address: Bytes,
+    answers: Items<PeerAnswer>,
+) -> Result<(), AllocError> {
+    let peer: Box<dyn Peer + Send> = Box::new(alloc, ListPeer::new(alloc, answers))?;
+    peers.add(owners, address, peer)
+}
+
+fn add_refusing(
+    alloc: Global,
+    peers: &mut Peers,
+    owners: Items<User>,
+    address: Bytes,
+) -> Result<(), AllocError> {
+    let peer: Box<dyn Peer + Send> = Box::new(alloc, RefusingPeer::new(alloc))?;
+    peers.add(owners, address, peer)
+}
+
+fn ask_all(
+    alloc: Global,
+    peers: &mut Peers,
     questions: &str,
     answer: &mut Answer,
 ) -> Result<(), Fault> {
@@ -167,9 +169,9 @@ fn ask_all<L: Loader>(
     Ok(())
 }
 
-fn ask<L: Loader>(
+fn ask(
     alloc: Global,
-    peers: &mut L,
+    peers: &mut Peers,
     mut words: Words<'_>,
     answer: &mut Answer,
 ) -> Result<(), Fault> {
@@ -181,9 +183,9 @@ fn ask<L: Loader>(
 }
 
 // `load ASKER NAME`.
-fn load<L: Loader>(
+fn load(
     alloc: Global,
-    peers: &mut L,
+    peers: &mut Peers,
     mut words: Words<'_>,
     answer: &mut Answer,
 ) -> Result<(), Fault> {
@@ -192,9 +194,9 @@ fn load<L: Loader>(
     load_as(alloc, peers, asker, &name, answer)
 }
 
-fn load_as<L: Loader>(
+fn load_as(
     alloc: Global,
-    peers: &mut L,
+    peers: &mut Peers,
     asker: &str,
     name: &Path,
     answer: &mut Answer,
@@ -205,9 +207,9 @@ fn load_as<L: Loader>(
 }
 
 // `fetch ADDRESS DIGITS`.
-fn fetch<L: Loader>(
+fn fetch(
     alloc: Global,
-    peers: &mut L,
+    peers: &mut Peers,
     mut words: Words<'_>,
     answer: &mut Answer,
 ) -> Result<(), Fault> {
@@ -216,9 +218,9 @@ fn fetch<L: Loader>(
     fetch_at(alloc, peers, address, &reference, answer)
 }
 
-fn fetch_at<L: Loader>(
+fn fetch_at(
     alloc: Global,
-    peers: &mut L,
+    peers: &mut Peers,
     address: &str,
     reference: &Reference,
     answer: &mut Answer,

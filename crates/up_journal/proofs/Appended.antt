@@ -1,5 +1,5 @@
 -- What is kept, seen and left once a record is appended, and once one is not.
-use Rattle.std.proofs.Common.{◌≡◌, ◌≤◌, ◌<◌, ◌+◌, ◌-◌, ◌^◌, ◌||◌, OnErr, ℕ, false, nat_le, nat_lt, List, [], ◌∷◌, ◌++◌, length, take, Option, Some, None, is_some, IsSome, IfSome, Result, Ok, Err, refl, sym, ◌∙◌, ap, subst, ◌⊎◌, arith, length-append}
+use Rattle.std.proofs.Common.{◌≡◌, ◌≤◌, ◌<◌, ◌+◌, ◌-◌, ◌^◌, ◌||◌, OnErr, ℕ, Bool, true, false, nat_le, nat_lt, List, [], ◌∷◌, ◌++◌, length, take, Option, Some, None, option_map, is_some, IsSome, IfSome, Result, Ok, Err, refl, sym, ◌∙◌, ap, subst, ◌⊎◌, inl, inr, ⊎_elim, arith, length-append}
 use Rattle.std.proofs.lemmas.Bool.Decides.{nat_tests}
 use Rattle.std.proofs.lemmas.List.{take_at}
 use Rattle.std.specs.List.{AllByRecursion}
@@ -7,8 +7,8 @@ use Rattle.up_refs.specs.Sha256.{sha256}
 use Rattle.sha2.proofs.Facts256.{length-sha256}
 use Rattle.up_disk.specs.Disk.{LeavesOnly, part}
 use Rattle.up_disk.specs.declared.disk.Disk.{Ghosts}
-use Rattle.up_journal.specs.Cells.{Closed, EachAsOne, EachWhole, RestsAsOne, Stands, Whole}
-use Rattle.up_journal.specs.Crashes.{Leaves}
+use Rattle.up_journal.specs.Cells.{Closed, EachAsOne, EachWhole, RestsAsOne, Shape, Stands, Whole}
+use Rattle.up_journal.specs.Crashes.{Leaves, LeavesNow}
 use Rattle.up_journal.specs.Format2.{format2, head_size}
 use Rattle.up_journal.specs.Gates.{behind_gate, record_bytes}
 use Rattle.up_journal.specs.Journal.{MayHave, StandsFor, State, bytes_of, gate_behind, is_full, with_further}
@@ -18,9 +18,9 @@ use Rattle.up_journal.specs.declared.limits.Span.{Span}
 use Rattle.up_journal.proofs.Cells.{whole_next}
 use Rattle.up_journal.proofs.Gates.{length-record_bytes}
 use Rattle.up_journal.proofs.Kept.{front_more, is_format2, kept_safe}
-use Rattle.up_journal.proofs.Bases.{Base, base, front_of_shape, payload_behind}
-use Rattle.up_journal.proofs.Settled.{IsOneFurther, appending, doubt_by, held_further, seen_one, unadded}
-use Rattle.up_journal.proofs.Spans.{behind_more, behind_within, fitting_more, payloads_more, payloads_same, sizes_snoc}
+use Rattle.up_journal.proofs.Moved.{Base, base, front_of_shape, payload_behind}
+use Rattle.up_journal.proofs.Settled.{IsOneFurther, HeldFurther, Unadded, appending, doubt_by, held_further, seen_one, unadded}
+use Rattle.up_journal.proofs.Spans.{EndsBy, behind_more, behind_within, fitting_more, payloads_more, payloads_same, sizes_snoc}
 
 -- ---- the limits
 

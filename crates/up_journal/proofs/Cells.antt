@@ -1,6 +1,7 @@
 -- What a crash leaves of a gate and of what stands behind it.
-use Rattle.std.proofs.Common.{◌≡◌, ◌<◌, ◌+◌, min, ℕ, false, List, [], ◌∷◌, ◌++◌, length, get_or, take, drop, Option, Some, None, option_map, IsSome, IsNone, IfSome, ◌⊎◌, inl, inr, ⊎_elim, refl, sym, ◌∙◌, ap, arith, append_assoc, length-append, length-take-le, take-append-drop}
+use Rattle.std.proofs.Common.{◌≡◌, ◌≢◌, ◌≤◌, ◌<◌, ◌+◌, ◌-◌, min, ℕ, true, false, List, [], ◌∷◌, ◌++◌, length, get_or, take, drop, Option, Some, None, option_map, IsSome, IsNone, IfSome, ◌⊎◌, inl, inr, ⊎_elim, refl, sym, ◌∙◌, ap, subst, arith, append_assoc, length-append, length-take-le, take-append-drop}
 use Rattle.std.proofs.lemmas.List.{take_at, drop_at, drop_more, drop-drop, take-append-le, take-take}
+use Rattle.std.proofs.lemmas.Bool.Decides.{nat_tests}
 use Rattle.up_disk.specs.Disk.{Torn, written}
 use Rattle.up_journal.specs.Gates.{is_open}
 use Rattle.up_journal.specs.Cells.{Closed, Whole, Ready}

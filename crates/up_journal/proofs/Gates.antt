@@ -1,6 +1,6 @@
 -- How gates are read, in any format.
-use Rattle.std.proofs.Common.{◌≡◌, ◌≤◌, ◌<◌, ◌^◌, ◌+◌, ◌-◌, ℕ, suc, true, false, List, [], ◌∷◌, ◌++◌, length, take, drop, Result, Ok, Err, refl, sym, ◌∙◌, ap, arith, append_assoc, length-append, sum_by}
-use Rattle.std.proofs.lemmas.List.{take_at, drop_at, drop-take, take-take, take-append-drop, append-nil}
+use Rattle.std.proofs.Common.{◌≡◌, ◌≢◌, ◌≤◌, ◌<◌, ◌^◌, ◌+◌, ◌-◌, ◌*◌, ℕ, zero, suc, Bool, true, false, nat_le, nat_lt, List, [], ◌∷◌, ◌++◌, length, take, drop, Result, Ok, Err, refl, sym, ◌∙◌, ap, subst, ◌⊎◌, inl, inr, arith, append_assoc, length-append, length-drop, length-take-le, ⊎_elim, sum_by}
+use Rattle.std.proofs.lemmas.List.{take_at, drop_at, take-append-le, drop-append-le, drop-take, take-take, take-append-drop, append-nil}
 use Rattle.std.proofs.lemmas.List.Sums.{sum_by-cons}
 use Rattle.std.proofs.lemmas.Bool.Decides.{nat_tests}
 use Rattle.std.proofs.lemmas.Slice.Eq.{bytes_eq-Decides}
@@ -9,7 +9,13 @@ use Rattle.std.specs.List.{AllByRecursion}
 use Rattle.std.specs.Str.{bytes_eq}
 use Rattle.up_disk.specs.Disk.{part}
 use Rattle.up_journal.specs.Damages.{Damage, Damaged, Chain}
-use Rattle.up_journal.specs.Gates.{Format, IsFormat, after_payloads, behind_gates, first_gate, front_of, has_name, head_size_of, is_open, is_whole, length_bytes, link_at, link_behind, log_behind_name, log_from, next_gate, number_of, payload_at, record_at, record_bytes, record_list, size_at}
+use Rattle.up_journal.specs.Gates.{Format, after_payloads, behind_gates, first_gate, front_of, has_name, head_size_of, is_open, is_whole, length_bytes, link_at, link_behind, log_behind_name, log_from, next_gate, number_of, payload_at, record_at, record_bytes, record_list, size_at}
+
+-- what holds of a format
+pub record IsFormat (f : Format) : Type 0 where
+  pub named : length f.name ≡ 8
+  pub first : length f.first_link ≡ f.link_size
+  pub next : (bytes : List ℕ) → length (f.next_link bytes) ≡ f.link_size
 
 pub length-length_bytes : (size : ℕ) → length (length_bytes size) ≡ 4
 unfolding length_bytes
@@ -26,7 +32,7 @@ length-record_bytes link payload =
 
 -- ---- one gate
 
-pub log_open : (f : Format) (most largest gate : ℕ) (link bytes : List ℕ) → is_open bytes ≡ true → is_whole (head_size_of f) largest bytes ≡ true → bytes_eq (link_at f bytes) link ≡ true
+log_open : (f : Format) (most largest gate : ℕ) (link bytes : List ℕ) → is_open bytes ≡ true → is_whole (head_size_of f) largest bytes ≡ true → bytes_eq (link_at f bytes) link ≡ true
     → log_from f (suc most) largest gate link bytes
     ≡ after_payloads (payload_at (head_size_of f) bytes ∷ []) (log_from f most largest (gate + head_size_of f + size_at bytes) (f.next_link (record_at f bytes)) (next_gate (head_size_of f) bytes))
 unfolding log_from
@@ -168,7 +174,7 @@ module _ (f : Format) (good : IsFormat f) where
       )
 
   -- there is a byte at least for each
-  pub few : (log : List (List ℕ)) (link : List ℕ) → length log ≤ length (behind_gates (record_list f link log))
+  few : (log : List (List ℕ)) (link : List ℕ) → length log ≤ length (behind_gates (record_list f link log))
   few [] link = omega arith
   few (payload ∷ log) link =
       let bytes = 1 ∷ record_bytes link payload in

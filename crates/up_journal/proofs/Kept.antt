@@ -1,25 +1,27 @@
 -- What the facts that a journal keeps say of its images.
-use Rattle.std.proofs.Common.{◌≡◌, ◌≢◌, ◌≤◌, ◌<◌, ◌+◌, ◌^◌, ℕ, true, false, nat_le, List, [], ◌∷◌, ◌++◌, length, map, take, Option, Some, None, IsSome, IfSome, Ok, refl, sym, ◌∙◌, ap, subst, ◌⊎◌, inl, inr, ⊎_elim, arith, length-append, sum_by}
+use Rattle.std.proofs.Common.{◌≡◌, ◌≢◌, ◌≤◌, ◌<◌, ◌+◌, ◌-◌, ◌^◌, ℕ, zero, suc, true, false, nat_le, List, [], ◌∷◌, ◌++◌, length, map, take, drop, replicate, Option, Some, None, option_map, is_some, IsSome, IfSome, Result, Ok, refl, sym, ◌∙◌, ap, subst, ◌⊎◌, inl, inr, ⊎_elim, arith, append_assoc, length-append, length-drop, length-take-le, sum_by}
 use Rattle.std.proofs.lemmas.List.{length-replicate}
 use Rattle.std.proofs.lemmas.List.Sums.{sum_by-cons}
 use Rattle.std.proofs.lemmas.Bool.{cases_eq, cases_lt}
 use Rattle.std.proofs.lemmas.Bool.Decides.{nat_tests}
+use Rattle.std.specs.List.{AllByRecursion}
 use Rattle.up_refs.specs.Sha256.{sha256}
 use Rattle.sha2.proofs.Facts256.{length-sha256}
+use Rattle.up_disk.specs.Disk.{part}
 use Rattle.up_disk.specs.declared.disk.Disk.{Ghosts}
 use Rattle.up_disk.proofs.Moments.{started, weaker}
 use Rattle.up_journal.specs.Cells.{Closed, OnlyRead, Ready, Shape, Whole}
 use Rattle.up_journal.specs.Crashes.{Leaves, LeavesNow}
 use Rattle.up_journal.specs.Format1.{format1}
 use Rattle.up_journal.specs.Format2.{format2, head_of, head_size, log_of}
-use Rattle.up_journal.specs.Gates.{Format, IsFormat, behind_gate, front_of, has_name, head_size_of, is_open, log_behind_name, record_bytes}
-use Rattle.up_journal.specs.Journal.{AreLimits, HasLog, MayHave, StandsFor, gate_behind}
+use Rattle.up_journal.specs.Gates.{Format, behind_gate, front_of, has_name, head_size_of, is_open, log_behind_name, new_size, record_bytes}
+use Rattle.up_journal.specs.Journal.{AreLimits, HasLog, MayHave, StandsFor, bytes_of, gate_behind, with_further}
 use Rattle.up_journal.specs.Kept.{AreGates, IsFront, IsKept, further_seen, held_for, log_seen, payloads_at, sizes_of}
 use Rattle.up_journal.specs.declared.limits.Limits.{Limits}
 use Rattle.up_journal.specs.declared.limits.Span.{Span}
 use Rattle.up_journal.proofs.Cells.{whole_next}
-use Rattle.up_journal.proofs.Gates.{AllFit, front_closed, front_named, front_snoc, length-front_of, link_snoc}
-use Rattle.up_journal.proofs.Spans.{behind_sum, behind_within, fit_by_sizes, length-part, sizes_at}
+use Rattle.up_journal.proofs.Gates.{AllFit, IsFormat, front_closed, front_named, front_snoc, length-front_of, link_snoc}
+use Rattle.up_journal.proofs.Spans.{EndsBy, behind_sum, behind_within, fit_by_sizes, length-part, sizes_at}
 
 pub is_format1 : IsFormat format1
 is_format1 = record { named = refl; first = refl; next = λ bytes. refl }

@@ -1,6 +1,6 @@
 -- What is found on a device.
-use Rattle.std.proofs.Common.{◌≡◌, ◌≤◌, ◌<◌, ◌+◌, ◌^◌, ℕ, Bool, true, false, cond, nat_le, List, [], ◌∷◌, ◌++◌, length, take, drop, Option, Some, None, option_map, is_some, IfSome, Result, Ok, Err, IfOk, refl, sym, ◌∙◌, ap, subst, ◌⊎◌, inl, inr, arith, length-drop, length-take-le}
-use Rattle.std.proofs.lemmas.List.{drop_all, take-append-drop, drop-drop}
+use Rattle.std.proofs.Common.{◌≡◌, ◌≤◌, ◌<◌, ◌+◌, ◌-◌, ◌^◌, max, min, ℕ, Bool, true, false, cond, nat_le, List, [], ◌∷◌, ◌++◌, length, take, drop, Option, Some, None, option_map, is_some, IsSome, IfSome, Result, Ok, Err, IfOk, refl, sym, ◌∙◌, ap, subst, ◌⊎◌, inl, inr, arith, append_assoc, length-append, length-drop, length-take-le}
+use Rattle.std.proofs.lemmas.List.{take_at, drop_all, append-nil, take-append-drop, drop-drop}
 use Rattle.std.proofs.lemmas.Bool.Decides.{nat_tests}
 use Rattle.std.proofs.lemmas.Slice.Eq.{bytes_eq-Decides}
 use Rattle.std.specs.Str.{bytes_eq}
@@ -13,7 +13,7 @@ use Rattle.up_journal.specs.Crashes.{IsOpened}
 use Rattle.up_journal.specs.Damages.{Damage, Damaged, Chain, OldFormat}
 use Rattle.up_journal.specs.Format1.{format1}
 use Rattle.up_journal.specs.Format2.{format2, log_of}
-use Rattle.up_journal.specs.Gates.{Format, first_gate, front_of, has_name, is_open, is_whole, length_bytes, link_at, link_behind, log_behind_name, size_at}
+use Rattle.up_journal.specs.Gates.{Format, first_gate, front_of, has_name, is_open, is_whole, length_bytes, link_at, link_behind, log_behind_name, new_size, size_at}
 use Rattle.up_journal.specs.Journal.{AreLimits, IsReadAs}
 use Rattle.up_journal.specs.Kept.{AreGates, IsFront, IsKept, log_seen, payloads_at}
 use Rattle.up_journal.specs.Opened.{IsDamageOf, IsLogOf}

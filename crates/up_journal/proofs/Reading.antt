@@ -1,14 +1,14 @@
 -- One record more is read, in any format.
-use Rattle.std.proofs.Common.{◌≡◌, ◌≤◌, ◌<◌, ◌+◌, ℕ, true, List, [], ◌∷◌, ◌++◌, length, take, drop, Option, Some, None, IfSome, sym, ◌∙◌, ap, subst, arith}
-use Rattle.std.proofs.lemmas.List.{drop-drop, drop-take, take-take}
+use Rattle.std.proofs.Common.{◌≡◌, ◌≤◌, ◌<◌, ◌+◌, ◌-◌, ℕ, suc, Bool, true, false, List, [], ◌∷◌, ◌++◌, length, get_or, take, drop, Option, Some, None, IfSome, refl, sym, ◌∙◌, ap, subst, arith, length-drop}
+use Rattle.std.proofs.lemmas.List.{drop-drop, drop-take, take-take, append-nil}
 use Rattle.std.proofs.lemmas.Bool.Decides.{nat_tests}
 use Rattle.std.specs.List.{AllByRecursion}
 use Rattle.up_disk.specs.Disk.{part}
 use Rattle.up_journal.specs.Format2.{format2}
-use Rattle.up_journal.specs.Gates.{Format, IsFormat, head_size_of, is_open, length_bytes, link_at, record_bytes}
+use Rattle.up_journal.specs.Gates.{Format, head_size_of, is_open, length_bytes, link_at, record_bytes}
 use Rattle.up_journal.specs.Kept.{AreBehind, AreGates, IsFront, payloads_at, sizes_of}
 use Rattle.up_journal.specs.declared.limits.Span.{Span}
-use Rattle.up_journal.proofs.Gates.{take_both}
+use Rattle.up_journal.proofs.Gates.{IsFormat, take_both}
 use Rattle.up_journal.proofs.Kept.{front_more}
 use Rattle.up_journal.proofs.Spans.{behind_more, fitting_more, length-part, payloads_more, sizes_snoc}
 

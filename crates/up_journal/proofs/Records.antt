@@ -1,5 +1,5 @@
 -- What every reader of records above a journal needs.
-use Rattle.std.proofs.Common.{◌≡◌, ◌+◌, ◌≤◌, ◌-◌, ℕ, suc, List, [], ◌∷◌, ◌++◌, length, take, drop, take-append-drop, Option, Some, None, option_map, is_some, IsSome, IfSome, Result, Ok, Err, refl, sym, ◌∙◌, ap, subst, ◌⊎◌, inl, inr, ⊎_elim, arith, sum_by}
+use Rattle.std.proofs.Common.{◌≡◌, ◌+◌, ◌≤◌, ◌<◌, ◌^◌, ◌-◌, ℕ, suc, List, [], ◌∷◌, ◌++◌, length, take, drop, take-append-drop, Option, Some, None, option_map, is_some, IsSome, IfSome, Result, Ok, Err, refl, sym, ◌∙◌, ap, subst, ◌⊎◌, inl, inr, ⊎_elim, arith, sum_by}
 use Rattle.std.proofs.Math.Seq.{drop-cons}
 use Rattle.std.proofs.lemmas.List.{drop_all}
 use Rattle.std.proofs.lemmas.Grind.{take_at_read}
@@ -7,6 +7,7 @@ use Rattle.std.proofs.lemmas.List.Sums.{sum_by-append, sum_by-cons}
 use Rattle.std.proofs.lemmas.Option.{get_or_from_slice_get, slice_get_within}
 use Rattle.std.specs.List.{slice_get}
 use Rattle.std.specs.Option.{option_and_then}
+use Rattle.up_disk.specs.Disk.{LeavesOnly}
 use Rattle.up_disk.proofs.Moments.{joined, started, weaker}
 use Rattle.up_disk.specs.declared.disk.Disk.{Ghosts}
 use Rattle.up_journal.specs.Crashes.{IsOpened, Leaves, LeavesNow}
@@ -15,7 +16,7 @@ use Rattle.up_journal.specs.Format2.{head_size, log_of}
 use Rattle.up_journal.specs.Gates.{first_gate}
 use Rattle.up_journal.specs.Journal.{gate_behind as gate_after}
 use Rattle.up_journal.specs.Journal.{HasLog, IsReadAs, MayHave, StandsFor, State, with_further}
-use Rattle.up_journal.specs.Opened.{IsDamageOf, IsLogOf}
+use Rattle.up_journal.specs.Opened.{IsDamageOf, IsLogOf, why_of}
 use Rattle.up_journal.specs.declared.fault.OpenWhy.{OpenWhy}
 use Rattle.up_journal.specs.declared.fault.OpenWhy.TheVariants as open_why
 use Rattle.up_journal.specs.declared.limits.Limits.{Limits}

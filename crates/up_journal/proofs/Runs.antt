@@ -1,10 +1,10 @@
 -- Runs of a disk's calls, seen as what a crash leaves behind a front.
-use Rattle.std.proofs.Common.{◌≡◌, ◌≤◌, ◌+◌, ℕ, List, [], ◌∷◌, length, Option, Some, None, option_map, is_some, IsSome, IfSome, refl, sym, ◌∙◌, ap, subst}
+use Rattle.std.proofs.Common.{◌≡◌, ◌<◌, ◌≤◌, ◌+◌, ◌^◌, ◌-◌, ℕ, List, [], ◌∷◌, ◌++◌, length, Option, Some, None, option_map, is_some, IsSome, IfSome, refl, sym, ◌∙◌, ap, subst, arith, ◌⊎◌, inl, inr}
 use Rattle.up_disk.specs.Disk.{Elapses, Follows, LeavesOnly, Only, Steps, Torn, written}
 use Rattle.up_disk.proofs.Moments.{started, goes_on, joined, weaker}
 use Rattle.up_disk.specs.declared.disk.Disk.{Ghosts}
-use Rattle.up_journal.specs.Cells.{EachShape, EachWhole, IsOneOf, OnlyRead, Ready, Rests, RestsAsOne, Whole}
-use Rattle.up_journal.proofs.Cells.{torn_behind, written_behind, torn_gate, written_gate}
+use Rattle.up_journal.specs.Cells.{Closed, EachAsOne, EachShape, EachWhole, IsOneOf, OnlyRead, Ready, Rests, RestsAsOne, Shape, Stands, Whole}
+use Rattle.up_journal.proofs.Cells.{torn_behind, written_behind, torn_gate, written_gate, whole_closed}
 
 -- what a write of a gate leaves
 pub wrote_gate : (old new : List ℕ → Type 0) (gate : ℕ) (behind front : List ℕ) → length front ≡ gate → EachShape (Some behind) front old → Follows (Torn gate 1) old new

@@ -3,8 +3,8 @@ use Rattle.std.proofs.Common.{◌≡◌, ◌≤◌, ◌<◌, ◌+◌, ◌^◌, �
 use Rattle.up_disk.specs.Disk.{LeavesOnly, written}
 use Rattle.up_disk.specs.declared.disk.Disk.{Ghosts}
 use Rattle.up_disk.proofs.Moments.{weaker}
-use Rattle.up_journal.specs.Cells.{EachShape, IsOneOf, IsSized, Rests, RestsAsOne, Stands}
-use Rattle.up_journal.specs.Crashes.{Leaves}
+use Rattle.up_journal.specs.Cells.{EachAsOne, EachShape, IsOneOf, IsSized, Rests, RestsAsOne, Shape, Stands}
+use Rattle.up_journal.specs.Crashes.{Leaves, LeavesNow}
 use Rattle.up_journal.specs.Format2.{head_size}
 use Rattle.up_journal.specs.Gates.{behind_gate}
 use Rattle.up_journal.specs.Journal.{HasLog, MayHave, StandsFor, with_further}
@@ -13,7 +13,7 @@ use Rattle.up_journal.specs.declared.limits.Limits.{Limits}
 use Rattle.up_journal.specs.declared.limits.Span.{Span}
 use Rattle.up_journal.proofs.Kept.{kept_safe}
 use Rattle.up_journal.proofs.Runs.{shape_now}
-use Rattle.up_journal.proofs.Bases.{Base, base, further_same, log_same, moved, rests_further, rests_stand}
+use Rattle.up_journal.proofs.Moved.{Base, base, further_same, log_same, moved, rests_further, rests_stand}
 
 -- what may be further after a record was not written: nothing, what was, or its payload
 abbrev pub IsOneFurther : Option (List ℕ) → List ℕ → Option (List ℕ) → Type 0

@@ -1,17 +1,21 @@
 -- The places of payloads on a device.
-use Rattle.std.proofs.Common.{◌≡◌, ◌≤◌, ◌+◌, ◌-◌, min, ℕ, zero, suc, List, [], ◌∷◌, ◌++◌, length, get_or, map, take, drop, Option, Some, None, option_map, IfSome, refl, sym, ◌∙◌, ap, subst, arith, length-drop, length-take-le, sum_by}
+use Rattle.std.proofs.Common.{◌≡◌, ◌≤◌, ◌<◌, ◌+◌, ◌-◌, min, ℕ, zero, suc, List, [], ◌∷◌, ◌++◌, length, get_or, map, take, drop, Option, Some, None, option_map, IfSome, refl, sym, ◌∙◌, ap, subst, arith, length-drop, length-take-le, sum_by}
 use Rattle.std.proofs.lemmas.List.{drop-drop, drop-take, length-map, map-append, take-take}
 use Rattle.std.proofs.lemmas.Option.{slice_get_read}
-use Rattle.std.proofs.lemmas.List.Sums.{sum_by-cons}
+use Rattle.std.proofs.lemmas.List.Sums.{sum_by-append, sum_by-cons}
 use Rattle.std.specs.List.{AllByRecursion, slice_get}
 use Rattle.up_disk.specs.Disk.{part}
-use Rattle.up_journal.specs.Kept.{AreBehind, EndsBy, log_seen, payloads_at, sizes_of}
+use Rattle.up_journal.specs.Kept.{AreBehind, log_seen, payloads_at, sizes_of}
 use Rattle.up_journal.specs.declared.limits.Span.{Span}
 use Rattle.up_journal.proofs.Gates.{AllFit}
 
 -- the bytes of records with so many bytes before each payload
 abbrev pub total : ℕ → List ℕ → ℕ
 total head sizes = sum_by (λ size. size + head) sizes
+
+-- the payload ends before the gate
+abbrev pub EndsBy : ℕ → Span → Type 0
+EndsBy gate span = span.at + span.size ≤ gate
 
 pub behind_sum : (head : ℕ) (spans : List Span) (gate last : ℕ) → AreBehind head gate spans last → last ≡ gate + total head (sizes_of spans)
 behind_sum head [] gate last is = omega (arith, is)

@@ -1,5 +1,5 @@
 -- What a call over a disk leaves to a crash, for a journal and all that stands over one. This project's own.
-use Rattle.std.specs.Prelude.{◌≡◌, ◌⊎◌, ◌<◌, ℕ, List, is_some}
+use Rattle.std.specs.Prelude.{◌≡◌, ◌⊎◌, ◌<◌, ℕ, List, Option, is_some}
 use Rattle.up_disk.specs.Disk.{LeavesOnly}
 use Rattle.up_disk.specs.declared.disk.Disk.{Ghosts}
 use Rattle.up_journal.specs.Gates.{new_size}

@@ -1,5 +1,5 @@
 -- What stands on a device behind its name, in both formats: records behind open gates, and a closed gate. This project's own.
-use Rattle.std.specs.Prelude.{◌≡◌, ◌==◌, ◌&&◌, ◌+◌, ℕ, zero, suc, Bool, false, nat_le, nat_lt, List, [], ◌∷◌, ◌++◌, length, take, drop, Result, Ok, Err, if◌then◌else◌}
+use Rattle.std.specs.Prelude.{◌==◌, ◌&&◌, ◌+◌, ℕ, zero, suc, Bool, false, nat_le, nat_lt, List, [], ◌∷◌, ◌++◌, length, take, drop, Result, Ok, Err, if◌then◌else◌}
 use Rattle.std.specs.Int.{w32, from_be_bytes, to_be_bytes}
 use Rattle.std.specs.Str.{bytes_eq}
 use Rattle.up_disk.specs.Disk.{part}
@@ -12,12 +12,6 @@ pub record Format : Type 0 where
   pub link_size : ℕ
   pub first_link : List ℕ
   pub next_link : List ℕ → List ℕ
-
--- the name has 8 bytes, and each link has as many as the format says
-pub record IsFormat (format : Format) : Type 0 where
-  pub named : length format.name ≡ 8
-  pub first : length format.first_link ≡ format.link_size
-  pub next : (bytes : List ℕ) → length (format.next_link bytes) ≡ format.link_size
 
 -- the place of the first gate: behind the 8 bytes of the name
 abbrev pub first_gate : ℕ

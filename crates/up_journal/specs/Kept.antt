@@ -14,10 +14,6 @@ use Rattle.up_journal.specs.declared.limits.Span.{Span}
 abbrev pub payloads_at : List Span → List ℕ → List (List ℕ)
 payloads_at spans bytes = map (λ span. part span.at span.size bytes) spans
 
--- the payload ends before that place
-abbrev pub EndsBy : ℕ → Span → Type 0
-EndsBy place span = span.at + span.size ≤ place
-
 -- the log, where the content is told
 abbrev pub log_seen : Option (List ℕ) → List Span → Option (List (List ℕ))
 log_seen content spans = option_map (payloads_at spans) content

@@ -1,16 +1,13 @@
 pub mod Cells
-pub mod Collisions
 pub mod Crashes
 pub mod Damages
 pub mod Format1
 pub mod Format2
 pub mod Gates
-pub mod Images
 pub mod Journal
 pub mod Kept
 pub mod Logs
 pub mod Messages
-pub mod Moving
 pub mod Opened
 pub mod Reading
 pub mod Records

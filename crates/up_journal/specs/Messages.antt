@@ -3,8 +3,6 @@ use Rattle.std.specs.Prelude.{List, ℕ, ◌++◌, codes}
 use Rattle.std.specs.Fmt.{decimal}
 use Rattle.up_journal.specs.declared.fault.AppendWhy.{AppendWhy}
 use Rattle.up_journal.specs.declared.fault.AppendWhy.TheVariants as append
-use Rattle.up_journal.specs.declared.fault.MoveWhy.{MoveWhy}
-use Rattle.up_journal.specs.declared.fault.MoveWhy.TheVariants as move_why
 use Rattle.up_journal.specs.declared.fault.OpenWhy.{OpenWhy}
 use Rattle.up_journal.specs.declared.fault.OpenWhy.TheVariants as open_why
 use Rattle.up_journal.specs.declared.fault.ReadWhy.{ReadWhy}
@@ -26,9 +24,3 @@ append_message append.OutOfMemory = codes "out of memory"
 abbrev pub read_message : ReadWhy → List ℕ
 read_message read.Fault = codes "the disk failed"
 read_message read.OutOfMemory = codes "out of memory"
-
-abbrev pub move_message : MoveWhy → List ℕ
-move_message (move_why.Old place) = codes "the old log is damaged at byte " ++ decimal place
-move_message (move_why.Full records) = codes "the new log is full with " ++ decimal records ++ codes " records"
-move_message move_why.Fault = codes "a disk failed"
-move_message move_why.OutOfMemory = codes "out of memory"

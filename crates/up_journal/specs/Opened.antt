@@ -4,8 +4,6 @@ use Rattle.up_journal.specs.Damages.{Damage}
 use Rattle.up_journal.specs.Damages as damage
 use Rattle.up_journal.specs.Format2.{log_of}
 use Rattle.up_journal.specs.Journal.{State}
-use Rattle.up_journal.specs.declared.fault.MoveWhy.{MoveWhy}
-use Rattle.up_journal.specs.declared.fault.MoveWhy.TheVariants as move_why
 use Rattle.up_journal.specs.declared.fault.OpenFault.{OpenFault}
 use Rattle.up_journal.specs.declared.fault.OpenWhy.{OpenWhy}
 use Rattle.up_journal.specs.declared.fault.OpenWhy.TheVariants as open_why
@@ -27,11 +25,6 @@ why_of damage.OldFormat = open_why.OldFormat
 abbrev pub why_of_read : ReadWhy → OpenWhy
 why_of_read read.Fault = open_why.Fault
 why_of_read read.OutOfMemory = open_why.OutOfMemory
-
--- why a log is not moved whose payloads were not read
-abbrev pub move_of_read : ReadWhy → MoveWhy
-move_of_read read.Fault = move_why.Fault
-move_of_read read.OutOfMemory = move_why.OutOfMemory
 
 -- the device was refused for this
 abbrev pub IsRefusedFor : {S D : Type 0} → Result S (OpenFault D) → OpenWhy → Type 0

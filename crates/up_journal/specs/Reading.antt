@@ -1,6 +1,7 @@
 -- What is read of a device, gate by gate. This project's own.
-use Rattle.std.specs.Prelude.{◌<◌, ◌≤◌, ◌+◌, ℕ, List, if◌then◌else◌}
-use Rattle.up_journal.specs.Gates.{is_open, is_whole, size_at}
+use Rattle.std.specs.Prelude.{◌≡◌, ◌<◌, ◌≤◌, ◌+◌, ℕ, List, if◌then◌else◌}
+use Rattle.up_disk.specs.Disk.{part}
+use Rattle.up_journal.specs.Gates.{is_open, is_whole, length_bytes, size_at}
 use Rattle.up_journal.specs.declared.read.Gate.{Gate}
 use Rattle.up_journal.specs.declared.read.Gate.TheVariants.{Closed, Broken, Open}
 

@@ -1,8 +1,7 @@
 //! Why a call of a journal was refused.
 ghost use Rattle.std.specs.Prelude.{◌≡◌, Some};
-ghost use Rattle.up_journal.specs.Messages.{append_message, move_message, open_message, read_message};
+ghost use Rattle.up_journal.specs.Messages.{append_message, open_message, read_message};
 ghost use Rattle.up_journal.specs.declared.fault.AppendWhy.TheVariants as append;
-ghost use Rattle.up_journal.specs.declared.fault.MoveWhy.TheVariants as move_why;
 ghost use Rattle.up_journal.specs.declared.fault.OpenWhy.TheVariants as open_why;
 ghost use Rattle.up_journal.specs.declared.fault.ReadWhy.TheVariants as read;
 
@@ -48,18 +47,6 @@ pub enum AppendWhy {
 #[derive(Clone, Copy, Debug, PartialEq, Eq)]
 pub enum ReadWhy {
     /// The disk failed.
-    Fault,
-    OutOfMemory,
-}
-
-/// Why a log was not moved.
-#[derive(Clone, Copy, Debug, PartialEq, Eq)]
-pub enum MoveWhy {
-    /// The old device is damaged at this place, by the rules of the first format.
-    Old(u64),
-    /// So many records keep the limits, and the next one would pass them.
-    Full(u64),
-    /// A disk failed.
     Fault,
     OutOfMemory,
 }
@@ -111,21 +98,6 @@ impl fmt::Display for ReadWhy {
 }
 
 impl Error for ReadWhy {}
-
-impl fmt::Display for MoveWhy {
-    ghost output = { λ why. Some (move_message why) };
-
-    fn fmt<W: fmt::Write>(&self, f: &mut fmt::Formatter<W>) -> fmt::Result {
-        match self {
-            MoveWhy::Old(place) => write!(f, "the old log is damaged at byte {place}"),
-            MoveWhy::Full(records) => write!(f, "the new log is full with {records} records"),
-            MoveWhy::Fault => write!(f, "a disk failed"),
-            MoveWhy::OutOfMemory => write!(f, "out of memory"),
-        }
-    }
-}
-
-impl Error for MoveWhy {}
 
 impl From<Failed> for OpenWhy {
     ghost from_gives = { λ _ why. why ≡ open_why.Fault };
@@ -193,43 +165,6 @@ impl From<ReadWhy> for OpenWhy {
         match read {
             ReadWhy::Fault => OpenWhy::Fault,
             ReadWhy::OutOfMemory => OpenWhy::OutOfMemory,
-        }
-    }
-}
-
-impl<T: Drop> From<AllocFailed<T>> for ReadWhy {
-    ghost from_gives = { λ _ why. why ≡ read.OutOfMemory };
-
-    fn from(_: AllocFailed<T>) -> Self {
-        ReadWhy::OutOfMemory
-    }
-}
-
-impl From<Failed> for MoveWhy {
-    ghost from_gives = { λ _ why. why ≡ move_why.Fault };
-
-    fn from(_: Failed) -> Self {
-        MoveWhy::Fault
-    }
-}
-
-impl<T: Drop> From<AllocFailed<T>> for MoveWhy {
-    ghost from_gives = { λ _ why. why ≡ move_why.OutOfMemory };
-
-    fn from(_: AllocFailed<T>) -> Self {
-        MoveWhy::OutOfMemory
-    }
-}
-
-impl From<ReadWhy> for MoveWhy {
-    ghost use Rattle.up_journal.specs.Opened.{move_of_read};
-
-    ghost from_gives = { λ read why. why ≡ move_of_read read };
-
-    fn from(read: ReadWhy) -> Self {
-        match read {
-            ReadWhy::Fault => MoveWhy::Fault,
-            ReadWhy::OutOfMemory => MoveWhy::OutOfMemory,
         }
     }
 }

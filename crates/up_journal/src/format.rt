@@ -1,8 +1,6 @@
 //! The bytes of a journal's image: the second format, and the first, which is read to be moved.
-ghost use Rattle.std.specs.Prelude.{◌≡◌, ◌<◌, ◌+◌, ◌^◌, ◌++◌, ◌∷◌, length, IfOk, OnOk};
-ghost use Rattle.up_refs.specs.Sha256.{sha256};
-ghost use Rattle.up_journal.specs.Format2.{head_size};
-ghost use Rattle.up_journal.specs.Gates.{behind_gate, length_bytes, number_of, record_bytes};
+ghost use Rattle.std.specs.Prelude.{◌≡◌, ◌<◌, ◌^◌, length, IfOk};
+ghost use Rattle.up_journal.specs.Gates.{behind_gate, length_bytes, number_of};
 
 use std::alloc::{AllocError, Global};
 use up_refs::Reference;
@@ -46,28 +44,6 @@ pub fn framed(alloc: Global, link: Reference, payload: &[u8]) -> Result<Vec<u8>,
     bytes.extend_from_slice(payload)?;
     bytes.push(CLOSED)?;
     Ok(bytes)
-}
-
-/// Puts the record of a payload behind an open gate at the end of an image, and gives the link of the next one.
-#[tactic(auto, unfolding(crate::specs::Gates::length_bytes))]
-pub fn add_record(
-    image: &mut Vec<u8>,
-    link: Reference,
-    payload: &[u8],
-) -> Result<Reference, AllocError>
-    requires { length payload.now < 2 ^ 32 }
-    ensures image { OnOk result (image.new.items
-        ≡ image.old.items ++ 1 ∷ record_bytes link payload.now) }
-    ensures link { IfOk result (λ next. next ≡ sha256 (record_bytes link payload.now)) }
-    ensures long { OnOk result (length image.new.items
-        ≡ length image.old.items + (length payload.now + head_size)) }
-{
-    let record = image.len() + 1;
-    image.push(OPEN)?;
-    image.extend_from_slice(&(payload.len() as u32).to_be_bytes())?;
-    image.extend_from_slice(link.bytes())?;
-    image.extend_from_slice(payload)?;
-    Ok(Reference::of(&image[record..]))
 }
 
 /// The length that 4 bytes stand for, high byte first. It is written in these bytes again.

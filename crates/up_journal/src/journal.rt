@@ -84,8 +84,6 @@ impl<D: Disk> Journal<D> {
         ensures log { IfOk result (λ journal. IsLogOf limits.largest (D.content disk) journal.log) }
         ensures settled { IfOk result IsSettled }
         ensures limits { IfOk result (λ journal. journal.limits ≡ limits) }
-        ensures within { IfOk result (λ journal.
-            (bytes_of journal.sizes ≤ D.size_of journal.disk) × (bytes_of journal.sizes < 2 ^ 64)) }
 
         // A new device is begun, byte for byte, where its content is told.
         ensures begun { D.size_of disk ≤ new_size → IfOk result (λ journal.

@@ -10,40 +10,19 @@
 //! comes exactly at the limits and before any call of the disk; a fault comes only where the disk's count rose. A disk over a
 //! real file tells nothing, and what these clauses say of images is then empty.
 //!
-//! [`same_heads`] answers yes exactly where two journals have equally many records and the same head (`exact`); their logs
-//! are then equal, or two different byte strings among their records have one SHA-256 (`meaning`).
-//!
-//! [`migrate`] moves the log of a device of the first format to another device: `Already`, the number of records copied, the
-//! place of a damage, or how many records keep the limits, each exactly where it is so (`already`, `copied`, `damaged`, `full`).
-//! The old device is synced first and never written (`synced`, `old_stays`). A crash at any moment leaves a new device that does
-//! not begin with the name of the second format, or one that has the old one's log (`crash`); this needs a new device with
-//! nothing pending that does not begin with the name. Of an old device that tells nothing these clauses are empty.
-//!
-//! Bytes from a gate on read in one way, in both formats, and an image has what they read as ([`gates_have_one_reading`],
-//! [`images_read_by_their_gates`]).
-//!
 //! What a reader over the journal needs stands beside it, whatever its records are: `specs/Records.antt` and
 //! `specs/Logs.antt` with their lemmas.
 #![tactic(auto)]
 
 mod fault;
 mod format;
-mod image;
 mod journal;
-mod laws;
 mod limits;
-mod moves;
-mod old;
 mod open;
 mod read;
 mod record;
-mod same;
-mod switch;
 
-pub use fault::{AppendWhy, MoveWhy, OpenFault, OpenWhy, ReadWhy};
+pub use fault::{AppendWhy, OpenFault, OpenWhy, ReadWhy};
 pub use format::{FIRST_GATE, HEAD};
 pub use journal::Journal;
-pub use laws::{gates_have_one_reading, images_read_by_their_gates};
 pub use limits::Limits;
-pub use moves::{Moved, migrate};
-pub use same::same_heads;

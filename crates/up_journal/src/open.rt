@@ -1,5 +1,5 @@
 //! What stands on a device: the gates are read, or a new device is begun.
-ghost use Rattle.std.specs.Prelude.{◌≡◌, ◌⊎◌, ◌<◌, ◌≤◌, ◌+◌, ◌^◌, ◌++◌, ◌∷◌, [], ℕ, List, None, Ok, Err, true, false, take, drop, length, is_some, ◌≢◌, IfErr, IfOk, IfSome, IsErr, IsErrOf, OnOk};
+ghost use Rattle.std.specs.Prelude.{◌≡◌, ◌⊎◌, ◌<◌, ◌≤◌, ◌+◌, ◌^◌, ◌++◌, ◌∷◌, [], ℕ, List, None, Ok, Err, true, false, take, drop, length, is_some, ◌≢◌, vec_len, IfErr, IfOk, IfSome, IsErr, IsErrOf, OnOk};
 ghost use Rattle.std.specs.Str.{bytes_eq};
 ghost use Rattle.up_refs.specs.Sha256.{sha256};
 ghost use Rattle.up_disk.specs.Disk.{LeavesOnly, Only, part};
@@ -12,10 +12,10 @@ ghost use Rattle.up_journal.specs.Kept.{AreGates, IsKept, log_seen};
 ghost use Rattle.up_journal.specs.Opened.{IsDamageOf, IsLogOf};
 ghost use Rattle.up_faults.specs.Counts.{HasCause};
 
-use crate::fault::OpenWhy;
+use crate::fault::{OpenWhy, ReadWhy};
 use crate::format::{FIRST_GATE, FIRST_LINK, HEAD, NAME, NEW, OLD_NAME};
 use crate::limits::{Limits, Span};
-use crate::read::{Gate, read_gate, read_name, read_record};
+use crate::read::{Gate, read_gate, read_name};
 use std::alloc::Global;
 use up_disk::{Disk, Failed};
 use up_refs::Reference;
@@ -159,6 +159,25 @@ fn next_record<D: Disk>(
     found.gate += HEAD + size;
     found.head = Reference::of(buffer);
     Ok(true)
+}
+
+// Reads so many bytes at a place into a buffer, which is then as long.
+fn read_record<D: Disk>(
+    disk: &mut D,
+    buffer: &mut Vec<u8>,
+    at: u64,
+    length: usize,
+) -> Result<(), ReadWhy>
+    requires { at + length ≤ D.size_of disk.old }
+    ensures long { OnOk result (vec_len buffer.new ≡ length) }
+    ensures bytes { OnOk result (IfSome (D.content disk.old)
+        (λ bytes. buffer.new.items ≡ part at length bytes)) }
+    ensures read { OnlyRead D.Disk disk.old disk.new }
+    ensures counts { HasCause (D.faults disk.old) (D.faults disk.new) (IsErrOf result ReadWhy.Fault) }
+{
+    buffer.resize(length, 0)?;
+    disk.read(at, buffer.as_mut_slice())?;
+    Ok(())
 }
 
 // The link that a record carries, where it is another one than this.

@@ -1,5 +1,5 @@
 //! Reads of a disk.
-ghost use Rattle.std.specs.Prelude.{◌≡◌, ◌<◌, ◌≤◌, ◌+◌, ◌^◌, ℕ, length, take, drop, vec_len, IfOk, IfSome, IsErr, IsErrOf, Ok, OnOk};
+ghost use Rattle.std.specs.Prelude.{◌≡◌, ◌<◌, ◌≤◌, ◌+◌, ◌^◌, ℕ, length, take, drop, IfOk, IfSome, IsErr, IsErrOf, Ok};
 ghost use Rattle.up_disk.specs.Disk.{part};
 ghost use Rattle.up_journal.specs.Cells.{OnlyRead};
 ghost use Rattle.up_journal.specs.Gates.{first_gate, length_bytes};
@@ -26,25 +26,6 @@ pub fn read_span<D: Disk>(alloc: Global, disk: &mut D, span: Span) -> Result<Byt
     let mut bytes = vec![in alloc; 0u8; span.size as usize]?;
     disk.read(span.at, bytes.as_mut_slice())?;
     Ok(Bytes::from_vec(bytes))
-}
-
-/// Reads so many bytes at a place into a buffer, which is then as long.
-pub fn read_record<D: Disk>(
-    disk: &mut D,
-    buffer: &mut Vec<u8>,
-    at: u64,
-    length: usize,
-) -> Result<(), ReadWhy>
-    requires { at + length ≤ D.size_of disk.old }
-    ensures long { OnOk result (vec_len buffer.new ≡ length) }
-    ensures bytes { OnOk result (IfSome (D.content disk.old)
-        (λ bytes. buffer.new.items ≡ part at length bytes)) }
-    ensures read { OnlyRead D.Disk disk.old disk.new }
-    ensures counts { HasCause (D.faults disk.old) (D.faults disk.new) (IsErrOf result ReadWhy.Fault) }
-{
-    buffer.resize(length, 0)?;
-    disk.read(at, buffer.as_mut_slice())?;
-    Ok(())
 }
 
 /// The first 8 bytes of a device.

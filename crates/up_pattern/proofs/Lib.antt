@@ -2,8 +2,6 @@ pub mod Stars
 pub mod Ranges
 pub mod Parts
 pub mod Lexing
-pub mod Spellings
-pub mod LiteralLaws
 pub mod Closing
 pub mod Literals
 pub mod ByPieces

@@ -33,17 +33,17 @@ all_fine (c ∷ cs) valid allowed =
     and_from (is_fine c) (list_all is_fine cs) (and_from (scalar c) _ v.0 a.0) (all_fine cs v.1 a.1)
 
 -- what stands behind x, where there is a list
-pub prepended_rest : {X : Type 0} (x : X) (more : Option (List X)) (all : List X) → prepended (x ∷ []) more ≡ Some all
+prepended_rest : {X : Type 0} (x : X) (more : Option (List X)) (all : List X) → prepended (x ∷ []) more ≡ Some all
     → (rest : List X) × (more ≡ Some rest) × (all ≡ x ∷ rest)
 prepended_rest x None all found = cc found
 prepended_rest x (Some rest) all found = (rest, refl, cc found)
 
-pub appended_rest : {X : Type 0} (xs : List X) (more : Option (List X)) (all : List X) → prepended xs more ≡ Some all
+appended_rest : {X : Type 0} (xs : List X) (more : Option (List X)) (all : List X) → prepended xs more ≡ Some all
     → (rest : List X) × (more ≡ Some rest) × (all ≡ xs ++ rest)
 appended_rest xs None all found = cc found
 appended_rest xs (Some rest) all found = (rest, refl, cc found)
 
-pub in_front_rest : {X : Type 0} (first : Option X) (more : Option (List X)) (all : List X) → in_front first more ≡ Some all
+in_front_rest : {X : Type 0} (first : Option X) (more : Option (List X)) (all : List X) → in_front first more ≡ Some all
     → (x : X) × (rest : List X) × (first ≡ Some x) × (more ≡ Some rest) × (all ≡ x ∷ rest)
 in_front_rest None more all found = cc found
 in_front_rest (Some x) more all found = let r = prepended_rest x more all found in (x, r.0, refl, r.1, r.2)

@@ -1,8 +1,6 @@
 pub mod Matching
 pub mod Elements
 pub mod Reading
-pub mod Spelling
-pub mod Laws
 pub mod Patterns
 pub mod PatternGives
 pub use Rattle.up_names.specs.PathNames

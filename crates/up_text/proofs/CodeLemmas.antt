@@ -16,7 +16,7 @@ glyph-high d small = grind (arith, nat_tests)
 glyph-value : (d : ℕ) → d < 16 → digit_value (digit_glyph true d) ≡ d
 glyph-value d small = grind (arith, nat_tests)
 
-pub glyph-whole : (d : ℕ) → d < 16 → ends_word (digit_glyph true d) ≡ false
+glyph-whole : (d : ℕ) → d < 16 → ends_word (digit_glyph true d) ≡ false
 glyph-whole d small =
     let glyph = digit_glyph true d in
     let high = glyph-high d small in
@@ -27,7 +27,7 @@ pair-values : (high low : ℕ) → high < 16 → low < 16 → cond (nat_lt high 
 pair-values high low h l =
     ap (λ test. cond test (Some (16 * high + low)) None) (and_from (nat_lt high 16) (nat_lt low 16) (lt-ltb high 16 h) (lt-ltb low 16 l))
 
-pub pair-digits : (b : ℕ) → b < 256 → pair_byte (digit_glyph true (b / 16)) (digit_glyph true (b % 16)) ≡ Some b
+pair-digits : (b : ℕ) → b < 256 → pair_byte (digit_glyph true (b / 16)) (digit_glyph true (b % 16)) ≡ Some b
 pair-digits b small =
     let high : b / 16 < 16 = omega arith in
     let low : b % 16 < 16 = omega arith in
@@ -37,10 +37,10 @@ pair-digits b small =
     ∙ pair-values (b / 16) (b % 16) high low ∙ ap Some whole
 
 -- which bytes are coded
-pub coded-small : (b : ℕ) → is_coded b ≡ true → b < 256
+coded-small : (b : ℕ) → is_coded b ≡ true → b < 256
 coded-small b is = grind (arith, nat_tests)
 
-pub plain-whole : (b : ℕ) → is_coded b ≡ false → (ends_word b ≡ false) × (is_percent b ≡ false)
+plain-whole : (b : ℕ) → is_coded b ≡ false → (ends_word b ≡ false) × (is_percent b ≡ false)
 plain-whole b plain =
     let both = or_parts (nat_le b 32 || is_percent b) (b == 127) plain in
     let first = or_parts (nat_le b 32) (is_percent b) both.0 in
@@ -48,7 +48,7 @@ plain-whole b plain =
     (or_from (b == 32) (b == 10) (ne_eqb b 32 (λ is. omega (arith, is, high))) (ne_eqb b 10 (λ is. omega (arith, is, high))), first.1)
 
 -- the bytes of the word for a text stand for the text
-pub decoded-byte : (b : ℕ) (bs word : List ℕ) (test : Bool) → is_coded b ≡ test → decoded_bytes word ≡ Some bs → decoded_bytes (cond test (37 ∷ digit_glyph true (b / 16) ∷ digit_glyph true (b % 16) ∷ []) (b ∷ []) ++ word) ≡ Some (b ∷ bs)
+decoded-byte : (b : ℕ) (bs word : List ℕ) (test : Bool) → is_coded b ≡ test → decoded_bytes word ≡ Some bs → decoded_bytes (cond test (37 ∷ digit_glyph true (b / 16) ∷ digit_glyph true (b % 16) ∷ []) (b ∷ []) ++ word) ≡ Some (b ∷ bs)
 decoded-byte b bs word true is rest =
     decoded-pair (digit_glyph true (b / 16)) (digit_glyph true (b % 16)) b word (pair-digits b (coded-small b is)) ∙ ap (option_map (λ text. b ∷ text)) rest
 decoded-byte b bs word false is rest =
@@ -59,7 +59,7 @@ decoded_bytes-coded [] = decoded-nil
 decoded_bytes-coded (b ∷ bs) = decoded-byte b bs (flat_map coded_byte bs) (is_coded b) refl (decoded_bytes-coded bs)
 
 -- no space or LF stands in it
-pub whole-byte : (b : ℕ) (word : List ℕ) (test : Bool) → is_coded b ≡ test → list_any ends_word word ≡ false → list_any ends_word (cond test (37 ∷ digit_glyph true (b / 16) ∷ digit_glyph true (b % 16) ∷ []) (b ∷ []) ++ word) ≡ false
+whole-byte : (b : ℕ) (word : List ℕ) (test : Bool) → is_coded b ≡ test → list_any ends_word word ≡ false → list_any ends_word (cond test (37 ∷ digit_glyph true (b / 16) ∷ digit_glyph true (b % 16) ∷ []) (b ∷ []) ++ word) ≡ false
 whole-byte b word true is rest =
     let small = coded-small b is in
     let high : b / 16 < 16 = omega arith in
@@ -75,15 +75,15 @@ some-coded : (b : ℕ) (word : List ℕ) (test : Bool) → 0 < length (cond test
 some-coded b word true = omega arith
 some-coded b word false = omega arith
 
-pub decoded-dash_word : decoded (codes "-") ≡ Some []
+decoded-dash_word : decoded (codes "-") ≡ Some []
 unfolding decoded
 decoded-dash_word = refl
 
-pub decoded-coded_dash : decoded (codes "%2D") ≡ Some (codes "-")
+decoded-coded_dash : decoded (codes "%2D") ≡ Some (codes "-")
 unfolding decoded decoded_bytes
 decoded-coded_dash = refl
 
-pub decoded_bytes-dash : decoded_bytes (45 ∷ []) ≡ Some (45 ∷ [])
+decoded_bytes-dash : decoded_bytes (45 ∷ []) ≡ Some (45 ∷ [])
 unfolding decoded_bytes
 decoded_bytes-dash = refl
 

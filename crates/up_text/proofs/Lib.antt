@@ -4,6 +4,4 @@ pub mod WordLemmas
 pub mod CodeLemmas
 pub mod NumberLemmas
 pub mod IntLemmas
-pub mod FitLemmas
-pub mod ListLemmas
 mod Examples

@@ -1,6 +1,6 @@
 -- How a script is cut into lines, which of them say nothing, and how a line is cut into words.
-use Rattle.std.specs.Prelude.{ℕ, Bool, true, ◌==◌, List, [], ◌∷◌, Option, None, Some, length, if◌then◌else◌, ◌++◌, codes}
-use Rattle.std.specs.List.{flat_map, join_by, slice_split}
+use Rattle.std.specs.Prelude.{ℕ, Bool, true, ◌==◌, List, [], ◌∷◌, Option, None, Some, length, if◌then◌else◌}
+use Rattle.std.specs.List.{slice_split}
 
 -- this project's own: LF ends a line
 abbrev pub is_line_end : ℕ → Bool
@@ -34,11 +34,3 @@ line_words line = slice_split is_space line
 abbrev pub words_left : Option (List ℕ) → List (List ℕ)
 words_left None = []
 words_left (Some rest) = line_words rest
-
--- words of output, each behind a space
-abbrev pub behind_spaces : List (List ℕ) → List ℕ
-behind_spaces words = flat_map (λ word. codes " " ++ word) words
-
--- a line of output: its words, parted by single spaces
-abbrev pub spaced : List (List ℕ) → List ℕ
-spaced words = join_by (λ word. word) (codes " ") words

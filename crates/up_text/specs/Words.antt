@@ -49,29 +49,12 @@ decoded word =
 abbrev pub is_coded : ℕ → Bool
 is_coded b = nat_le b 32 || is_percent b || b == 127
 
--- `%` and the two upper-case digits of a byte
-abbrev pub escape : ℕ → List ℕ
-escape b = 37 ∷ digit_glyph true (b / 16) ∷ digit_glyph true (b % 16) ∷ []
-
--- a byte in output
+-- a byte in output: a coded one is `%` and its two upper-case digits
 abbrev pub coded_byte : ℕ → List ℕ
-coded_byte b = if is_coded b then escape b else b ∷ []
-
--- this project's own: inside a block's fields and in lists of endpoints `:` and `,` are coded too
-abbrev pub parts_fields : ℕ → Bool
-parts_fields b = b == 58 || b == 44
-
-abbrev pub field_byte : ℕ → List ℕ
-field_byte b = if parts_fields b then escape b else coded_byte b
+coded_byte b = if is_coded b then 37 ∷ digit_glyph true (b / 16) ∷ digit_glyph true (b % 16) ∷ [] else b ∷ []
 
 -- this project's own: the word for a text in output; the empty text is `-`, and the text `-` is `%2D`
 unfoldable pub coded : List ℕ → List ℕ
 coded text =
     if length text == 0 then codes "-"
     else (if bytes_eq text (codes "-") then codes "%2D" else flat_map coded_byte text)
-
--- the same inside a block's fields and in lists of endpoints
-unfoldable pub field : List ℕ → List ℕ
-field text =
-    if length text == 0 then codes "-"
-    else (if bytes_eq text (codes "-") then codes "%2D" else flat_map field_byte text)

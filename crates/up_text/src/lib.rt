@@ -1,27 +1,14 @@
-//! The text that the programs read and write: lines, words, and the numbers that words are; and what the lines of a script ask.
+//! The text that the programs read and write: lines, words, and the numbers that words are.
 //!
 //! [`read_word`], [`word_text`], [`read_num`] and [`read_int`] accept exactly the words of the format, with exactly their
 //! value; what [`write_word`] gives is read again as the text (`read_again`). [`next_line`], [`cut_word`] and their kin give
 //! exactly the lines and words of the definitions.
-//!
-//! [`read_request`] gives exactly what the words of a line ask, and [`read_client_line`] what they have the client do;
-//! [`is_request`] says whether they are such a line at all, which does not depend on who asks.
-//! [`reply_lines`] gives exactly the lines that tell a reply.
 #![tactic(auto)]
 
-mod entries;
-mod fault;
-mod fitting;
 mod lines;
-mod lists;
 mod numbers;
-mod replies;
-mod requests;
 mod words;
 
-pub use fitting::is_request;
 pub use lines::{cut_word, is_silent, next_line, one_word, three_words, two_words};
 pub use numbers::{read_int, read_num};
-pub use replies::reply_lines;
-pub use requests::{ClientLine, read_client_line, read_request};
 pub use words::{push_word, read_word, word_text, write_word};

@@ -81,7 +81,7 @@ pub fn three_words(rest: Option<&[u8]>) -> Option<(&[u8], &[u8], &[u8])>
 }
 
 /// The place of the first byte that is `wanted`.
-pub(crate) fn place_of(wanted: u8, bytes: &[u8]) -> Option<usize>
+fn place_of(wanted: u8, bytes: &[u8]) -> Option<usize>
     ensures { result ≡ position (λ b. b == wanted) bytes.now }
 {
     memchr(wanted, bytes)

@@ -1,10 +1,10 @@
 //! Words: what text a word stands for, and the word that stands for a text in output.
 
-ghost use Rattle.std.specs.Prelude.{◌≡◌, ◌++◌, ◌∷◌, ◌<◌, ◌||◌, None, Some, is_some, option_map, length, take, IfSome, IfNone, IfOk, IsOk, OnOk, OnErr, is_ok, if◌then◌else◌, true, false};
+ghost use Rattle.std.specs.Prelude.{◌≡◌, ◌++◌, ◌∷◌, ◌<◌, ◌||◌, None, Some, option_map, length, take, IfSome, IfNone, IfOk, IsOk, OnOk, OnErr, is_ok, if◌then◌else◌, true, false};
 ghost use Rattle.std.specs.Cow.{cow_slice_items};
 ghost use Rattle.std.specs.Fmt.{digit_glyph};
 ghost use Rattle.std.specs.List.{flat_map, list_any};
-ghost use Rattle.up_text.specs.Words.{coded, coded_byte, decoded, decoded_bytes, ends_word, escape, field, field_byte, is_coded, is_percent, pair_byte};
+ghost use Rattle.up_text.specs.Words.{coded, coded_byte, decoded, decoded_bytes, ends_word, is_coded, is_percent, pair_byte};
 
 use memchr::{memchr2, memchr3};
 use std::alloc::{AllocError, Global};
@@ -84,30 +84,6 @@ fn decode(alloc: Global, bytes: &[u8]) -> Result<Option<Vec<u8>>, AllocError>
         rest = after;
     }
     Ok(Some(text))
-}
-
-/// Whether a text is a word, one that stands for some text. It takes no memory.
-pub(crate) fn is_word(word: &[u8]) -> bool
-    ensures { result ≡ is_some (decoded word.now) }
-{
-    if has_marks(word) {
-        return !has_end(word) && has_pairs(word);
-    }
-    !word.is_empty()
-}
-
-/// Whether two hexadecimal digits stand behind each `%`.
-fn has_pairs(bytes: &[u8]) -> bool
-    ensures { result ≡ is_some (decoded_bytes bytes.now) }
-{
-    let mut rest = bytes;
-    while !rest.is_empty() {
-        let Some((_, after)) = next_byte(rest) else {
-            return false;
-        };
-        rest = after;
-    }
-    true
 }
 
 /// The byte that the front of a word stands for, and what is left of the word. `None` where the word is empty, or
@@ -215,52 +191,9 @@ fn push_byte(out: &mut Vec<u8>, byte: u8) -> Result<(), AllocError>
     ensures { out.new.items ≡ (if is_ok result then out.old.items ++ coded_byte byte else out.old.items) }
 {
     if byte <= b' ' || byte == b'%' || byte == 0x7F {
-        push_escape(out, byte)
+        out.extend_from_slice(&[b'%', upper_digit(byte / 16), upper_digit(byte % 16)])
     } else {
         out.extend_from_slice(&[byte])
-    }
-}
-
-/// Adds `%` and the digits of a byte. An `Err` leaves `out` as it was.
-fn push_escape(out: &mut Vec<u8>, byte: u8) -> Result<(), AllocError>
-    ensures { out.new.items ≡ (if is_ok result then out.old.items ++ escape byte else out.old.items) }
-{
-    out.extend_from_slice(&[b'%', upper_digit(byte / 16), upper_digit(byte % 16)])
-}
-
-/// Adds the word that stands for a text inside a block's fields and in lists of endpoints, in which `:` and `,` are coded too.
-/// An `Err` may leave a front of the word behind.
-#[tactic(auto, unfolding(crate::specs::Words::field))]
-pub(crate) fn push_field(out: &mut Vec<u8>, text: &[u8]) -> Result<(), AllocError>
-    ensures { OnOk result (out.new.items ≡ out.old.items ++ field text.now) }
-{
-    if text.is_empty() {
-        return out.extend_from_slice(b"-");
-    }
-    if text == b"-".as_slice() {
-        return push_escape(out, b'-');
-    }
-    push_field_bytes(out, text)
-}
-
-/// Adds each byte of a text as it is coded in a field. An `Err` may leave some of them behind.
-fn push_field_bytes(out: &mut Vec<u8>, text: &[u8]) -> Result<(), AllocError>
-    ensures { OnOk result (out.new.items ≡ out.old.items ++ flat_map field_byte text.now) }
-{
-    for byte in text {
-        push_field_byte(out, *byte)?;
-    }
-    Ok(())
-}
-
-/// Adds a byte as it is coded in a field. An `Err` leaves `out` as it was.
-fn push_field_byte(out: &mut Vec<u8>, byte: u8) -> Result<(), AllocError>
-    ensures { out.new.items ≡ (if is_ok result then out.old.items ++ field_byte byte else out.old.items) }
-{
-    if byte == b':' || byte == b',' {
-        push_escape(out, byte)
-    } else {
-        push_byte(out, byte)
     }
 }
 

@@ -1,7 +1,5 @@
 //! Commands of a disk.
 use super::on_journal::add_log_of;
-use super::on_keys::add_key_logs;
-use super::on_store::add_stores;
 use super::others::{add_hooks, add_lists};
 use super::watched::Watched;
 use crate::answer::Answer;
@@ -55,9 +53,6 @@ fn plain_turn(
         "images" => add_images(alloc, &disk.disk, answer)?,
         "logs" => add_logs(alloc, &disk.disk, answer)?,
         "noted" => add_noted(alloc, &disk.noted, answer)?,
-        "kept" => add_kept(alloc, &disk.noted, answer)?,
-        "stores" => add_stores(alloc, &disk.disk, answer)?,
-        "keylogs" => add_key_logs(alloc, &disk.disk, answer)?,
         "watch" => watch(alloc, disk, answer)?,
         "lists" => add_lists(alloc, answer)?,
         "hooks" => add_hooks(alloc, answer)?,
@@ -177,14 +172,6 @@ fn add_logs(alloc: Global, disk: &MemDisk, answer: &mut Answer) -> Result<(), Al
 fn add_noted(alloc: Global, noted: &[MemDisk], answer: &mut Answer) -> Result<(), AllocError> {
     for kept in noted {
         add_log_of(alloc, kept.image(0)?, answer);
-    }
-    Ok(())
-}
-
-// The contents of images that were kept.
-fn add_kept(alloc: Global, noted: &[MemDisk], answer: &mut Answer) -> Result<(), AllocError> {
-    for kept in noted {
-        add_image(alloc, kept, 0, answer)?;
     }
     Ok(())
 }

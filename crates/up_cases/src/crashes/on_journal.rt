@@ -39,7 +39,6 @@ pub fn turn(
         "payload" => payload_line(running, words, answer)?,
         "resolve" => add_outcome(running.journal.resolve(), answer),
         "log" => add_log(&mut running.journal, answer),
-        "head" => answer.digits(running.journal.head().bytes()),
         _ => return Ok(false),
     }
     Ok(true)

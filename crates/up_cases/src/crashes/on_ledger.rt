@@ -4,7 +4,7 @@ use super::watched::Watched;
 use crate::answer::Answer;
 use crate::fault::Fault;
 use crate::words::Words;
-use up_ledger::{Entry, EntryWhy, Ledger};
+use up_ledger::{EntryWhy, Ledger};
 
 /// Does one command of a ledger, or answers `false` where it is none.
 pub fn turn(
@@ -17,7 +17,6 @@ pub fn turn(
         "withdraw" => add_entered(ledger.withdraw(words.last_number()?), answer),
         "resolve" => add_outcome(ledger.resolve(), answer),
         "balance" => add_balance(ledger, answer),
-        "entry" => add_entry(ledger.entry(words.last_number()?), answer),
         _ => return Ok(false),
     }
     Ok(true)
@@ -46,18 +45,4 @@ fn add_balance(ledger: &Ledger<Watched>, answer: &mut Answer) {
     answer.push(",");
     answer.word("entries");
     answer.number(ledger.len());
-}
-
-fn add_entry(entry: Option<&Entry>, answer: &mut Answer) {
-    match entry {
-        Some(Entry::Deposit(amount)) => {
-            answer.word("deposit");
-            answer.number(*amount);
-        }
-        Some(Entry::Withdraw(amount)) => {
-            answer.word("withdraw");
-            answer.number(*amount);
-        }
-        None => answer.word("none"),
-    }
 }

@@ -1,31 +1,28 @@
 //! What commands work with.
-ghost use Rattle.std.specs.Prelude.{◌≡◌, ◌<◌, ◌≤◌, ◌^◌, min, IfOk};
+ghost use Rattle.std.specs.Prelude.{◌≡◌, ◌≤◌, min, IfOk};
 ghost use Rattle.up_journal.specs.Journal.{AreLimits};
+ghost use Rattle.up_ledger.specs.Entries.{largest_record};
 
 use super::on_disk::new_disk;
 use super::on_journal::Running;
 use super::watched::Watched;
-use super::{on_disk, on_journal, on_keys, on_ledger, on_store};
+use super::{on_disk, on_journal, on_ledger};
 use crate::answer::Answer;
 use crate::fault::Fault;
 use crate::words::Words;
 use std::alloc::Global;
-use up_blocks::Blocks;
 use up_journal::{Journal, Limits};
-use up_keys::Keys;
 use up_ledger::Ledger;
 
-/// A disk, or a journal, a ledger, a store or a key server's log on it.
+/// A disk, or a journal or a ledger on it.
 #[derive(Drop)]
 pub enum Stage {
     Disk(Watched),
     Journal(Running),
     Ledger(Ledger<Watched>),
-    Store(Blocks<Watched>),
-    Keys(Keys<Watched>),
 }
 
-/// Does one command. A command of a disk ends what stands on it.
+/// Does one command. A command of a disk ends a journal or a ledger.
 pub fn stage_turn(
     alloc: Global,
     stage: Stage,
@@ -36,8 +33,6 @@ pub fn stage_turn(
         Stage::Disk(disk) => disk_turn(alloc, disk, words, answer),
         Stage::Journal(running) => journal_turn(alloc, running, words, answer),
         Stage::Ledger(ledger) => ledger_turn(alloc, ledger, words, answer),
-        Stage::Store(store) => store_turn(alloc, store, words, answer),
-        Stage::Keys(keys) => keys_turn(alloc, keys, words, answer),
     }
 }
 
@@ -65,30 +60,6 @@ fn ledger_turn(
     disk_turn(alloc, ledger.into_disk(), words, answer)
 }
 
-fn store_turn(
-    alloc: Global,
-    mut store: Blocks<Watched>,
-    words: Words<'_>,
-    answer: &mut Answer,
-) -> Result<Stage, Fault> {
-    if on_store::turn(alloc, &mut store, words, answer)? {
-        return Ok(Stage::Store(store));
-    }
-    disk_turn(alloc, store.into_disk(), words, answer)
-}
-
-fn keys_turn(
-    alloc: Global,
-    mut keys: Keys<Watched>,
-    words: Words<'_>,
-    answer: &mut Answer,
-) -> Result<Stage, Fault> {
-    if on_keys::turn(alloc, &mut keys, words, answer)? {
-        return Ok(Stage::Keys(keys));
-    }
-    disk_turn(alloc, keys.into_disk(), words, answer)
-}
-
 // Does one command of a disk.
 fn disk_turn(
     alloc: Global,
@@ -99,8 +70,6 @@ fn disk_turn(
     match words.word()? {
         "open" => open(alloc, disk, limits_of(words)?, answer),
         "ledger" => open_ledger(alloc, disk, limits_of(words)?, answer),
-        "store" => open_store(alloc, disk, limits_of(words)?, answer),
-        "keys" => open_keys(alloc, disk, limits_of(words)?, answer),
         "fail" => fail(alloc, words, answer),
         "crash" => crash(alloc, &disk, words, answer),
         keyword => stay(alloc, disk, keyword, words, answer),
@@ -139,8 +108,8 @@ fn crash(
     Ok(Stage::Disk(Watched::new(alloc, image)))
 }
 
-/// The limits that three numbers are.
-pub fn limits_of(mut words: Words<'_>) -> Result<Limits, Fault>
+// The limits that three numbers are.
+fn limits_of(mut words: Words<'_>) -> Result<Limits, Fault>
     ensures { IfOk result (λ limits. AreLimits limits) }
 {
     let records = words.number()?;
@@ -185,7 +154,7 @@ fn open_ledger(
 ) -> Result<Stage, Fault>
     requires { AreLimits limits }
 {
-    match Ledger::open(alloc, disk, with_room(limits, 11)) {
+    match Ledger::open(alloc, disk, with_room(limits)) {
         Ok(ledger) => {
             answer.word("ledger");
             answer.number(ledger.len());
@@ -198,59 +167,14 @@ fn open_ledger(
     }
 }
 
-// Opens a store, or keeps the disk that is handed back.
-fn open_store(
-    alloc: Global,
-    disk: Watched,
-    limits: Limits,
-    answer: &mut Answer,
-) -> Result<Stage, Fault>
+// The limits, with room for each record of a ledger.
+fn with_room(limits: Limits) -> Limits
     requires { AreLimits limits }
-{
-    match Blocks::open(alloc, disk, with_room(limits, on_store::LARGEST)) {
-        Ok(store) => {
-            answer.word("store");
-            answer.number(store.position());
-            Ok(Stage::Store(store))
-        }
-        Err(fault) => {
-            on_journal::add_open_fault(fault.why, answer);
-            Ok(Stage::Disk(fault.disk))
-        }
-    }
-}
-
-// Opens a key server's log, or keeps the disk that is handed back.
-fn open_keys(
-    alloc: Global,
-    disk: Watched,
-    limits: Limits,
-    answer: &mut Answer,
-) -> Result<Stage, Fault>
-    requires { AreLimits limits }
-{
-    match Keys::open(alloc, disk, with_room(limits, on_keys::ROOM)) {
-        Ok(keys) => {
-            answer.word("keys");
-            answer.number(keys.position());
-            Ok(Stage::Keys(keys))
-        }
-        Err(fault) => {
-            on_journal::add_open_fault(fault.why, answer);
-            Ok(Stage::Disk(fault.disk))
-        }
-    }
-}
-
-// The limits, with room for a payload of so many bytes.
-fn with_room(limits: Limits, room: u64) -> Limits
-    requires limits { AreLimits limits }
-    requires room { room < 2 ^ 32 }
     ensures limits { AreLimits result }
-    ensures room { room ≤ result.largest }
+    ensures room { largest_record ≤ result.largest }
 {
     Limits {
-        largest: limits.largest.max(room),
+        largest: limits.largest.max(11),
         ..limits
     }
 }

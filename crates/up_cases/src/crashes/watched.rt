@@ -58,12 +58,9 @@ fn images_of(alloc: Global, disk: &MemDisk) -> Result<Vec<MemDisk>, AllocError> 
     Ok(images)
 }
 
-// Counts a read of each of these bytes, as far as they are counted at all.
+// Counts a read of each of these bytes.
 fn touch(seen: &mut [u8], at: usize, size: usize) {
-    if at > seen.len() {
-        return;
-    }
-    for times in seen[at..].iter_mut().take(size) {
+    for times in seen.iter_mut().skip(at).take(size) {
         *times = times.saturating_add(1);
     }
 }

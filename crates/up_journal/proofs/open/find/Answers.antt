@@ -1,9 +1,10 @@
-use Rattle.std.proofs.Common.{◌≡◌, drop, false, is_some, IfSome, ◌∙◌, ap, arith}
+use Rattle.std.proofs.Common.{◌≡◌, ◌≤◌, drop, false, is_some, IfSome, inl, inr, sym, ◌∙◌, ap, arith}
+use Rattle.up_disk.proofs.Moments.{goes_on, joined, started, weaker}
 use Rattle.up_journal.specs.Format2.{format2}
 use Rattle.up_journal.specs.Gates.{is_open}
 use Rattle.up_journal.specs.Kept.{AreGates, log_seen}
 use Rattle.up_journal.specs.Opened.{IsLogOf}
-use Rattle.up_journal.proofs.Opened.{begun_opened, gates_closed, if_ok_both, kept_new, log_new, sized_as}
+use Rattle.up_journal.proofs.Opened.{as_content, begun_opened, gates_closed, if_ok_both, kept_new, log_new, read_as, sized_as}
 use Rattle.up_journal.proofs.open.find.Goals as goal
 
 pub returns-in_err-start-clause-opened : goal.returns-in_err-start-clause-opened

@@ -4,6 +4,7 @@ use Rattle.sha2.proofs.Facts256.{length-sha256}
 use Rattle.up_disk.specs.Disk.{part}
 use Rattle.up_journal.specs.Format2.{format2, log_of}
 use Rattle.up_journal.specs.Reading.{gate_at}
+use Rattle.up_journal.specs.declared.limits.Span.{Span}
 use Rattle.up_journal.specs.declared.read.Gate.{Gate}
 use Rattle.up_journal.proofs.Kept.{is_format2}
 use Rattle.up_journal.proofs.Opened.{as_content, chain_is, damaged_is, gates_broken, gates_unlinked, next_at, record_at, sized_as}

@@ -1,6 +1,7 @@
 use Rattle.std.proofs.Common.{◌≡◌, is_some, None, ◌∙◌, ap}
 use Rattle.std.proofs.lemmas.Result.{on_ok_weaker}
 use Rattle.up_journal.proofs.Runs.{begins, goes, fewer, synced_behind, told_map, told_step, wrote_behind}
+use Rattle.up_disk.specs.Disk.{written}
 use Rattle.up_journal.proofs.record.write_behind.Goals as goal
 
 pub returns-in_err-write_at-clause-any_moment : goal.returns-in_err-write_at-clause-any_moment

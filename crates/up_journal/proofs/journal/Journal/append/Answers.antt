@@ -1,6 +1,7 @@
-use Rattle.std.proofs.Common.{◌≡◌, ◌≤◌, ◌+◌, [], ◌∷◌, ◌++◌, List, length, option_map, refl, sym, ◌∙◌, ap, subst, arith}
+use Rattle.std.proofs.Common.{◌≡◌, ◌≤◌, ◌<◌, ◌+◌, ◌-◌, ◌^◌, [], ◌∷◌, ◌++◌, List, length, false, None, option_map, refl, sym, ◌∙◌, ap, subst, arith}
 use Rattle.up_refs.specs.Sha256.{sha256}
 use Rattle.up_disk.specs.Disk.{written}
+use Rattle.up_journal.specs.Format2.{head_size}
 use Rattle.up_journal.specs.Gates.{behind_gate}
 use Rattle.up_journal.specs.Journal.{gate_behind}
 use Rattle.up_journal.specs.Kept.{sizes_of}
@@ -8,7 +9,7 @@ use Rattle.up_journal.specs.declared.limits.Limits.{Limits}
 use Rattle.up_journal.specs.declared.limits.Span.{Span}
 use Rattle.up_journal.proofs.Appended.{Appended, Refused, appended, on_err, record_front, refused, small_by}
 use Rattle.up_journal.proofs.Kept.{kept_gate, still_crash}
-use Rattle.up_journal.proofs.Bases.{length-behind_gate}
+use Rattle.up_journal.proofs.Moved.{length-behind_gate}
 use Rattle.up_journal.proofs.journal.Journal.append.Given.{Over}
 use Rattle.up_journal.proofs.journal.Journal.append.Goals as goal
 

@@ -1,4 +1,4 @@
-use Rattle.std.proofs.Common.{◌-◌, ap, arith}
+use Rattle.std.proofs.Common.{◌-◌, Some, ap, arith}
 use Rattle.std.proofs.lemmas.Result.{IfOk-weaker}
 use Rattle.up_journal.proofs.Kept.{read_crash}
 use Rattle.up_journal.proofs.Spans.{behind_within, seen_at, tail_size, tail_told, within_at}

@@ -1,4 +1,4 @@
-use Rattle.std.proofs.Common.{ap, is_some}
+use Rattle.std.proofs.Common.{◌≡◌, ap, is_some, ◌∙◌, sym}
 use Rattle.up_journal.proofs.Kept.{kept_gate}
 use Rattle.up_journal.proofs.Settled.{Resolved, closed_at, on_err_both, resolved}
 use Rattle.up_journal.proofs.journal.Journal.resolve.Given.{Over}

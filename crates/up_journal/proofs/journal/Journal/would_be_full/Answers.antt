@@ -1,4 +1,4 @@
-use Rattle.std.proofs.Common.{◌∙◌, arith}
+use Rattle.std.proofs.Common.{◌∙◌, arith, length}
 use Rattle.std.proofs.lemmas.List.{length-map}
 use Rattle.up_journal.specs.Kept.{sizes_of}
 use Rattle.up_journal.specs.declared.limits.Span.{Span}

@@ -1,4 +1,0 @@
-pub mod Given
-pub mod Indexed
-pub mod Replayed
-pub mod Stored

@@ -1,3 +1,0 @@
-pub mod Damages
-pub mod Putting
-pub mod Spelled

@@ -1,8 +1,0 @@
-use Rattle.up_journal.proofs.Logs.{keeps_safe}
-use Rattle.up_keys.specs.Records.{decoded, fits}
-use Rattle.up_wire.specs.Keys.{logged}
-use Rattle.up_keys.proofs.keys.Keys.into_disk.Goals as goal
-
-pub returns-clause-safe : goal.returns-clause-safe
-returns-clause-safe g c =
-    rw (c.into_disk.ensures.disk, ← c.self.view_is) (keeps_safe g.D.Disk decoded fits logged c.self.inside.journal c.self.inside.records.items c.self.invariant.keeps)
