@@ -1,21 +1,23 @@
 -- Access texts that are kept by canonical texts are the list that is seen.
-use Rattle.std.proofs.Common.{◌≡◌, Bool, true, false, cond, ◌&&◌, List, [], ◌∷◌, refl, sym, ap, subst, ◌∙◌, ℕ, Global, Some}
+use Rattle.std.proofs.Common.{◌≡◌, Bool, true, false, cond, ◌&&◌, List, [], ◌∷◌, refl, sym, ap, subst, ◌∙◌, ℕ, ◌<◌, ◌≤◌, length, Global, Some, None, ◌⊎◌, inl, inr}
 use Rattle.std.specs.List.{list_all}
 use Rattle.std.specs.Map.{lookup}
 use Rattle.std.specs.Str.{bytes_eq}
 use Rattle.std.specs.String.{string_bytes, string_eq}
 use Rattle.std.specs.declared.string.String.{String}
-use Rattle.std.proofs.lemmas.Bool.{and_parts, and_from, cond_both}
+use Rattle.std.proofs.lemmas.Bool.{and_parts, and_from, cases_Bool, cond_both, true≢false}
 use Rattle.std.proofs.lemmas.Bool.Decides.{same_from_decides}
 use Rattle.std.proofs.lemmas.Slice.Eq.{bytes_eq-Decides}
 use Rattle.indexmap.specs.IndexMap.{insert_entry}
 use Rattle.up_access.specs.declared.Rule.{Rule}
-use Rattle.up_names.specs.PathNames.{PathName, IsCanonical, canonical}
+use Rattle.up_names.specs.PathNames.{PathName, IsCanonical, canonical, cut}
 use Rattle.up_names.specs.PathOrder.{path_eq}
 use Rattle.up_names.specs.PathOrderLaws.{path_eq-Decides}
 use Rattle.up_names.specs.PathParts.{path_in}
 use Rattle.up_names.proofs.PathLaws.{path_in-canonical}
-use Rattle.up_policy.specs.Directories.{are_canonical, by_path, is_canonical, text_at}
+use Rattle.up_policy.specs.declared.marks.Marks.{Marks}
+use Rattle.up_policy.specs.Marks.{PassStill, may_have}
+use Rattle.up_policy.specs.Directories.{are_canonical, by_path, is_canonical, text_at, passes, all_pass}
 
 -- Two canonical texts are one exactly where their paths are one.
 same_text : (path : PathName) → IsCanonical path → (text : List ℕ) → bytes_eq text (canonical (path_in text)) ≡ true → path_eq path (path_in text) ≡ bytes_eq (canonical path) text
@@ -65,3 +67,31 @@ set_canonical (kept ∷ texts) all path c key is rules =
     cond_both (string_eq key kept.0) ((kept.0, rules) ∷ texts) (kept ∷ insert_entry string_eq texts key rules) (λ set. are_canonical set ≡ true)
     (λ _. and_from (is_canonical (kept.0, rules)) _ both.0 both.1)
     (λ _. and_from (is_canonical kept) _ both.0 (set_canonical texts both.1 path c key is rules))
+
+-- what passed passes still
+pub all_pass_still : (old new : Marks) → PassStill old new → (texts : List (String Global × List Rule)) → all_pass old texts ≡ true → all_pass new texts ≡ true
+all_pass_still old new still [] all = refl
+all_pass_still old new still (kept ∷ texts) all =
+    let both = and_parts (passes old kept) (all_pass old texts) all in
+    and_from (passes new kept) (all_pass new texts) (still (path_in (string_bytes kept.0)) both.0) (all_pass_still old new still texts both.1)
+
+-- a directory that passes is set
+pub set_passes : (marks : Marks) (texts : List (String Global × List Rule)) → all_pass marks texts ≡ true → (key : String Global) (rules : List Rule) → passes marks (key, rules) ≡ true →
+    all_pass marks (insert_entry string_eq texts key rules) ≡ true
+set_passes marks [] all key rules own = and_from (passes marks (key, rules)) true own refl
+set_passes marks (kept ∷ texts) all key rules own =
+    let both = and_parts (passes marks kept) (all_pass marks texts) all in
+    cond_both (string_eq key kept.0) ((kept.0, rules) ∷ texts) (kept ∷ insert_entry string_eq texts key rules) (λ set. all_pass marks set ≡ true)
+    (λ _. and_from (passes marks (kept.0, rules)) _ both.0 both.1)
+    (λ _. and_from (passes marks kept) _ both.0 (set_passes marks texts both.1 key rules own))
+
+-- where a directory does not pass, it has no text
+pub none_past : (marks : Marks) (texts : List (String Global × List Rule)) → all_pass marks texts ≡ true → (dir : PathName) → may_have marks dir ≡ false → text_at (by_path texts) dir ≡ None
+none_past marks [] all dir past = refl
+none_past marks (kept ∷ texts) all dir past =
+    let both = and_parts (passes marks kept) (all_pass marks texts) all in
+    let seen : PathName = path_in (string_bytes kept.0) in
+    elim (cases_Bool (path_eq dir seen)) [
+      | inl same ↦ absurd (true≢false (sym both.0 ∙ (ap (may_have marks) (sym ((path_eq-Decides dir seen).0 same)) ∙ past)))
+      | inr other ↦ ap (λ b. cond b (Some kept.1) (text_at (by_path texts) dir)) other ∙ none_past marks texts both.1 dir past
+    ]

@@ -81,3 +81,13 @@ first_text_above access path zero some none = absurd (omega arith)
 first_text_above access path (suc n) some none =
     let one_less : suc n - 1 ≡ n = omega arith in
     ap (λ found. option_or found (first_text access (prefixes_to n path))) none ∙ ap (λ m. first_text access (prefixes_to m path)) (sym one_less)
+
+-- prefixes that are longer than k and have no text may be left out
+pub first_text_to : (access : AccessTexts) (path : PathName) (k n : ℕ) → k ≤ n → ((m : ℕ) → k < m → m ≤ n → access (cut m path) ≡ None) → first_text access (prefixes_to k path) ≡ first_text access (prefixes_to n path)
+first_text_to access path k zero le none = let e : k ≡ 0 = omega arith in ap (λ m. first_text access (prefixes_to m path)) e
+first_text_to access path k (suc n) le none = elim (cases_lt n k) [
+  | inl last ↦ let e : k ≡ suc n = omega arith in ap (λ m. first_text access (prefixes_to m path)) e
+  | inr lower ↦
+      first_text_to access path k n lower (λ m more within. none m more (omega arith))
+      ∙ sym (ap (λ found. option_or found (first_text access (prefixes_to n path))) (none (suc n) (omega arith) (omega arith)))
+]

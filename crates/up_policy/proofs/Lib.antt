@@ -1,4 +1,5 @@
 pub mod PathLists
+pub mod MarkLemmas
 pub mod ReachedLemmas
 pub mod GovernorLemmas
 pub mod DirectoryLemmas

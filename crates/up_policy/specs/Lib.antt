@@ -1,6 +1,7 @@
 pub mod Trees
 pub mod Loadings
 pub mod Governors
+pub mod Marks
 pub mod Directories
 pub mod Members
 pub mod Reached

@@ -6,8 +6,9 @@ ghost use Rattle.indexmap.specs.IndexMap.{insert_entry};
 ghost use Rattle.up_names.specs.PathNames.{cut};
 ghost use Rattle.up_names.specs.PathOrder.{path_eq};
 ghost use Rattle.up_policy.specs.Directories.{text_at};
-ghost use Rattle.up_policy.specs.Governors.{first_text, prefixes};
+ghost use Rattle.up_policy.specs.Governors.{first_text, prefixes, prefixes_to};
 
+use crate::marks::Marks;
 use indexmap::IndexMap;
 use std::alloc::{AllocError, Global};
 use std::hash::RandomState;
@@ -20,17 +21,18 @@ use up_names::Path;
 pub(crate) struct Directories {
     /// By the canonical text of the directory.
     texts: IndexMap<String, AccessText, RandomState>,
+    /// Each directory that has a text passes.
+    marks: Marks,
 }
 
 impl Model for Directories {
-    ghost use Rattle.std.specs.Prelude.{◌≡◌, true};
-    ghost use Rattle.up_policy.specs.Directories.{AccessList, are_canonical, by_path};
+    ghost use Rattle.up_policy.specs.Directories.{AccessList, AreKept, by_path};
 
     ghost Value = { AccessList };
 
     ghost view = { λ directories. by_path directories.texts.entries };
 
-    ghost invariant = { λ directories. are_canonical directories.texts.entries ≡ true };
+    ghost invariant = { λ directories. AreKept directories.marks directories.texts.entries };
 }
 
 impl Directories {
@@ -40,6 +42,7 @@ impl Directories {
     {
         Directories {
             texts: IndexMap::with_hasher(alloc, random),
+            marks: Marks::new(alloc, random),
         }
     }
 
@@ -47,6 +50,7 @@ impl Directories {
     pub(crate) fn set(&mut self, dir: Path, text: AccessText) -> Result<(), AllocError>
         ensures { self.new ≡ (if is_ok result then insert_entry path_eq self.old dir text else self.old) }
     {
+        self.marks.note(&dir)?;
         self.texts.insert(dir.into_text(), text)?;
         Ok(())
     }
@@ -58,11 +62,12 @@ impl Directories {
         self.texts.get(dir.as_str())
     }
 
-    /// The text of the nearest directory that has one, from the path itself on the way to the root.
+    /// The text of the nearest directory that has one, from the path itself on the way to the root. It looks at the path's
+    /// text once to tell which of its prefixes may have one, and then hardly at another than that which has it.
     pub(crate) fn nearest(&self, path: &Path) -> Option<&AccessText>
         ensures { option_copied result ≡ first_text (text_at self.now) (prefixes path.now) }
     {
-        let mut len = path.len();
+        let mut len = self.longest(path);
         loop {
             if let Some(text) = self.at(path, len) {
                 return Some(text);
@@ -72,6 +77,15 @@ impl Directories {
             }
             len -= 1;
         }
+    }
+
+    /// How many elements of a path are to be looked at: no longer prefix has a text.
+    fn longest(&self, path: &Path) -> u64
+        ensures within { result ≤ length path.now.elements }
+        ensures same { first_text (text_at self.now) (prefixes_to result path.now)
+            ≡ first_text (text_at self.now) (prefixes path.now) }
+    {
+        self.marks.longest(path)
     }
 
     /// The text of the directory of a path's first `len` elements, where it has one.

@@ -19,13 +19,21 @@ pub(crate) fn owns_snapshots(owner: &User) -> bool
 }
 
 /// The text that governs a path, where one does.
-#[tactic(auto, unfolding(crate::specs::Governors::governor))]
 pub(crate) fn governor<'f, F: Facts>(facts: &'f F, path: &Path) -> Option<&'f AccessText>
     ensures { option_copied result ≡ governor (F.tree facts.now) path.now }
 {
-    if owns_snapshots(facts.owner()) {
-        None
-    } else {
-        facts.nearest(path)
-    }
+    governor_unless(owns_snapshots(facts.owner()), facts, path)
+}
+
+/// The same, where it is known whether the tree is a snapshot tree.
+#[tactic(auto, unfolding(crate::specs::Governors::governor))]
+pub(crate) fn governor_unless<'f, F: Facts>(
+    snapshots: bool,
+    facts: &'f F,
+    path: &Path,
+) -> Option<&'f AccessText>
+    requires { snapshots ≡ owns_snapshots (F.tree facts.now).owner }
+    ensures { option_copied result ≡ governor (F.tree facts.now) path.now }
+{
+    if snapshots { None } else { facts.nearest(path) }
 }

@@ -17,6 +17,7 @@ pub mod laws;
 mod load_answer;
 mod loaded;
 mod map_facts;
+mod marks;
 mod members;
 mod met;
 mod names;

@@ -2,6 +2,7 @@
 ghost use Rattle.std.specs.Prelude.{◌≡◌};
 ghost use Rattle.std.specs.List.{list_any};
 ghost use Rattle.std.specs.Option.{option_copied};
+ghost use Rattle.up_names.specs.UserNames.{domain_part};
 ghost use Rattle.up_policy.specs.Members.{is_user, items_in, text_of};
 
 use crate::facts::Facts;
@@ -9,23 +10,30 @@ use crate::loaded::Loaded;
 use up_group::GroupText;
 use up_names::{Item, Path, User};
 
-/// Whether an item is the user, the user's domain or everyone. No group is followed.
-fn is_user(item: &Item, user: &User) -> bool
+/// Whether an item is the user, the user's domain, which is handed in, or everyone. No group is followed.
+pub(crate) fn is_user(item: &Item, user: &User, domain: &str) -> bool
+    requires { domain.now ≡ domain_part user.now }
     ensures { result ≡ is_user user.now item.now }
 {
     match item {
         Item::Everyone => true,
-        Item::Domain(domain) => domain.text() == user.domain(),
+        Item::Domain(name) => name.text() == domain,
         Item::User(name) => name == user,
         Item::Group(_) => false,
     }
 }
 
 /// Whether one of the items is the user, the user's domain or everyone. No group is followed.
-pub(crate) fn has_user(items: &[Item], user: &User) -> bool
+pub(crate) fn has_user(items: &[Item], user: &User, domain: &str) -> bool
+    requires { domain.now ≡ domain_part user.now }
     ensures { result ≡ list_any (is_user user.now) items.now }
 {
-    items.iter().any(|item| is_user(item, user))
+    for item in items {
+        if is_user(item, user, domain) {
+            return true;
+        }
+    }
+    false
 }
 
 /// The items of the text of a group; none where it has no text.

@@ -1,16 +1,19 @@
 //! The groups that a search has met.
-ghost use Rattle.std.specs.Prelude.{◌≡◌, ◌<◌, ◌^◌, [], OnOk, OnSome, length, slice_get};
+ghost use Rattle.std.specs.Prelude.{◌≡◌, ◌<◌, ◌^◌, [], IfOk, OnOk, OnSome, false, length, slice_get};
+ghost use Rattle.std.specs.List.{list_any};
 ghost use Rattle.std.specs.Option.{option_copied, option_map};
-ghost use Rattle.up_policy.specs.Members.{groups_in};
+ghost use Rattle.up_names.specs.UserNames.{domain_part};
+ghost use Rattle.up_policy.specs.Members.{groups_in, is_user};
 ghost use Rattle.up_policy.specs.Reached.{groups_named, with_path, with_paths};
 ghost use Rattle.up_policy.specs.Verdicts.{items_by, items_for};
 
+use crate::members::is_user;
 use indexmap::IndexSet;
 use std::alloc::{AllocError, Global};
 use std::hash::RandomState;
 use std::marker::Model;
 use up_access::Rule;
-use up_names::{Item, Path};
+use up_names::{Item, Path, User};
 use up_rights::Right;
 
 /// The groups that a search has met, in order of first mention, without repeats. They stay where they are named, and
@@ -68,6 +71,29 @@ impl<'a> Met<'a> {
             }
         }
         Ok(())
+    }
+
+    /// Looks through the items of a group once: whether one is the user, the user's domain or everyone; and where none is,
+    /// adds the groups among them, in order.
+    pub(crate) fn look(
+        &mut self,
+        items: &'a [Item],
+        user: &User,
+        domain: &str,
+    ) -> Result<bool, AllocError>
+        requires { domain.now ≡ domain_part user.now }
+        ensures found { IfOk result (λ found. found ≡ list_any (is_user user.now) items.now) }
+        ensures added { IfOk result (λ found. found ≡ false → self.new ≡ with_paths self.old (groups_in items.now)) }
+    {
+        for item in items {
+            if is_user(item, user, domain) {
+                return Ok(true);
+            }
+            if let Item::Group(named) = item {
+                self.add(named)?;
+            }
+        }
+        Ok(false)
     }
 
     /// Adds the groups among the items of the rules that hold a right, in order.

@@ -13,7 +13,7 @@ ghost use Rattle.up_policy.specs.Reached.{reached};
 ghost use Rattle.up_policy.specs.Verdicts.{HasRight, is_control, items_for, only_looks, right_test, rights_held, text_decides, without_text};
 
 use crate::facts::Facts;
-use crate::governors::{governor, owns_snapshots};
+use crate::governors::{governor, governor_unless, owns_snapshots};
 use crate::loaded::Loaded;
 use crate::members::{has_user, items_in};
 use crate::met::Met;
@@ -59,11 +59,12 @@ fn right_test<F: Facts>(
 ) -> Result<bool, AllocError>
     ensures { IfOk result (λ yes. yes ≡ right_test (F.tree facts.now) (F.group_paths facts.now) loaded.now user.now right path.now) }
 {
-    let early = without_text(facts.owner(), user, right, path)?;
+    let snapshots = owns_snapshots(facts.owner());
+    let early = without_text(snapshots, facts.owner(), user, right, path)?;
     if let Some(answer) = early {
         return Ok(answer);
     }
-    let text = governor(facts, path);
+    let text = governor_unless(snapshots, facts, path);
     text_decides(alloc, facts, loaded, user, right, text)
 }
 
@@ -128,7 +129,8 @@ fn right_by<F: Facts>(
     requires { option_copied text ≡ governor (F.tree facts.now) path.now }
     ensures { IfOk result (λ yes. yes ≡ right_test (F.tree facts.now) (F.group_paths facts.now) loaded.now user.now right path.now) }
 {
-    match without_text(facts.owner(), user, right, path)? {
+    let snapshots = owns_snapshots(facts.owner());
+    match without_text(snapshots, facts.owner(), user, right, path)? {
         Some(answer) => Ok(answer),
         None => text_decides(alloc, facts, loaded, user, right, text),
     }
@@ -138,14 +140,16 @@ fn right_by<F: Facts>(
 /// that on an Access or a Group path write, create and delete are the owner's.
 #[tactic(auto, unfolding(crate::specs::Verdicts::without_text))]
 fn without_text(
+    snapshots: bool,
     owner: &User,
     user: &User,
     right: Right,
     path: &Path,
 ) -> Result<Option<bool>, AllocError>
+    requires { snapshots ≡ owns_snapshots owner.now }
     ensures { IfOk result (λ found. found ≡ without_text owner.now user.now right path.now) }
 {
-    if owns_snapshots(owner) {
+    if snapshots {
         Ok(Some(only_looks(right) && is_base_of(user, owner)?))
     } else if user == owner && only_looks(right) {
         Ok(Some(true))
@@ -206,8 +210,9 @@ fn is_base_of(user: &User, owner: &User) -> Result<bool, AllocError>
 fn names_user(rules: &[Rule], right: Right, user: &User) -> bool
     ensures { result ≡ list_any (is_user user.now) (items_for right rules.now) }
 {
+    let domain = user.domain();
     for rule in rules {
-        if rule.rights.has(right) && has_user(rule.items.as_slice(), user) {
+        if rule.rights.has(right) && has_user(rule.items.as_slice(), user, domain) {
             return true;
         }
     }
@@ -215,7 +220,7 @@ fn names_user(rules: &[Rule], right: Right, user: &User) -> bool
 }
 
 /// Whether a group that is named by a rule that holds the right, or reached from one, has a text that names the user.
-/// No group is looked at twice, and none after the first that names the user.
+/// No group is looked at twice, each of its items once, and none after the first that names the user.
 fn reaches_user<F: Facts>(
     alloc: Global,
     facts: &F,
@@ -229,13 +234,13 @@ fn reaches_user<F: Facts>(
 {
     let mut met = Met::new(alloc, loaded.random());
     met.add_granted(rules, right)?;
+    let domain = user.domain();
     let mut next = 0;
     while let Some(group) = met.get(next) {
         let items = items_in(facts, loaded, group);
-        if has_user(items, user) {
+        if met.look(items, user, domain)? {
             return Ok(true);
         }
-        met.add_groups(items)?;
         next += 1;
     }
     Ok(false)

@@ -15,12 +15,12 @@ loop-group-init g c =
       without = without_start _ _ _;
     }
 
-pub returns-then-has_user : goal.returns-then-has_user
-returns-then-has_user g c =
+pub returns-then-branch : goal.returns-then-branch
+returns-then-branch g c =
     found_user (text_of (g.F.Facts.tree c.args.facts.now) c.args.loaded.now) (groups_in (items_for c.args.right c.args.rules.now)) (g.F.Facts.group_paths c.args.facts.now ++ keys_of c.args.loaded.now)
     (lists_texts (g.F.Facts.tree c.args.facts.now) (g.F.Facts.group_paths c.args.facts.now) c.args.loaded.now (g.met.F.Facts.groups_listed c.args.facts.now))
-    c.args.user.now c.loop-group.next c.loop-group.met c.in-Some.group.now c.items_in-items.result.now c.has_user.result
-    c.loop-group.invariant.looked c.in-Some.ensures.group c.items_in-items.ensures c.has_user.ensures c.if-has_user.true
+    c.args.user.now c.loop-group.next c.loop-group.met c.in-Some.group.now c.items_in-items.result.now _
+    c.loop-group.invariant.looked c.in-Some.ensures.group c.items_in-items.ensures c.in_ok-look.ensures.found c.if-branch.true
 
 pub loop-group-smaller : goal.loop-group-smaller
 loop-group-smaller g c =
@@ -33,9 +33,9 @@ loop-group-smaller g c =
 pub loop-group-preserved : goal.loop-group-preserved
 loop-group-preserved g c = record {
   looked = looked_more _ _ c.loop-group.next c.loop-group.met _ c.in-Some.group.now c.items_in-items.result.now
-      c.loop-group.invariant.looked c.in-Some.ensures.group c.items_in-items.ensures c.in_ok-add_groups.ensures;
-  without = without_more _ _ c.loop-group.next c.loop-group.met _ c.in-Some.group.now c.items_in-items.result.now c.has_user.result
-      c.loop-group.invariant.without c.in-Some.ensures.group c.items_in-items.ensures c.in_ok-add_groups.ensures c.has_user.ensures c.if-has_user.false;
+      c.loop-group.invariant.looked c.in-Some.ensures.group c.items_in-items.ensures (c.in_ok-look.ensures.added c.if-branch.false);
+  without = without_more _ _ c.loop-group.next c.loop-group.met _ c.in-Some.group.now c.items_in-items.result.now _
+      c.loop-group.invariant.without c.in-Some.ensures.group c.items_in-items.ensures (c.in_ok-look.ensures.added c.if-branch.false) c.in_ok-look.ensures.found c.if-branch.false;
 }
 
 pub returns : goal.returns

@@ -13,5 +13,5 @@ returns c =
     let dir = cut c.args.len c.args.path.now in
     c.get.ensures.value
     ∙ ap (λ text. lookup (λ key. bytes_eq text (string_bytes key)) texts) c.front.ensures.text
-    ∙ found_by_text texts c.self.invariant dir c.front.ensures.front_again
+    ∙ found_by_text texts c.self.invariant.canonical dir c.front.ensures.front_again
     ∙ ap (λ seen. text_at seen dir) c.self.view_is

@@ -12,5 +12,5 @@ returns c =
     let dir = c.args.dir.now in
     c.get.ensures.value
     ∙ ap (λ text. lookup (λ key. bytes_eq text (string_bytes key)) texts) c.as_str.ensures.text
-    ∙ found_by_text texts c.self.invariant dir c.as_str.ensures.again
+    ∙ found_by_text texts c.self.invariant.canonical dir c.as_str.ensures.again
     ∙ ap (λ seen. text_at seen dir) c.self.view_is
