@@ -45,7 +45,8 @@ pub fn parse_access(owner: &User, text: &[u8]) -> Result<AccessText, TextFault>
 /// Adds the rule of a line, where it says one, and answers whether the line fits.
 #[tactic(auto, unfolding(crate::specs::AccessTexts::rules_in))]
 fn push_rules(owner: &User, line: &[u8], rules: &mut Vec<Rule>) -> Result<bool, AllocError>
-    ensures { IfOk result (λ good. option_map (λ found. rules.old.items ++ found) (rules_in owner.now line.now) ≡ (if good then Some rules.new.items else None)) }
+    ensures { IfOk result (λ good. option_map (λ found. rules.old.items ++ found)
+        (rules_in owner.now line.now) ≡ (if good then Some rules.new.items else None)) }
 {
     if says_nothing(line) {
         return Ok(true);

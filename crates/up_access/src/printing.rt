@@ -54,7 +54,8 @@ fn push_rights(out: &mut Vec<u8>, rights: RightSet) -> Result<(), AllocError>
 
 /// The letters of those of the rights that are in the set, with a comma between two.
 fn push_letters(out: &mut Vec<u8>, set: RightSet, rights: &[Right]) -> Result<(), AllocError>
-    ensures { OnOk result (out.new.items ≡ out.old.items ++ join_by letter (codes ",") (filter (has_right set) rights.now)) }
+    ensures { OnOk result (out.new.items ≡ out.old.items
+        ++ join_by letter (codes ",") (filter (has_right set) rights.now)) }
 {
     let mut between = b"".as_slice();
     for right in rights {
@@ -91,7 +92,8 @@ fn push_items(out: &mut Vec<u8>, items: &[Item]) -> Result<(), AllocError>
 }
 
 fn push_further_items(out: &mut Vec<u8>, items: &[Item]) -> Result<(), AllocError>
-    ensures { OnOk result (out.new.items ≡ out.old.items ++ flat_map (λ item. codes ", " ++ item_text item) items.now) }
+    ensures { OnOk result (out.new.items ≡ out.old.items
+        ++ flat_map (λ item. codes ", " ++ item_text item) items.now) }
 {
     for item in items {
         out.extend_from_slice(b", ")?;

@@ -8,7 +8,8 @@ use crate::cuts::cut;
 #[tactic(auto, using(crate::proofs::ControlTextLemmas::lines))]
 pub fn next_control_line(text: &[u8]) -> (&[u8], Option<&[u8]>)
     // The text has this line, and then those of the rest.
-    ensures lines { MatchOption result.1 (control_lines text.now ≡ result.0.now ∷ []) (λ rest. control_lines text.now ≡ result.0.now ∷ control_lines rest.now) }
+    ensures lines { MatchOption result.1 (control_lines text.now ≡ result.0.now ∷ [])
+        (λ rest. control_lines text.now ≡ result.0.now ∷ control_lines rest.now) }
     ensures shorter { IfSome result.1 (λ rest. length rest.now < length text.now) }
 {
     let (piece, rest) = cut(text, b'\n');
@@ -38,7 +39,8 @@ fn without_return(piece: &[u8]) -> &[u8]
 #[tactic(auto, using(crate::proofs::ControlTextLemmas::words))]
 pub fn next_word(line: &[u8]) -> Option<(&[u8], &[u8])>
     // The line has this word, and then those of the rest.
-    ensures words { MatchOption result (words_in line.now ≡ []) (λ found. words_in line.now ≡ found.0.now ∷ words_in found.1.now) }
+    ensures words { MatchOption result (words_in line.now ≡ [])
+        (λ found. words_in line.now ≡ found.0.now ∷ words_in found.1.now) }
     ensures shorter { IfSome result (λ found. length found.1.now < length line.now) }
 {
     let start = word_start(line)?;

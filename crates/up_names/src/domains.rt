@@ -135,7 +135,8 @@ pub(crate) fn is_domain_in_any_case(text: &[u8]) -> bool
 }
 
 fn has_labels(text: &[u8]) -> bool
-    ensures { result ≡ list_all (λ label. is_label (str_to_ascii_lowercase label)) (slice_split is_period text.now) }
+    ensures { result ≡ list_all (λ label. is_label (str_to_ascii_lowercase label))
+        (slice_split is_period text.now) }
 {
     text.split(|b| *b == b'.')
         .all(|label| is_label_in_any_case(label))

@@ -89,7 +89,8 @@ fn group_item(alloc: Global, text: &[u8]) -> Result<Option<Item>, AllocError>
 /// The group of the owner that a short name stands for.
 #[tactic(auto, unfolding(crate::specs::PathNames::path_of))]
 fn short_group_item(owner: &User, name: &[u8]) -> Result<Option<Item>, AllocError>
-    ensures { IfOk result (λ found. found ≡ group_item (path_of (owner.now ++ codes "/Group/" ++ name.now))) }
+    ensures { IfOk result (λ found. found
+        ≡ group_item (path_of (owner.now ++ codes "/Group/" ++ name.now))) }
 {
     // Too long for a path whoever the owner is, and then not worth a copy.
     if name.len() > 4096 {
@@ -122,7 +123,8 @@ fn names_user_all(name: &[u8]) -> bool
 }
 
 fn is_user_all(local: &[u8], domain: &[u8]) -> bool
-    ensures { result ≡ (bytes_eq local.now (codes "all") && bytes_eq (str_to_ascii_lowercase domain.now) (codes "upspin.io")) }
+    ensures { result ≡ (bytes_eq local.now (codes "all")
+        && bytes_eq (str_to_ascii_lowercase domain.now) (codes "upspin.io")) }
 {
     local == b"all".as_slice() && is_in_any_case(domain, b"upspin.io")
 }

@@ -41,7 +41,8 @@ pub fn parse_path(alloc: Global, text: &[u8]) -> Result<Path, NameFault>
 fn parse_pieces(owner: User, pieces: &[u8], place: usize) -> Result<Path, NameFault>
     requires behind { length owner + 1 ≤ place }
     requires short { place + length pieces.now ≤ 4096 }
-    ensures { Gives (λ path. path) result (path_from place (slice_split is_slash pieces.now) (Ok owner)) }
+    ensures { Gives (λ path. path) result
+        (path_from place (slice_split is_slash pieces.now) (Ok owner)) }
 {
     let mut path = Path::with_room(owner, place + pieces.len())?;
     take_pieces(&mut path, pieces, place)?;
@@ -89,7 +90,8 @@ fn take_piece(path: &mut Path, piece: &[u8], place: usize) -> Result<(), NameFau
 /// below 0x20 or 0x7F.
 #[tactic(auto, unfolding(crate::specs::PathNames::is_element))]
 pub fn element_text(piece: &[u8]) -> Option<&str>
-    ensures { MatchOption result (is_element piece.now ≡ false) (λ text. (text.now ≡ piece.now) × (is_element piece.now ≡ true)) }
+    ensures { MatchOption result (is_element piece.now ≡ false)
+        (λ text. (text.now ≡ piece.now) × (is_element piece.now ≡ true)) }
 {
     if !has_allowed_bytes(piece) {
         return None;

@@ -346,8 +346,11 @@ impl Path {
 
 /// Adds an element to a text that has room for it, and below the root a slash before it.
 fn push_element(text: &mut String, below_root: bool, element: &str)
-    requires { string_len text.old + ((if below_root then 1 else 0) + length element.now) ≤ string_capacity text.old }
-    ensures { string_bytes text.new ≡ (if below_root then string_bytes text.old ++ byte "/" ∷ [] else string_bytes text.old) ++ element.now }
+    requires { string_len text.old + ((if below_root then 1 else 0) + length element.now)
+        ≤ string_capacity text.old }
+    ensures { string_bytes text.new
+        ≡ (if below_root then string_bytes text.old ++ byte "/" ∷ [] else string_bytes text.old)
+        ++ element.now }
 {
     if below_root {
         text.push('/').unwrap();

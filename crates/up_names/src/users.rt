@@ -69,8 +69,10 @@ impl User {
 
     /// Becomes the user of a name part and a domain in any case, in the memory that it has. An `Err` changes nothing.
     fn set(&mut self, name: &[u8], domain: &[u8]) -> Result<(), AllocError>
-        requires { user_of (name.now ++ byte "@" ∷ str_to_ascii_lowercase domain.now) ≡ Ok (name.now ++ byte "@" ∷ str_to_ascii_lowercase domain.now) }
-        ensures set { OnOk result (self.new ≡ name.now ++ byte "@" ∷ str_to_ascii_lowercase domain.now) }
+        requires { user_of (name.now ++ byte "@" ∷ str_to_ascii_lowercase domain.now)
+            ≡ Ok (name.now ++ byte "@" ∷ str_to_ascii_lowercase domain.now) }
+        ensures set { OnOk result
+            (self.new ≡ name.now ++ byte "@" ∷ str_to_ascii_lowercase domain.now) }
         ensures unchanged { OnErr result (self.new ≡ self.old) }
     {
         self.text.reserve(name.len() + 1 + domain.len())?;
@@ -184,7 +186,8 @@ pub fn parse_user(alloc: Global, text: &[u8]) -> Result<User, NameFault>
 /// The name part and the domain, in any case, of a text that names a user.
 #[tactic(auto, unfolding(crate::specs::UserNames::user_of))]
 fn accepted_parts(text: &[u8]) -> Result<(&[u8], &[u8]), NameFault>
-    ensures { Gives (λ parts. parts.0.now ++ byte "@" ∷ str_to_ascii_lowercase parts.1.now) result (user_of text.now) }
+    ensures { Gives (λ parts. parts.0.now ++ byte "@" ∷ str_to_ascii_lowercase parts.1.now) result
+        (user_of text.now) }
 {
     let user = without_final_period(text);
     if user.len() > 254 {
@@ -212,8 +215,10 @@ fn accepted_parts(text: &[u8]) -> Result<(&[u8], &[u8]), NameFault>
 
 /// The user of a name part and a domain in any case.
 fn user_from_parts(alloc: Global, name: &[u8], domain: &[u8]) -> Result<User, AllocError>
-    requires { user_of (name.now ++ byte "@" ∷ str_to_ascii_lowercase domain.now) ≡ Ok (name.now ++ byte "@" ∷ str_to_ascii_lowercase domain.now) }
-    ensures { IfOk result (λ user. user ≡ name.now ++ byte "@" ∷ str_to_ascii_lowercase domain.now) }
+    requires { user_of (name.now ++ byte "@" ∷ str_to_ascii_lowercase domain.now)
+        ≡ Ok (name.now ++ byte "@" ∷ str_to_ascii_lowercase domain.now) }
+    ensures { IfOk result (λ user. user ≡ name.now
+        ++ byte "@" ∷ str_to_ascii_lowercase domain.now) }
 {
     let text = joined(alloc, name, domain)?;
     Ok(User {
@@ -223,7 +228,8 @@ fn user_from_parts(alloc: Global, name: &[u8], domain: &[u8]) -> Result<User, Al
 
 /// The name part, `@` and the domain in lower case.
 fn joined(alloc: Global, name: &[u8], domain: &[u8]) -> Result<Vec<u8>, AllocError>
-    ensures { IfOk result (λ text. text.items ≡ name.now ++ byte "@" ∷ str_to_ascii_lowercase domain.now) }
+    ensures { IfOk result (λ text. text.items ≡ name.now
+        ++ byte "@" ∷ str_to_ascii_lowercase domain.now) }
 {
     let mut text = Vec::with_capacity(alloc, name.len() + 1 + domain.len())?;
     write_joined(&mut text, name, domain);

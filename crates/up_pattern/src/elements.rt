@@ -37,7 +37,8 @@ impl Model for Element {
 
     ghost view = { λ element. element.terms };
 
-    ghost invariant = { λ element. option_map string_bytes element.literal ≡ literal_of element.terms };
+    ghost invariant = { λ element. option_map string_bytes element.literal
+        ≡ literal_of element.terms };
 }
 
 impl Element {
@@ -71,7 +72,8 @@ impl Element {
 
 /// Whether a literal element reads `.` or `..`, though it is not written so.
 fn hides_step(text: &str, literal: &Option<String>) -> bool
-    ensures { result ≡ (not (is_step text.now) && option_map_or is_step (option_map string_bytes literal.now) false) }
+    ensures { result ≡ (not (is_step text.now)
+        && option_map_or is_step (option_map string_bytes literal.now) false) }
 {
     match literal {
         Some(literal) => !is_step(text) && is_step(literal),

@@ -6,7 +6,8 @@ ghost use Rattle.up_pattern.specs.declared.terms.Term.{Term};
 
 /// A text matches exactly where it can be cut into pieces, one for each term, that fit the terms in their order.
 pub fn matching_is_by_pieces()
-    ensures { (terms : List Term) (text : List ℕ) → (matches terms text ≡ true) ↔ Matches terms text }
+    ensures { (terms : List Term) (text : List ℕ)
+        → (matches terms text ≡ true) ↔ Matches terms text }
 {}
 
 /// A text is an element of these terms exactly where it is written from them, part by part.

@@ -73,7 +73,8 @@ fn are_many(terms: &[Term]) -> bool
 
 /// The first character and what follows it.
 fn first_char(text: &str) -> Option<(char, &str)>
-    ensures { MatchOption result (chars text.now ≡ []) (λ found. chars text.now ≡ found.0 ∷ chars found.1.now) }
+    ensures { MatchOption result (chars text.now ≡ [])
+        (λ found. chars text.now ≡ found.0 ∷ chars found.1.now) }
 {
     let mut chars = text.chars();
     let first = chars.next()?;

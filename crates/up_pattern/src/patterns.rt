@@ -95,7 +95,8 @@ pub fn parse_pattern(alloc: Global, text: &[u8]) -> Result<Pattern, PatternFault
 /// The elements of the pieces behind an owner.
 fn parse_elements(alloc: Global, pieces: &[u8]) -> Result<Vec<Element>, PatternFault>
     requires { length pieces.now ≤ 4096 }
-    ensures { Gives (λ elements. elements.items) result (elements_of (slice_split is_slash pieces.now)) }
+    ensures { Gives (λ elements. elements.items) result
+        (elements_of (slice_split is_slash pieces.now)) }
 {
     let mut elements = Vec::new(alloc);
     let mut place = 0u64;
@@ -110,7 +111,8 @@ fn parse_elements(alloc: Global, pieces: &[u8]) -> Result<Vec<Element>, PatternF
 
 /// Takes the next piece of a pattern's text.
 fn take_piece(elements: &mut Vec<Element>, piece: &[u8]) -> Result<(), ElementFault>
-    ensures { Reads (λ _. elements.new.items) result (option_map (after_piece elements.old.items piece.now) (element_of piece.now)) }
+    ensures { Reads (λ _. elements.new.items) result
+        (option_map (after_piece elements.old.items piece.now) (element_of piece.now)) }
 {
     let Some(text) = element_text(piece) else {
         return Err(ElementFault::Malformed);

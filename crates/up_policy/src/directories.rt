@@ -48,7 +48,8 @@ impl Directories {
 
     /// Sets the text of a directory. It takes the place of the one that is there. An `Err` changes nothing.
     pub(crate) fn set(&mut self, dir: Path, text: AccessText) -> Result<(), AllocError>
-        ensures { self.new ≡ (if is_ok result then insert_entry path_eq self.old dir text else self.old) }
+        ensures { self.new ≡ (if is_ok result then insert_entry path_eq self.old dir text
+            else self.old) }
     {
         self.marks.note(&dir)?;
         self.texts.insert(dir.into_text(), text)?;

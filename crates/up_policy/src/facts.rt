@@ -35,5 +35,6 @@ pub trait Facts {
         ensures { option_copied result ≡ (tree self.now).group path.now };
 
     // The tree has finitely many Group texts, so that the search through them ends.
-    ghost groups_listed: { (s : Self) (path : PathName) → IsSome ((tree s).group path) → Contains (group_paths s) path };
+    ghost groups_listed: { (s : Self) (path : PathName) → IsSome ((tree s).group path)
+        → Contains (group_paths s) path };
 }

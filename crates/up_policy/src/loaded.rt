@@ -68,7 +68,8 @@ impl Loaded {
     /// Sets the answer of a name: it takes the place of the one that the name has, or the name is added at the end. An
     /// `Err` changes nothing.
     pub fn set(&mut self, name: Path, answer: LoadAnswer) -> Result<(), AllocError>
-        ensures { self.new ≡ (if is_ok result then insert_entry path_eq self.old name answer else self.old) }
+        ensures { self.new ≡ (if is_ok result then insert_entry path_eq self.old name answer
+            else self.old) }
     {
         self.answers.insert(name, answer)?;
         Ok(())

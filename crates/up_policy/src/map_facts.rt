@@ -47,14 +47,18 @@ impl MapFacts {
     /// Sets the text of the Access file in a directory. It takes the place of the one that is there. An `Err` changes
     /// nothing.
     pub fn set_access(&mut self, dir: Path, text: AccessText) -> Result<(), AllocError>
-        ensures { self.new ≡ (if is_ok result then record self.old { access = insert_entry path_eq self.old.access dir text } else self.old) }
+        ensures { self.new ≡ (if is_ok result
+            then record self.old { access = insert_entry path_eq self.old.access dir text }
+            else self.old) }
     {
         self.access.set(dir, text)
     }
 
     /// Sets the text of the Group file at a path. It takes the place of the one that is there. An `Err` changes nothing.
     pub fn set_group(&mut self, path: Path, text: GroupText) -> Result<(), AllocError>
-        ensures { self.new ≡ (if is_ok result then record self.old { groups = insert_entry path_eq self.old.groups path text } else self.old) }
+        ensures { self.new ≡ (if is_ok result
+            then record self.old { groups = insert_entry path_eq self.old.groups path text }
+            else self.old) }
     {
         self.groups.insert(path, text)?;
         Ok(())

@@ -74,7 +74,8 @@ fn hash_of(keys: RandomState, path: &Path) -> u64
 
 /// Adds the element at place `i` of a path to what is hashed.
 fn add_element(hasher: &mut DefaultHasher, path: &Path, i: u64)
-    ensures { IfSome (slice_get path.now.elements i) (λ element. hasher.new ≡ after_element hasher.old element) }
+    ensures { IfSome (slice_get path.now.elements i)
+        (λ element. hasher.new ≡ after_element hasher.old element) }
 {
     if let Some(element) = path.element(i) {
         element.hash(hasher);

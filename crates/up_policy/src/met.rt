@@ -83,7 +83,8 @@ impl<'a> Met<'a> {
     ) -> Result<bool, AllocError>
         requires { domain.now ≡ domain_part user.now }
         ensures found { IfOk result (λ found. found ≡ list_any (is_user user.now) items.now) }
-        ensures added { IfOk result (λ found. found ≡ false → self.new ≡ with_paths self.old (groups_in items.now)) }
+        ensures added { IfOk result
+            (λ found. found ≡ false → self.new ≡ with_paths self.old (groups_in items.now)) }
     {
         for item in items {
             if is_user(item, user, domain) {
@@ -98,7 +99,8 @@ impl<'a> Met<'a> {
 
     /// Adds the groups among the items of the rules that hold a right, in order.
     pub(crate) fn add_granted(&mut self, rules: &'a [Rule], right: Right) -> Result<(), AllocError>
-        ensures { OnOk result (self.new ≡ with_paths self.old (groups_in (items_for right rules.now))) }
+        ensures { OnOk result (self.new
+            ≡ with_paths self.old (groups_in (items_for right rules.now))) }
     {
         for rule in rules {
             self.add_granted_by(rule, right)?;
@@ -108,7 +110,8 @@ impl<'a> Met<'a> {
 
     /// Adds the groups among the items of a rule, in order, where it holds the right.
     fn add_granted_by(&mut self, rule: &'a Rule, right: Right) -> Result<(), AllocError>
-        ensures { OnOk result (self.new ≡ with_paths self.old (groups_in (items_by right rule.now))) }
+        ensures { OnOk result (self.new
+            ≡ with_paths self.old (groups_in (items_by right rule.now))) }
     {
         if rule.rights.has(right) {
             self.add_groups(rule.items.as_slice())?;

@@ -30,8 +30,12 @@ pub fn needs<F: Facts>(
     out: &mut Names,
 ) -> Result<(), AllocError>
     requires { path.now.owner ≡ (F.tree facts.now).owner }
-    ensures added { OnOk result (out.new ≡ with_paths out.old (needed (F.tree facts.now) (F.group_paths facts.now) loaded.now path.now)) }
-    ensures part { OnErr result (AddsPart out.old out.new (needed (F.tree facts.now) (F.group_paths facts.now) loaded.now path.now)) }
+    ensures added { OnOk result
+        (out.new ≡ with_paths out.old
+        (needed (F.tree facts.now) (F.group_paths facts.now) loaded.now path.now)) }
+    ensures part { OnErr result
+        (AddsPart out.old out.new
+        (needed (F.tree facts.now) (F.group_paths facts.now) loaded.now path.now)) }
 {
     match governor(facts, path) {
         Some(text) => add_needed(alloc, facts, loaded, text.rules(), out),
@@ -47,8 +51,12 @@ fn add_needed<F: Facts>(
     rules: &[Rule],
     out: &mut Names,
 ) -> Result<(), AllocError>
-    ensures added { OnOk result (out.new ≡ with_paths out.old (needed_by (F.tree facts.now) (F.group_paths facts.now) loaded.now rules.now)) }
-    ensures part { OnErr result (AddsPart out.old out.new (needed_by (F.tree facts.now) (F.group_paths facts.now) loaded.now rules.now)) }
+    ensures added { OnOk result
+        (out.new ≡ with_paths out.old
+        (needed_by (F.tree facts.now) (F.group_paths facts.now) loaded.now rules.now)) }
+    ensures part { OnErr result
+        (AddsPart out.old out.new
+        (needed_by (F.tree facts.now) (F.group_paths facts.now) loaded.now rules.now)) }
 {
     let mut met = Met::new(alloc, loaded.random());
     met.add_named(rules)?;
@@ -69,7 +77,10 @@ fn add_wanted<F: Facts>(
     group: &Path,
     out: &mut Names,
 ) -> Result<(), AllocError>
-    ensures added { OnOk result (out.new ≡ (if is_wanted (F.tree facts.now) loaded.now group.now then with_path out.old group.now else out.old)) }
+    ensures added { OnOk result
+        (out.new ≡ (if is_wanted (F.tree facts.now) loaded.now group.now
+        then with_path out.old group.now
+        else out.old)) }
     ensures unchanged { OnErr result (out.new ≡ out.old) }
 {
     if is_wanted(facts, loaded, group) {

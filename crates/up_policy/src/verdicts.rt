@@ -41,8 +41,12 @@ pub fn can<F: Facts>(
     path: &Path,
 ) -> Result<bool, AllocError>
     requires { path.now.owner ≡ (F.tree facts.now).owner }
-    ensures test { IfOk result (λ yes. yes ≡ right_test (F.tree facts.now) (F.group_paths facts.now) loaded.now user.now right path.now) }
-    ensures meaning { IfOk result (λ yes. IsTrue yes ↔ HasRight (F.tree facts.now) loaded.now user.now right path.now) }
+    ensures test { IfOk result
+        (λ yes. yes
+        ≡ right_test (F.tree facts.now) (F.group_paths facts.now)
+        loaded.now user.now right path.now) }
+    ensures meaning { IfOk result
+        (λ yes. IsTrue yes ↔ HasRight (F.tree facts.now) loaded.now user.now right path.now) }
 {
     right_test(alloc, facts, loaded, user, right, path)
 }
@@ -57,7 +61,9 @@ fn right_test<F: Facts>(
     right: Right,
     path: &Path,
 ) -> Result<bool, AllocError>
-    ensures { IfOk result (λ yes. yes ≡ right_test (F.tree facts.now) (F.group_paths facts.now) loaded.now user.now right path.now) }
+    ensures { IfOk result (λ yes. yes
+        ≡ right_test (F.tree facts.now) (F.group_paths facts.now)
+        loaded.now user.now right path.now) }
 {
     let snapshots = owns_snapshots(facts.owner());
     let early = without_text(snapshots, facts.owner(), user, right, path)?;
@@ -78,8 +84,12 @@ pub fn rights_of<F: Facts>(
     path: &Path,
 ) -> Result<RightSet, AllocError>
     requires { path.now.owner ≡ (F.tree facts.now).owner }
-    ensures test { IfOk result (λ rights. rights ≡ rights_held (F.tree facts.now) (F.group_paths facts.now) loaded.now user.now path.now) }
-    ensures meaning { IfOk result (λ rights. (right : Right) → IsTrue (has_right rights right) ↔ HasRight (F.tree facts.now) loaded.now user.now right path.now) }
+    ensures test { IfOk result
+        (λ rights. rights
+        ≡ rights_held (F.tree facts.now) (F.group_paths facts.now) loaded.now user.now path.now) }
+    ensures meaning { IfOk result
+        (λ rights. (right : Right) → IsTrue (has_right rights right)
+        ↔ HasRight (F.tree facts.now) loaded.now user.now right path.now) }
 {
     rights_held(alloc, facts, loaded, user, path)
 }
@@ -93,7 +103,8 @@ fn rights_held<F: Facts>(
     user: &User,
     path: &Path,
 ) -> Result<RightSet, AllocError>
-    ensures { IfOk result (λ rights. rights ≡ rights_held (F.tree facts.now) (F.group_paths facts.now) loaded.now user.now path.now) }
+    ensures { IfOk result (λ rights. rights
+        ≡ rights_held (F.tree facts.now) (F.group_paths facts.now) loaded.now user.now path.now) }
 {
     let text = governor(facts, path);
     let read = right_by(alloc, facts, loaded, user, Right::Read, path, text)?;
@@ -127,7 +138,9 @@ fn right_by<F: Facts>(
     text: Option<&AccessText>,
 ) -> Result<bool, AllocError>
     requires { option_copied text ≡ governor (F.tree facts.now) path.now }
-    ensures { IfOk result (λ yes. yes ≡ right_test (F.tree facts.now) (F.group_paths facts.now) loaded.now user.now right path.now) }
+    ensures { IfOk result (λ yes. yes
+        ≡ right_test (F.tree facts.now) (F.group_paths facts.now)
+        loaded.now user.now right path.now) }
 {
     let snapshots = owns_snapshots(facts.owner());
     match without_text(snapshots, facts.owner(), user, right, path)? {
@@ -170,7 +183,9 @@ fn text_decides<F: Facts>(
     right: Right,
     text: Option<&AccessText>,
 ) -> Result<bool, AllocError>
-    ensures { IfOk result (λ yes. yes ≡ text_decides (F.tree facts.now) (F.group_paths facts.now) loaded.now user.now right (option_copied text.entry)) }
+    ensures { IfOk result (λ yes. yes
+        ≡ text_decides (F.tree facts.now) (F.group_paths facts.now) loaded.now user.now right
+        (option_copied text.entry)) }
 {
     let Some(text) = text else {
         return Ok(user == facts.owner());
@@ -229,7 +244,8 @@ fn reaches_user<F: Facts>(
     right: Right,
     rules: &[Rule],
 ) -> Result<bool, AllocError>
-    ensures { IfOk result (λ yes. yes ≡ list_any (has_user (text_of (F.tree facts.now) loaded.now) user.now)
+    ensures { IfOk result (λ yes. yes
+        ≡ list_any (has_user (text_of (F.tree facts.now) loaded.now) user.now)
         (reached (text_of (F.tree facts.now) loaded.now) (F.group_paths facts.now ++ keys_of loaded.now) (groups_in (items_for right rules.now)))) }
 {
     let mut met = Met::new(alloc, loaded.random());

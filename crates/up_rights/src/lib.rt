@@ -180,7 +180,8 @@ pub fn read_right(word: &[u8]) -> Option<RightSet>
 fn is_word_for(word: &[u8], first: &[u8], second: &[u8]) -> bool
     requires first_lower { str_to_ascii_lowercase first.now ≡ first.now }
     requires second_lower { str_to_ascii_lowercase second.now ≡ second.now }
-    ensures { result ≡ (bytes_eq (str_to_ascii_lowercase word.now) first.now || bytes_eq (str_to_ascii_lowercase word.now) second.now) }
+    ensures { result ≡ (bytes_eq (str_to_ascii_lowercase word.now) first.now
+        || bytes_eq (str_to_ascii_lowercase word.now) second.now) }
 {
     word.eq_ignore_ascii_case(first) || word.eq_ignore_ascii_case(second)
 }
