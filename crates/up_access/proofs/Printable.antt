@@ -8,8 +8,8 @@ use Rattle.std.proofs.lemmas.Option.{MatchOption-at_some}
 use Rattle.std.specs.List.{flat_map, list_all, list_any, before_first, after_first, slice_split, position_or_len, AllByRecursion}
 use Rattle.std.specs.Option.{option_and_then, is_none}
 use Rattle.std.specs.Str.{bytes_eq, str_to_ascii_lowercase}
-use Rattle.up_names.specs.declared.faults.TextFault.{TextFault}
-use Rattle.up_names.specs.declared.faults.TextFault.TheVariants.{BadText}
+use Rattle.up_names.specs.declared.fault.TextFault.{TextFault}
+use Rattle.up_names.specs.declared.fault.TextFault.TheVariants.{BadText}
 use Rattle.up_names.specs.declared.items.Item.{Item}
 use Rattle.up_names.specs.declared.items.Item.TheVariants.{Everyone, Domain, User, Group}
 use Rattle.up_names.specs.ControlTexts.{control_lines, line_of, without_return, words_in, says_nothing, is_gap, is_line_feed, is_number_sign}

@@ -3,7 +3,7 @@ use Rattle.std.specs.Prelude.{ℕ, Bool, ◌==◌, not, if◌then◌else◌, Lis
 use Rattle.std.specs.List.{list_any, before_first, after_first}
 use Rattle.std.specs.Str.{byte}
 use Rattle.up_names.specs.Texts.{Text, UserName}
-use Rattle.up_names.specs.declared.faults.TextFault.{TextFault}
+use Rattle.up_names.specs.declared.fault.TextFault.{TextFault}
 use Rattle.up_names.specs.ControlTexts.{control_lines, words_in, says_nothing}
 use Rattle.up_names.specs.ItemLists.{items_in}
 use Rattle.up_names.specs.TextMeanings.{meaning_of}

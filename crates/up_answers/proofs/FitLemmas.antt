@@ -11,8 +11,8 @@ use Rattle.std.proofs.lemmas.Bool.{false≢true, or_parts, cases_order, eqb-true
 use Rattle.std.proofs.lemmas.Slice.Eq.{bytes_eq-Decides}
 use Rattle.up_names.specs.PathNames.{PathName, cut, control_of}
 use Rattle.up_names.specs.PathOrder.{path_eq}
-use Rattle.up_names.specs.declared.faults.TextFault.{TextFault}
-use Rattle.up_names.specs.declared.faults.TextFault.TheVariants as fault
+use Rattle.up_names.specs.declared.fault.TextFault.{TextFault}
+use Rattle.up_names.specs.declared.fault.TextFault.TheVariants as fault
 use Rattle.up_names.specs.declared.paths.Control.{Control}
 use Rattle.up_names.specs.declared.paths.Control.TheVariants as control
 use Rattle.up_rights.specs.declared.Right.TheVariants as right

@@ -4,8 +4,8 @@ use Rattle.std.specs.Prelude as std
 use Rattle.std.specs.List.{list_any}
 use Rattle.std.specs.Map.{lookup}
 use Rattle.std.specs.Str.{bytes_eq}
-use Rattle.up_names.specs.declared.faults.TextFault.{TextFault}
-use Rattle.up_names.specs.declared.faults.TextFault.TheVariants as fault
+use Rattle.up_names.specs.declared.fault.TextFault.{TextFault}
+use Rattle.up_names.specs.declared.fault.TextFault.TheVariants as fault
 use Rattle.up_names.specs.declared.paths.Control.{Control}
 use Rattle.up_names.specs.declared.paths.Control.TheVariants as control
 use Rattle.up_names.specs.Texts.{Text, UserName}

@@ -4,7 +4,7 @@ use Rattle.std.proofs.Common.{◌≡◌, ℕ, ℤ, negsuc, int_le, ◌≤ℤ◌,
 use Rattle.std.specs.Prelude.{◌==◌, IsSome, ⊤}
 use Rattle.std.proofs.lemmas.List.{nil_from_length}
 use Rattle.std.proofs.lemmas.Slice.Eq.{bytes_eq-Decides}
-use Rattle.up_names.specs.declared.faults.NameFault.{NameFault}
+use Rattle.up_names.specs.declared.fault.NameFault.{NameFault}
 use Rattle.up_entry.specs.declared.entries.Attr.{Attr}
 use Rattle.up_entry.specs.declared.entries.Entry.{Entry}
 use Rattle.up_names.specs.PathNames.{PathName, control_of, path_of}

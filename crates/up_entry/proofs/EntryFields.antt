@@ -5,7 +5,7 @@ use Rattle.std.proofs.lemmas.Bool.{eqb-true, eqb-false, ne_eqb, cond-true, cond-
 use Rattle.std.proofs.lemmas.List.{length-append, nil_from_length}
 use Rattle.std.proofs.lemmas.Slice.Eq.{bytes_eq-Decides}
 use Rattle.up_bytes.specs.Spelling.{byte, text, IsByte, IsText}
-use Rattle.up_names.specs.declared.faults.NameFault.{NameFault}
+use Rattle.up_names.specs.declared.fault.NameFault.{NameFault}
 use Rattle.up_names.specs.PathNames.{PathName, canonical, path_of, IsCanonical}
 use Rattle.up_names.specs.UserNames.{user_of, name_part, domain_part}
 use Rattle.up_names.proofs.PathLaws.{canonical-proper}

@@ -1,7 +1,7 @@
 -- Group texts (Upspin access control document).
 use Rattle.std.specs.Prelude.{ℕ, List, map, Result}
 use Rattle.up_names.specs.Texts.{Text, UserName}
-use Rattle.up_names.specs.declared.faults.TextFault.{TextFault}
+use Rattle.up_names.specs.declared.fault.TextFault.{TextFault}
 use Rattle.up_names.specs.declared.items.Item.{Item}
 use Rattle.up_names.specs.ControlTexts.{control_lines, words_in}
 use Rattle.up_names.specs.ItemLists.{items_in}

@@ -10,7 +10,7 @@ use Rattle.up_keys.specs.Keys.{PutsRecord}
 use Rattle.up_keys.specs.Records.{keeps_bounds, record_in}
 use Rattle.up_names.specs.Texts.{Text, UserName}
 use Rattle.up_names.specs.UserNames.{base_of, user_of}
-use Rattle.up_names.specs.declared.faults.NameFault.{NameFault}
+use Rattle.up_names.specs.declared.fault.NameFault.{NameFault}
 use Rattle.up_rights.specs.declared.Right.TheVariants.{Write}
 use Rattle.up_wire.specs.declared.keys.KeyCard.{KeyCard}
 use Rattle.up_wire.specs.declared.keys.KeyRecord.{KeyRecord}

@@ -4,7 +4,7 @@ use Rattle.std.specs.Prelude.{Bool, true, false, not, nat_lt, length, ifâ—Œthenâ
 use Rattle.std.specs.Option.{option_and_then}
 use Rattle.std.proofs.lemmas.List.{append_assoc, append-nil}
 use Rattle.up_names.specs.PathNames.{PathName, canonical, extended, is_name, joined}
-use Rattle.up_names.specs.declared.faults.NameFault.TheVariants.{Element, TooLong}
+use Rattle.up_names.specs.declared.fault.NameFault.TheVariants.{Element, TooLong}
 use Rattle.up_pattern.specs.declared.terms.Term.{Term}
 use Rattle.up_pattern.specs.Elements.{literal_of}
 use Rattle.up_pattern.specs.Patterns.{PatternName, literal_at}

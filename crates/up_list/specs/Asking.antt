@@ -6,8 +6,8 @@ use Rattle.up_entry.specs.declared.fault.EntryFault.{EntryFault}
 use Rattle.up_entry.specs.declared.fault.EntryFault.TheVariants.{Invalid, OutOfMemory}
 use Rattle.up_entry.specs.declared.what.What.TheVariants as what
 use Rattle.up_entry.specs.Checking.{◌>>=◌, checked_as, path_or, rule}
-use Rattle.up_pattern.specs.declared.faults.PatternFault.{PatternFault}
-use Rattle.up_pattern.specs.declared.faults.PatternFault.TheVariants as fault
+use Rattle.up_pattern.specs.declared.fault.PatternFault.{PatternFault}
+use Rattle.up_pattern.specs.declared.fault.PatternFault.TheVariants as fault
 use Rattle.up_pattern.specs.Patterns.{PatternName, pattern_of}
 use Rattle.up_policy.specs.Trees.{owns_snapshots}
 use Rattle.up_replay.specs.Rights.{is_group}

@@ -1,7 +1,7 @@
 //! What a request asks of a directory.
 ghost use Rattle.std.specs.Prelude.{◌≡◌, negsuc, int_le};
 ghost use Rattle.up_entry.specs.Checking.{Gives, path_or, rule};
-ghost use Rattle.up_names.specs.declared.faults.NameFault.TheVariants as name;
+ghost use Rattle.up_names.specs.declared.fault.NameFault.TheVariants as name;
 ghost use Rattle.up_replay.specs.Rights.{is_group};
 ghost use Rattle.up_policy.specs.Trees.{owns_snapshots};
 ghost use Rattle.up_list.specs.Asking.{asked_of, owner_asked, pattern_or_fault};

@@ -1,6 +1,6 @@
 -- Worked examples of the definitions: they compute.
 use Rattle.std.specs.Prelude.{◌≡◌, [], codes, refl, Ok, Err}
-use Rattle.up_names.specs.declared.faults.NameFault.TheVariants.{AtSigns, Suffix, Domain}
+use Rattle.up_names.specs.declared.fault.NameFault.TheVariants.{AtSigns, Suffix, Domain}
 use Rattle.up_names.specs.UserNames.{user_of, without_final_period, is_local_part, is_suffix, is_domain, is_label}
 
 suffixed_user : user_of (codes "Ann+x@EXAMPLE.COM.") ≡ Ok (codes "Ann+x@example.com")

@@ -6,7 +6,7 @@ use Rattle.std.proofs.lemmas.List.{take-append-drop}
 use Rattle.std.proofs.lemmas.List.Folds.{list_all-append}
 use Rattle.std.specs.List.{list_any, list_all, before_first, after_first, slice_split, onto_first, position_or_len}
 use Rattle.std.specs.Str.{str_to_ascii_lowercase}
-use Rattle.up_names.specs.declared.faults.NameFault.{NameFault}
+use Rattle.up_names.specs.declared.fault.NameFault.{NameFault}
 use Rattle.up_names.specs.declared.items.Item.{Item}
 use Rattle.up_names.specs.declared.items.Item.TheVariants.{Group}
 use Rattle.up_names.specs.UserNames.{user_of, domain_of, is_domain, is_label_byte, is_period}

@@ -9,7 +9,7 @@ use Rattle.std.specs.Char.{to_ascii_lowercase}
 use Rattle.std.specs.List.{list_any, before_first, after_first, starts_with}
 use Rattle.std.specs.Str.{bytes_eq, str_to_ascii_lowercase}
 use lib.Pointwise.{pointwise}
-use Rattle.up_names.specs.declared.faults.NameFault.{NameFault}
+use Rattle.up_names.specs.declared.fault.NameFault.{NameFault}
 use Rattle.up_names.specs.declared.items.Item.{Item}
 use Rattle.up_names.specs.declared.items.Item.TheVariants.{Everyone, Domain, User, Group}
 use Rattle.up_names.specs.UserNames.{user_of, domain_of, is_domain, is_at, is_period, is_label_byte, without_final_period, name_part, domain_part}

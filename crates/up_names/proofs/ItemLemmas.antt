@@ -7,7 +7,7 @@ use Rattle.std.proofs.lemmas.Slice.Eq.{bytes_eq-Decides}
 use Rattle.std.specs.Char.{to_ascii_lowercase}
 use Rattle.std.specs.List.{list_any, before_first, after_first, count_by}
 use Rattle.std.specs.Str.{bytes_eq, str_to_ascii_lowercase}
-use Rattle.up_names.specs.declared.faults.NameFault.{NameFault}
+use Rattle.up_names.specs.declared.fault.NameFault.{NameFault}
 use Rattle.up_names.specs.UserNames.{user_of, without_final_period, is_local_part, is_suffix, is_domain, is_label, is_at, name_part, domain_part}
 use Rattle.up_names.specs.ItemNames.{names_user}
 use Rattle.up_names.proofs.CutLemmas.{before_first-none, before_first-joined, after_first-joined, cut-joined, something_behind}

@@ -9,7 +9,7 @@ use Rattle.std.proofs.lemmas.List.Folds.{list_any-append}
 use Rattle.up_names.specs.UserNames.{user_of, without_final_period, is_local_part, is_suffix, is_domain, is_label, is_at, is_plus, is_period, is_name_byte, is_label_byte, has_bytes, name_part, domain_part}
 use Rattle.up_names.specs.PathNames.{is_slash}
 use Rattle.up_names.proofs.Firsts.{none_of_all, none_of_parts, none_of_split, list_all_weaker, place_found}
-use Rattle.up_names.specs.declared.faults.NameFault.{NameFault}
+use Rattle.up_names.specs.declared.fault.NameFault.{NameFault}
 
 is_slash-is : (b : ℕ) → is_slash b ≡ true → b ≡ 47
 is_slash-is b e = eqb-true b 47 e

@@ -3,8 +3,8 @@ use Rattle.std.proofs.Common.{◌≡◌, ℕ, ◌+◌, ◌<◌, ◌≤◌, Bool,
 use Rattle.std.specs.List.{list_all, list_any, before_first, after_first, slice_split}
 use Rattle.std.proofs.lemmas.Bool.{ltb-false, not-false, cases_lt}
 use Rattle.std.proofs.lemmas.List.{length-append, nil_from_length}
-use Rattle.up_names.specs.declared.faults.NameFault.{NameFault}
-use Rattle.up_names.specs.declared.faults.NameFault.TheVariants.{TooLong, Element}
+use Rattle.up_names.specs.declared.fault.NameFault.{NameFault}
+use Rattle.up_names.specs.declared.fault.NameFault.TheVariants.{TooLong, Element}
 use Rattle.up_names.specs.PathNames.{PathName, is_slash, is_element, is_name, cleaned, pieces_of, first_bad, path_of, canonical, cut, extended, joined, IsCanonical}
 use Rattle.up_names.specs.PathParts.{after_piece}
 use Rattle.up_names.specs.UserNames.{user_of}

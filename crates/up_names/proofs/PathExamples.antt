@@ -3,7 +3,7 @@ use Rattle.std.specs.Prelude.{◌≡◌, ◌++◌, ◌∷◌, [], List, ℕ, cod
 use Rattle.std.specs.declared.cmp.Ordering.TheVariants.{Less, Greater}
 use Rattle.std.specs.Str.{is_utf8, chars}
 use lib.Utf8.{encode}
-use Rattle.up_names.specs.declared.faults.NameFault.TheVariants.{AtSigns, Element, TooLong}
+use Rattle.up_names.specs.declared.fault.NameFault.TheVariants.{AtSigns, Element, TooLong}
 use Rattle.up_names.specs.declared.paths.Control.TheVariants.{Ordinary, Access, Group}
 use Rattle.up_names.specs.UserNames.{user_of, without_final_period, is_local_part, is_suffix, is_domain, is_label}
 use Rattle.up_names.specs.PathNames.{PathName, path_of, pieces_of, is_element, cleaned, canonical, is_under, parent_of, joined, control_of}

@@ -9,8 +9,8 @@ use Rattle.std.proofs.lemmas.Slice.Eq.{bytes_eq-Decides}
 use Rattle.up_names.specs.PathNames.{PathName, is_slash, is_skipped, is_up, is_allowed_byte, is_element, is_name, cleaned, staying, pieces_of, first_bad, path_from, path_of, canonical, IsCanonical}
 use Rattle.up_names.specs.PathParts.{elements_behind, path_in, read_off}
 use Rattle.up_names.specs.UserNames.{user_of}
-use Rattle.up_names.specs.declared.faults.NameFault.{NameFault}
-use Rattle.up_names.specs.declared.faults.NameFault.TheVariants.{TooLong, Element}
+use Rattle.up_names.specs.declared.fault.NameFault.{NameFault}
+use Rattle.up_names.specs.declared.fault.NameFault.TheVariants.{TooLong, Element}
 use Rattle.up_names.proofs.Cleaning.{staying-all, staying-names, staying-only_names}
 use Rattle.up_names.proofs.Owners.{no_slash, peel}
 use Rattle.up_names.proofs.Firsts.{none_of_all, before_first-at, after_first-at, list_any-at, list_all_weaker}

@@ -4,8 +4,8 @@ use Rattle.std.specs.List.{slice_split, onto_first}
 use Rattle.std.proofs.lemmas.List.{length-append}
 use Rattle.up_names.specs.PathNames.{PathName, is_slash, is_skipped, is_up, is_element, cleaned, first_bad, path_from, canonical, cut, extended}
 use Rattle.up_names.specs.PathParts.{after_piece}
-use Rattle.up_names.specs.declared.faults.NameFault.{NameFault}
-use Rattle.up_names.specs.declared.faults.NameFault.TheVariants.{Element}
+use Rattle.up_names.specs.declared.fault.NameFault.{NameFault}
+use Rattle.up_names.specs.declared.fault.NameFault.TheVariants.{Element}
 use Rattle.up_names.proofs.Cleaning.{walk, walk-staying}
 use Rattle.up_names.proofs.Joined.{joined_text, length-joined}
 use Rattle.up_names.proofs.PathLaws.{path_from-good}

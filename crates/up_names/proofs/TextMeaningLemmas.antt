@@ -4,8 +4,8 @@ use denote.Ref.{Bor}
 use Rattle.std.proofs.lemmas.List.{append-nil}
 use Rattle.std.specs.List.{flat_map, position_or_len}
 use Rattle.std.specs.Option.{is_none, MatchOption}
-use Rattle.up_names.specs.declared.faults.TextFault.{TextFault}
-use Rattle.up_names.specs.declared.faults.TextFault.TheVariants.{BadText}
+use Rattle.up_names.specs.declared.fault.TextFault.{TextFault}
+use Rattle.up_names.specs.declared.fault.TextFault.TheVariants.{BadText}
 use Rattle.up_names.specs.ControlTexts.{control_lines}
 use Rattle.up_names.specs.TextMeanings.{all_some, meaning_of}
 

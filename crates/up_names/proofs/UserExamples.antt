@@ -1,6 +1,6 @@
 -- Worked examples of user names, at each of their limits: they compute.
 use Rattle.std.specs.Prelude.{◌≡◌, ◌++◌, List, ℕ, codes, replicate, refl, Ok, Err}
-use Rattle.up_names.specs.declared.faults.NameFault.TheVariants.{Domain, Local, Suffix, TooLong}
+use Rattle.up_names.specs.declared.fault.NameFault.TheVariants.{Domain, Local, Suffix, TooLong}
 use Rattle.up_names.specs.UserNames.{user_of, without_final_period, is_local_part, is_suffix, is_domain, is_label}
 
 -- so many times `a`

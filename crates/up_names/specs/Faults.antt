@@ -1,9 +1,9 @@
 -- What a fallible call gives, memory aside.
 use Rattle.std.specs.Prelude.{◌≡◌, ◌≢◌, Result, Ok, Err}
-use Rattle.up_names.specs.declared.faults.NameFault.{NameFault}
-use Rattle.up_names.specs.declared.faults.NameFault.TheVariants as name
-use Rattle.up_names.specs.declared.faults.TextFault.{TextFault}
-use Rattle.up_names.specs.declared.faults.TextFault.TheVariants as text
+use Rattle.up_names.specs.declared.fault.NameFault.{NameFault}
+use Rattle.up_names.specs.declared.fault.NameFault.TheVariants as name
+use Rattle.up_names.specs.declared.fault.TextFault.{TextFault}
+use Rattle.up_names.specs.declared.fault.TextFault.TheVariants as text
 
 -- The result, with its value seen by `view`, is exactly what is meant; the fault `memory`, want of memory, alone is free.
 abbrev pub GivesBut : {X Y E : Type 0} → E → (X → Y) → Result X E → Result Y E → Type 0

@@ -4,8 +4,8 @@ use Rattle.std.specs.Prelude.{◌≡◌, ℕ, Bool, ◌+◌, ◌-◌, ◌==◌, 
 use Rattle.std.specs.List.{list_all, list_any, before_first, after_first, slice_split, starts_with, ends_with, join_with_byte}
 use Rattle.std.specs.Str.{byte, bytes_eq, is_utf8}
 use Rattle.up_names.specs.Texts.{Text, UserName}
-use Rattle.up_names.specs.declared.faults.NameFault.{NameFault}
-use Rattle.up_names.specs.declared.faults.NameFault.TheVariants.{TooLong, Element}
+use Rattle.up_names.specs.declared.fault.NameFault.{NameFault}
+use Rattle.up_names.specs.declared.fault.NameFault.TheVariants.{TooLong, Element}
 use Rattle.up_names.specs.declared.paths.Control.{Control}
 use Rattle.up_names.specs.declared.paths.Control.TheVariants.{Ordinary, Access, Group}
 use Rattle.up_names.specs.UserNames.{user_of}

@@ -2,8 +2,8 @@
 -- bad line is told is this project's own.
 use Rattle.std.specs.Prelude.{ℕ, ◌+◌, List, [], ◌∷◌, Option, Some, None, option_map, is_none, Result, Ok, Err}
 use Rattle.std.specs.List.{flat_map, position_or_len}
-use Rattle.up_names.specs.declared.faults.TextFault.{TextFault}
-use Rattle.up_names.specs.declared.faults.TextFault.TheVariants.{BadText}
+use Rattle.up_names.specs.declared.fault.TextFault.{TextFault}
+use Rattle.up_names.specs.declared.fault.TextFault.TheVariants.{BadText}
 
 -- the values in order, where each is there
 abbrev pub all_some : {X : Type 0} → List (Option X) → Option (List X)

@@ -5,8 +5,8 @@ use Rattle.std.specs.List.{list_all, list_any, before_first, after_first, after_
 use Rattle.std.specs.Char.{is_ascii_alphanumeric, is_ascii_digit, is_ascii_lowercase}
 use Rattle.std.specs.Str.{byte, str_to_ascii_lowercase}
 use Rattle.up_names.specs.Texts.{Text, UserName}
-use Rattle.up_names.specs.declared.faults.NameFault.{NameFault}
-use Rattle.up_names.specs.declared.faults.NameFault.TheVariants.{TooLong, AtSigns, Local, Suffix, Domain}
+use Rattle.up_names.specs.declared.fault.NameFault.{NameFault}
+use Rattle.up_names.specs.declared.fault.NameFault.TheVariants.{TooLong, AtSigns, Local, Suffix, Domain}
 
 abbrev pub is_at : ℕ → Bool
 is_at b = b == byte "@"

@@ -7,7 +7,7 @@ ghost use Rattle.up_names.specs.UserNames.{domain_of, user_of};
 
 use crate::cuts::cut;
 use crate::domains::{Domain, parse_domain};
-use crate::faults::NameFault;
+use crate::fault::NameFault;
 use crate::path_parts::parse_path;
 use crate::paths::Path;
 use crate::users::{User, parse_user, without_final_period};

@@ -5,10 +5,10 @@ ghost use Rattle.std.specs.Str.{byte};
 ghost use Rattle.up_names.specs.Faults.{Gives};
 ghost use Rattle.up_names.specs.PathNames.{canonical, extended, is_allowed_byte, is_element, is_name, is_slash, path_from, path_of};
 ghost use Rattle.up_names.specs.PathParts.{after_piece};
-ghost use Rattle.up_names.specs.declared.faults.NameFault.TheVariants.{Element};
+ghost use Rattle.up_names.specs.declared.fault.NameFault.TheVariants.{Element};
 
 use crate::cuts::cut_at_slash;
-use crate::faults::NameFault;
+use crate::fault::NameFault;
 use crate::paths::Path;
 use crate::users::{User, parse_user};
 use std::alloc::Global;

@@ -11,7 +11,7 @@ ghost use Rattle.up_names.specs.PathOrder.{path_cmp, path_eq};
 ghost use Rattle.up_names.specs.PathParts.{begin_of};
 ghost use Rattle.up_names.specs.PathOrderLaws.{path_cmp_eq, path_cmp_total, path_eq_equivalence, path_eq_partial, path_hash, path_partial_order};
 
-use crate::faults::NameFault;
+use crate::fault::NameFault;
 use crate::path_parts::{MAX_LEN, behind_owner, is_name, parse_path, take_pieces};
 use crate::users::User;
 use std::alloc::AllocError;

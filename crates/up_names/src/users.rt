@@ -14,7 +14,7 @@ ghost use Rattle.up_names.specs.UserNames.{user_of, without_final_period, is_loc
 
 use crate::cuts::cut;
 use crate::domains::is_domain_in_any_case;
-use crate::faults::NameFault;
+use crate::fault::NameFault;
 use std::alloc::{AllocError, Global};
 use std::cmp::Ordering;
 use std::hash::{Hash, Hasher};

@@ -10,7 +10,7 @@ use Rattle.std.proofs.lemmas.Bool.{and_parts, eq-eqb, false≢true, le-leb, lt-l
 use Rattle.up_names.specs.PathNames.{PathName, parent_of}
 use Rattle.up_names.specs.Texts.{Text, UserName}
 use Rattle.up_names.specs.UserNames.{suffix_of}
-use Rattle.up_names.specs.declared.faults.TextFault.{TextFault}
+use Rattle.up_names.specs.declared.fault.TextFault.{TextFault}
 use Rattle.up_names.specs.declared.paths.Control.{Control}
 use Rattle.up_names.specs.declared.paths.Control.TheVariants.{Ordinary, Access, Group}
 use Rattle.up_access.specs.AccessTexts.{access_of}

@@ -8,7 +8,7 @@ use Rattle.up_names.specs.UserNames.{is_domain, is_label, is_local_part, is_suff
 use Rattle.up_pattern.specs.Matching.{matches}
 use Rattle.up_pattern.specs.Elements.{class_of, literal_of, ranges_of, terms_behind, terms_of, tokens_behind}
 use Rattle.up_pattern.specs.Patterns.{elements_of, element_of, pattern_of}
-use Rattle.up_pattern.specs.declared.faults.PatternFault.TheVariants.{Name, Element}
+use Rattle.up_pattern.specs.declared.fault.PatternFault.TheVariants.{Name, Element}
 
 -- whether a text matches an element, where that is not malformed
 unfoldable answer : List ℕ → List ℕ → Option Bool

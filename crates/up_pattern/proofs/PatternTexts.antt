@@ -6,7 +6,7 @@ use Rattle.up_names.specs.PathNames.{cleaned, is_slash, pieces_of}
 use Rattle.up_names.specs.UserNames.{user_of}
 use Rattle.up_pattern.specs.declared.terms.Term.{Term}
 use Rattle.up_pattern.specs.Patterns.{elements_of, pattern_from, pattern_of, with_owner}
-use Rattle.up_pattern.specs.declared.faults.PatternFault.TheVariants.{Name}
+use Rattle.up_pattern.specs.declared.fault.PatternFault.TheVariants.{Name}
 
 -- what stands behind the slash is cut into the pieces
 pub pieces_of-some : (text behind : List ℕ) → Some behind ≡ (if list_any is_slash text then Some (after_first is_slash text) else None)

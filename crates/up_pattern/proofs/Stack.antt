@@ -10,10 +10,10 @@ use Rattle.std.proofs.lemmas.List.Splits.{length-slice_split}
 use Rattle.std.proofs.lemmas.List.{length-map, map-append, take-map}
 use Rattle.up_names.specs.PathNames.{cleaned, is_skipped, is_slash, is_up}
 use Rattle.up_names.proofs.Cleaning.{stepped, walk, walk-staying}
-use Rattle.up_pattern.specs.declared.faults.PatternFault.{PatternFault}
-use Rattle.up_pattern.specs.declared.faults.PatternFault.TheVariants.{Element, OutOfMemory}
-use Rattle.up_pattern.specs.declared.faults.ElementFault.{ElementFault}
-use Rattle.up_pattern.specs.declared.faults.ElementFault.TheVariants as element
+use Rattle.up_pattern.specs.declared.fault.PatternFault.{PatternFault}
+use Rattle.up_pattern.specs.declared.fault.PatternFault.TheVariants.{Element, OutOfMemory}
+use Rattle.up_pattern.specs.declared.fault.ElementFault.{ElementFault}
+use Rattle.up_pattern.specs.declared.fault.ElementFault.TheVariants as element
 use Rattle.up_pattern.specs.PatternGives.{piece_fault}
 use Rattle.up_pattern.specs.declared.terms.Term.{Term}
 use Rattle.up_pattern.specs.Patterns.{after_piece, element_of, elements_of, elements_unless, is_bad, terms_in}

@@ -1,12 +1,12 @@
 -- What the reader of a pattern gives, memory aside.
 use Rattle.std.specs.Prelude.{ℕ, Result}
 use Rattle.up_names.specs.Faults.{GivesBut}
-use Rattle.up_names.specs.declared.faults.NameFault.{NameFault}
-use Rattle.up_names.specs.declared.faults.NameFault.TheVariants as name
-use Rattle.up_pattern.specs.declared.faults.ElementFault.{ElementFault}
-use Rattle.up_pattern.specs.declared.faults.ElementFault.TheVariants as element
-use Rattle.up_pattern.specs.declared.faults.PatternFault.{PatternFault}
-use Rattle.up_pattern.specs.declared.faults.PatternFault.TheVariants.{Name, Element, OutOfMemory}
+use Rattle.up_names.specs.declared.fault.NameFault.{NameFault}
+use Rattle.up_names.specs.declared.fault.NameFault.TheVariants as name
+use Rattle.up_pattern.specs.declared.fault.ElementFault.{ElementFault}
+use Rattle.up_pattern.specs.declared.fault.ElementFault.TheVariants as element
+use Rattle.up_pattern.specs.declared.fault.PatternFault.{PatternFault}
+use Rattle.up_pattern.specs.declared.fault.PatternFault.TheVariants.{Name, Element, OutOfMemory}
 
 -- The result, with its value seen by `view`, is exactly what is meant; want of memory alone is free.
 abbrev pub Gives : {X Y : Type 0} → (X → Y) → Result X PatternFault → Result Y PatternFault → Type 0

@@ -5,10 +5,10 @@ use Rattle.std.specs.Option.{option_map, option_map_or}
 use Rattle.std.specs.Str.{bytes_eq, chars}
 use Rattle.up_names.specs.PathNames.{cleaned, is_element, is_name, is_skipped, is_slash, is_up, pieces_of}
 use Rattle.up_names.specs.UserNames.{user_of}
-use Rattle.up_names.specs.declared.faults.NameFault.{NameFault}
+use Rattle.up_names.specs.declared.fault.NameFault.{NameFault}
 use Rattle.up_pattern.specs.Elements.{literal_of, terms_of}
-use Rattle.up_pattern.specs.declared.faults.PatternFault.{PatternFault}
-use Rattle.up_pattern.specs.declared.faults.PatternFault.TheVariants.{Name, Element}
+use Rattle.up_pattern.specs.declared.fault.PatternFault.{PatternFault}
+use Rattle.up_pattern.specs.declared.fault.PatternFault.TheVariants.{Name, Element}
 use Rattle.up_pattern.specs.declared.terms.Term.{Term}
 
 -- a pattern: its owner's canonical name, and the terms of each of its elements

@@ -4,7 +4,7 @@ ghost use Rattle.up_pattern.specs.Elements.{class_of, in_front, prepended, range
 ghost use Rattle.up_pattern.specs.Reading.{Reads};
 ghost use Rattle.up_pattern.specs.declared.terms.Range.{Range};
 
-use crate::faults::ElementFault;
+use crate::fault::ElementFault;
 use crate::terms::{Range, Term};
 use crate::tokens::Token;
 use std::alloc::Global;

@@ -11,7 +11,7 @@ ghost use Rattle.up_pattern.specs.Elements.{IsClosed, is_close, literal_of, term
 ghost use Rattle.up_pattern.specs.Reading.{Reads};
 
 use crate::classes::class_of;
-use crate::faults::ElementFault;
+use crate::fault::ElementFault;
 use crate::matching::matches_terms;
 use crate::terms::Term;
 use crate::tokens::Token;

@@ -7,12 +7,12 @@
 
 mod classes;
 mod elements;
-mod faults;
+mod fault;
 pub mod laws;
 mod matching;
 mod patterns;
 pub mod terms;
 mod tokens;
 
-pub use faults::PatternFault;
+pub use fault::PatternFault;
 pub use patterns::{Pattern, parse_pattern};

@@ -11,7 +11,7 @@ ghost use Rattle.up_pattern.specs.Patterns.{after_piece, element_of, elements_of
 ghost use Rattle.up_pattern.specs.Reading.{Reads};
 
 use crate::elements::Element;
-use crate::faults::{ElementFault, PatternFault};
+use crate::fault::{ElementFault, PatternFault};
 use std::alloc::Global;
 use std::marker::Model;
 use up_names::{User, cut_at_slash, element_text, parse_user};

@@ -4,7 +4,7 @@ ghost use Rattle.std.specs.Str.{chars};
 ghost use Rattle.up_pattern.specs.Elements.{escapes};
 ghost use Rattle.up_pattern.specs.Reading.{Reads};
 
-use crate::faults::ElementFault;
+use crate::fault::ElementFault;
 use std::alloc::Global;
 
 /// A character of an element, and whether a `\` stands before it, so that it stands for itself alone.

@@ -8,8 +8,8 @@ use Rattle.std.specs.declared.alloc.AllocError.{AllocError}
 use Rattle.up_faults.specs.Counts.{Rose}
 use Rattle.up_entry.specs.declared.fetch.Fetch.TheVariants as fetches
 use Rattle.up_group.specs.GroupTexts.{group_of}
-use Rattle.up_names.specs.declared.faults.TextFault.{TextFault}
-use Rattle.up_names.specs.declared.faults.TextFault.TheVariants as text
+use Rattle.up_names.specs.declared.fault.TextFault.{TextFault}
+use Rattle.up_names.specs.declared.fault.TextFault.TheVariants as text
 use Rattle.up_names.specs.declared.items.Item.{Item}
 use Rattle.up_policy.specs.declared.load_answer.LoadAnswer.{LoadAnswer}
 use Rattle.up_policy.specs.declared.load_answer.LoadAnswer.TheVariants as loads

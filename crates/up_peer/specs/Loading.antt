@@ -3,8 +3,8 @@ use Rattle.std.specs.Prelude.{◌≡◌, ◌-◌, ◌^◌, ℕ, List, min, sum_b
 use Rattle.std.specs.Result.{result_ok}
 use Rattle.std.specs.declared.alloc.AllocError.{AllocError}
 use Rattle.up_names.specs.PathNames.{PathName}
-use Rattle.up_names.specs.declared.faults.TextFault.{TextFault}
-use Rattle.up_names.specs.declared.faults.TextFault.TheVariants as text
+use Rattle.up_names.specs.declared.fault.TextFault.{TextFault}
+use Rattle.up_names.specs.declared.fault.TextFault.TheVariants as text
 use Rattle.up_names.specs.declared.items.Item.{Item}
 use Rattle.up_group.specs.GroupTexts.{group_of}
 use Rattle.up_policy.specs.declared.load_answer.LoadAnswer.{LoadAnswer}

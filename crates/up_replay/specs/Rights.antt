@@ -2,7 +2,7 @@
 use Rattle.std.specs.Prelude.{⊤, Bool, true, false, ◌&&◌, if◌then◌else◌, List, [], codes, find, Option, Some, None, is_some, Result, Ok, Err}
 use Rattle.std.specs.Map.{keys_of}
 use Rattle.std.specs.Option.{option_map}
-use Rattle.up_names.specs.declared.faults.TextFault.{TextFault}
+use Rattle.up_names.specs.declared.fault.TextFault.{TextFault}
 use Rattle.up_names.specs.declared.items.Item.{Item}
 use Rattle.up_names.specs.declared.paths.Control.TheVariants as control
 use Rattle.up_names.specs.Texts.{UserName}

@@ -6,7 +6,7 @@ use Rattle.std.proofs.lemmas.List.{drop_more, drop_all, length_push}
 use Rattle.std.proofs.lemmas.Result.{err_from_is_err_and}
 use Rattle.up_names.specs.PathNames.{is_element, is_slash}
 use Rattle.up_names.specs.PathParts.{after_piece}
-use Rattle.up_names.specs.declared.faults.NameFault.TheVariants.{Element}
+use Rattle.up_names.specs.declared.fault.NameFault.TheVariants.{Element}
 use Rattle.up_names.proofs.PathPieces.{Going, going_begins, going_fits, going_within, going_on, going_bad, going_ends, taken, refused}
 use Rattle.up_names.proofs.path_parts.take_pieces.Goals as goal
 use Rattle.up_names.proofs.path_parts.take_pieces.Goals.{In-Some}

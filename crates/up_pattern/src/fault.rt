@@ -1,6 +1,6 @@
 //! Why a text is no pattern.
 ghost use Rattle.std.specs.Prelude.{◌≡◌};
-ghost use Rattle.up_pattern.specs.declared.faults.ElementFault.TheVariants.{OutOfMemory};
+ghost use Rattle.up_pattern.specs.declared.fault.ElementFault.TheVariants.{OutOfMemory};
 
 use std::alloc::{AllocError, AllocFailed};
 use thiserror::Error;

@@ -1,7 +1,7 @@
 //! Why a text is no name, and no text of rules or members.
 ghost use Rattle.std.specs.Prelude.{◌≡◌};
-ghost use Rattle.up_names.specs.declared.faults.NameFault.TheVariants as name_fault;
-ghost use Rattle.up_names.specs.declared.faults.TextFault.TheVariants as text_fault;
+ghost use Rattle.up_names.specs.declared.fault.NameFault.TheVariants as name_fault;
+ghost use Rattle.up_names.specs.declared.fault.TextFault.TheVariants as text_fault;
 
 use std::alloc::{AllocError, AllocFailed};
 use thiserror::Error;
