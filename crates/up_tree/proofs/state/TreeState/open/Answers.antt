@@ -1,0 +1,17 @@
+use Rattle.std.proofs.Common.{refl, sym, ap, ◌∙◌, subst}
+use Rattle.up_entry.specs.Spelling as spelling
+use Rattle.up_journal.proofs.Logs.{opens_log, refuses_opened, refuses_read}
+use Rattle.up_replay.specs.Fits.{fits}
+use Rattle.up_tree.specs.States.{record_in}
+use Rattle.up_tree.proofs.state.TreeState.open.Goals as goal
+
+pub returns-in-Err-clause-refuses : goal.returns-in-Err-clause-refuses
+returns-in-Err-clause-refuses g c =
+    let e = c.in-Err.ensures in
+    refuses_opened g.D.Disk record_in (fits c.args.owner) c.args.disk c.args.limits c.in-Err.fault e.damaged e.synced
+
+pub returns-in-Err-replay-clause-refuses : goal.returns-in-Err-replay-clause-refuses
+returns-in-Err-replay-clause-refuses g c =
+    let e = c.in-Ok.ensures in
+    rw c.into_disk.ensures.disk
+    (refuses_read g.D.Disk record_in (fits c.args.owner) c.args.disk c.args.limits c.in-Ok.journal c.replay.new.journal c.in-Err-replay.why e.log e.safe c.in-Err-replay.ensures.damaged c.replay.ensures.read)
