@@ -135,6 +135,14 @@ impl<D: Disk> TreeState<D> {
         self.limits.largest
     }
 
+    /// The tree in memory: what answers from a tree alone is proved over it.
+    pub fn memory(&self) -> &MemTree
+        ensures owner { result.now.owner ≡ self.now.owner }
+        ensures log { result.now.log ≡ self.now.log }
+    {
+        &self.tree
+    }
+
     /// What stands at a path.
     pub fn node(&self, path: &Path) -> Option<&Node>
         ensures { option_copied result ≡ node_at (tree_of self.now.log) path.now }
