@@ -1,5 +1,5 @@
 -- A record that is added, or refused.
-use Rattle.std.proofs.Common.{◌≡◌, ◌≢◌, ◌≤◌, ℕ, Bool, true, false, not, List, [], ◌∷◌, ◌++◌, length, map, Option, Some, None, Result, Ok, Err, IsErrAnd, refl, sym, ◌∙◌, ap, subst, ◌⊎◌}
+use Rattle.std.proofs.Common.{◌≡◌, ◌≢◌, ◌≤◌, ℕ, Bool, true, false, not, List, [], ◌∷◌, ◌++◌, length, map, IfSome, Option, Some, None, Result, Ok, Err, IsErrAnd, refl, sym, ◌∙◌, ap, subst, ◌⊎◌}
 use Rattle.std.specs.Result.{result_ok}
 use Rattle.std.proofs.lemmas.Bool.{false≢true}
 use Rattle.up_disk.specs.declared.disk.Disk.{Ghosts}
@@ -124,3 +124,7 @@ module _ {D : Type 0} (disks : Ghosts D) (owner : List ℕ) where
 pub err_is : (result : Result ℕ AppendWhy) (why : AppendWhy) → IsErrAnd result (λ found. found ≡ why) → result ≡ Err why
 err_is (Ok position) why is = absurd is
 err_is (Err found) why is = ap Err is
+
+-- the log after the record that was made ready is entered
+pub log_entered : (ready : Option Rec) (rec : Rec) (log new : List Rec) → ready ≡ Some rec → IfSome ready (λ made. new ≡ log ++ made ∷ []) → new ≡ log ++ rec ∷ []
+log_entered ready rec log new is entered = subst (λ (found : Option Rec). IfSome found (λ made. new ≡ log ++ made ∷ [])) is entered

@@ -2,11 +2,13 @@ use Rattle.std.proofs.Common.{◌≡◌, None, Some, Ok, true, IsErrOf, ℕ, Lis
 use Rattle.up_faults.proofs.Causes.{HasCause-then, HasCause-weaker}
 use Rattle.up_journal.specs.Journal.{State}
 use Rattle.up_journal.specs.Logs.{log_step}
+use Rattle.up_journal.specs.Records.{replay}
 use Rattle.up_journal.specs.declared.fault.ReadWhy.TheVariants as read_why
 use Rattle.up_journal.proofs.Records.{next_damaged, next_read, payload_read, size_seen, take_next}
 use Rattle.up_replay.specs.Fits.{fits}
 use Rattle.up_replay.specs.Sizes.{sizes_of}
 use Rattle.up_tree.specs.States.{record_in}
+use Rattle.up_tree.proofs.Damages.{memory_damage, read_damage}
 use Rattle.up_tree.proofs.replay.take_all.Goals as goal
 
 pub returns-then-not-branch-clause-damaged : goal.returns-then-not-branch-clause-damaged
@@ -49,3 +51,19 @@ loop-n-preserved g c =
       sizes = c.take.ensures.sizes taken ∙ ap (λ (l : List ℕ). sizes_of c.loop-n.tree.log ++ length l ∷ []) c.as_slice.ensures
           ∙ ap (λ (l : List ℕ). l ++ length payload ∷ []) i.sizes ∙ sym (take_next old.sizes c.loop-n.n (length payload) size);
     }
+
+pub returns-in_err-payload-clause-damaged : goal.returns-in_err-payload-clause-damaged
+returns-in_err-payload-clause-damaged g c = read_damage (replay (log_step record_in (fits c.args.tree.now.owner)) []) c.args.journal.now.log c.from_residual.result c.in_err-payload.field-0.0 c.from_residual.ensures.1
+
+pub returns-in_err-payload-clause-read : goal.returns-in_err-payload-clause-read
+returns-in_err-payload-clause-read g c =
+    let e = c.payload.ensures in
+    payload_read g.D.Disk c.args.journal.now c.loop-n.journal c.payload.new.self c.loop-n.invariant.read e.unchanged e.content e.fewer e.crash
+
+pub returns-in_err-take-clause-damaged : goal.returns-in_err-take-clause-damaged
+returns-in_err-take-clause-damaged g c = memory_damage (replay (log_step record_in (fits c.args.tree.now.owner)) []) c.args.journal.now.log c.from_residual-in_err-take.result c.from_residual-in_err-take.ensures.1
+
+pub returns-in_err-take-clause-read : goal.returns-in_err-take-clause-read
+returns-in_err-take-clause-read g c =
+    let e = c.payload.ensures in
+    payload_read g.D.Disk c.args.journal.now c.loop-n.journal c.payload.new.self c.loop-n.invariant.read e.unchanged e.content e.fewer e.crash

@@ -8,7 +8,7 @@ use Rattle.up_journal.specs.declared.fault.AppendWhy.{AppendWhy}
 use Rattle.up_journal.specs.declared.fault.AppendWhy.TheVariants as append
 use Rattle.up_replay.specs.Fits.{Fits, fits}
 use Rattle.up_tree.specs.States.{Applies, State, record_in, state_of}
-use Rattle.up_tree.proofs.Applying.{applied, err_is, no_memory, not_applied, read_again, spelled_rec}
+use Rattle.up_tree.proofs.Applying.{applied, err_is, log_entered, no_memory, not_applied, read_again, spelled_rec}
 use Rattle.up_tree.proofs.state.TreeState.add.Given.{Over}
 use Rattle.up_tree.proofs.state.TreeState.add.Goals as goal
 
@@ -69,3 +69,17 @@ after_append g c =
     (c.as_slice.ensures ∙ c.in_ok-payload.ensures.written) e.sizes e.appended e.settled e.limits e.position e.crash
     (λ full. absurd (let both = sym was ∙ c.append.ensures.full full in cc))
     (HasCause-weaker (g.D.Disk.faults i.journal.disk) (g.D.Disk.faults c.append.new.self.disk) (IsErrOf c.append.result append.Fault) ⊥ c.append.ensures.counts (λ none. absurd none))
+
+entered : (g : Over) (c : goal.After-drop-payload-inside-2 g) → c.enter.new.self.log ≡ c.self.inside.tree.log ++ c.args.rec ∷ []
+entered g c =
+    log_entered c.make_ready.new.self.ready c.args.rec c.make_ready.new.self.log c.enter.new.self.log c.in_ok-make_ready.ensures c.enter.ensures.log
+    ∙ ap (λ (l : List Rec). l ++ c.args.rec ∷ []) c.make_ready.ensures.log
+
+pub invariant_of-self-2 : goal.invariant_of-self-2
+invariant_of-self-2 g c = rw (c.enter.ensures.owner, c.make_ready.ensures.owner, entered g c) (record {
+  keeps = (after_append g c).0;
+  limits_are = c.self.invariant.limits_are ∙ sym c.in_ok-position.ensures.limits;
+})
+
+pub returns : goal.returns
+returns g c = rw (c.enter.ensures.owner, c.make_ready.ensures.owner, entered g c, ← c.self.view_is) (after_append g c).1
