@@ -3,6 +3,7 @@ use crate::crashes::Crashes;
 use crate::ends::Ends;
 use crate::fields::Fields;
 use crate::frames::Streams;
+use crate::globs::Globs;
 use crate::lines::{File, run_lines};
 use crate::logs::Logs;
 use crate::moves::Moves;
@@ -78,6 +79,7 @@ fn run_file<R: Files + RandomSource + AllocGlobal + Print>(
         "crashes" => run_lines(rt, file, Crashes, tally),
         "records" => run_lines(rt, file, Records::new(), tally),
         "scripts" => run_scripts(rt, file, RandomState::new(rt)?, tally),
+        "globs" => run_lines(rt, file, Globs::new(RandomState::new(rt)?), tally),
         "rights" => run_lines(rt, file, Rights::new(RandomState::new(rt)?), tally),
         _ => {
             tally.fail();

@@ -12,6 +12,7 @@ mod fault;
 mod fields;
 mod files;
 mod frames;
+mod globs;
 mod lines;
 mod logs;
 mod moves;

@@ -8,6 +8,8 @@ use crate::answer::Answer;
 use crate::fault::Fault;
 use crate::topic::Topic;
 use crate::words::Words;
+pub use disk::empty_tree;
+pub use recs::turn as record_turn;
 use std::alloc::Global;
 use up_disk::MemDisk;
 use up_lists::Items;

@@ -90,6 +90,16 @@ fn open(alloc: Global, disk: MemDisk, owner: User, limits: Limits, answer: &mut 
     }
 }
 
+/// A tree of this owner over an empty disk, with limits that no case comes to.
+pub fn empty_tree(alloc: Global, owner: &str) -> Result<TreeState<MemDisk>, Fault> {
+    let owner = owner_of(alloc, owner)?;
+    let disk = MemDisk::new(alloc, Items::new(alloc));
+    match TreeState::open(alloc, disk, owner, WIDE) {
+        Ok(tree) => Ok(tree),
+        Err(_) => Err(Fault::OutOfMemory),
+    }
+}
+
 // `fail N M`: an empty disk of which the calls N to N + M - 1 fail.
 fn fail_line(alloc: Global, mut words: Words<'_>, answer: &mut Answer) -> Result<Stage, Fault> {
     let (first, count) = words.two_numbers()?;
