@@ -1,5 +1,5 @@
 -- A record that is added, or refused.
-use Rattle.std.proofs.Common.{◌≡◌, ◌≢◌, ◌≤◌, ℕ, Bool, true, false, not, List, [], ◌∷◌, ◌++◌, length, map, IfSome, Option, Some, None, Result, Ok, Err, IsErrAnd, refl, sym, ◌∙◌, ap, subst, ◌⊎◌}
+use Rattle.std.proofs.Common.{◌≡◌, ◌≢◌, ◌≤◌, ℕ, Bool, true, false, not, List, [], ◌∷◌, ◌++◌, length, map, is_ok, if◌then◌else◌, IfSome, Option, Some, None, Result, Ok, Err, IsErrAnd, refl, sym, ◌∙◌, ap, subst, ◌⊎◌}
 use Rattle.std.specs.Result.{result_ok}
 use Rattle.std.proofs.lemmas.Bool.{false≢true}
 use Rattle.up_disk.specs.declared.disk.Disk.{Ghosts}
@@ -13,6 +13,7 @@ use Rattle.up_entry.specs.declared.entries.Kind.TheVariants.{File, Directory, Li
 use Rattle.up_entry.specs.declared.records.Rec.{Rec}
 use Rattle.up_entry.specs.declared.records.Rec.TheVariants.{Put, Delete, Snap}
 use Rattle.up_entry.proofs.FixedFormLemmas.{form_spelled}
+use Rattle.up_ends.specs.Growing.{OnlyGrows}
 use Rattle.up_faults.specs.Counts.{HasCause}
 use Rattle.up_faults.proofs.Causes.{HasCause-same, HasCause-weaker}
 use Rattle.up_journal.specs.Crashes.{Leaves}
@@ -22,12 +23,14 @@ use Rattle.up_journal.specs.Logs.{KeepsLog}
 use Rattle.up_journal.specs.declared.fault.AppendWhy.{AppendWhy}
 use Rattle.up_journal.specs.declared.fault.AppendWhy.TheVariants as append
 use Rattle.up_journal.proofs.Logs.{adds_err, adds_none, adds_ok, keeps_full, keeps_len}
+use Rattle.up_lists.specs.Begins.{Begins}
+use Rattle.up_lists.proofs.BeginsLemmas.{Begins-append, Begins-self}
 use Rattle.up_names.specs.PathNames.{PathName, control_of}
 use Rattle.up_names.specs.declared.paths.Control.{Control}
 use Rattle.up_names.specs.declared.paths.Control.TheVariants.{Ordinary, Access, Group}
 use Rattle.up_nodes.proofs.Tested.{fits_test}
 use Rattle.up_replay.specs.Fits.{Fits, PutFits, TextFits, control_for, fits}
-use Rattle.up_tree.specs.States.{Applies, record_in, state_of}
+use Rattle.up_tree.specs.States.{Applies, State, entries_of, fixed_of, record_in, state_of}
 
 -- ---- a record that fits has a spelling
 
@@ -53,10 +56,10 @@ spelled_rec owner before (Snap time) is = tt
 pub read_again : (rec : Rec) (payload : List ℕ) → rec_of payload ≡ Ok rec → record_in payload ≡ Some rec
 read_again rec payload is = ap result_ok is
 
-fails : AppendWhy → Result ℕ AppendWhy
+abbrev fails : AppendWhy → Result ℕ AppendWhy
 fails why = Err why
 
-done : ℕ → Result ℕ AppendWhy
+abbrev done : ℕ → Result ℕ AppendWhy
 done position = Ok position
 
 -- ---- what contracts see of it
@@ -128,3 +131,17 @@ err_is (Err found) why is = ap Err is
 -- the log after the record that was made ready is entered
 pub log_entered : (ready : Option Rec) (rec : Rec) (log new : List Rec) → ready ≡ Some rec → IfSome ready (λ made. new ≡ log ++ made ∷ []) → new ≡ log ++ rec ∷ []
 log_entered ready rec log new is entered = subst (λ (found : Option Rec). IfSome found (λ made. new ≡ log ++ made ∷ [])) is entered
+
+-- ---- an addition only grows the log
+
+begins_after : (result : Result ℕ AppendWhy) (old new : List Rec) (rec : Rec) → new ≡ (if is_ok result then old ++ rec ∷ [] else old) → Begins old new
+begins_after (Ok position) old new rec is = subst (λ (l : List Rec). Begins old l) (sym is) (Begins-append old (rec ∷ []))
+begins_after (Err why) old new rec is = subst (λ (l : List Rec). Begins old l) (sym is) (Begins-self old)
+
+pub applied_grows : {D : Type 0} (disks : Ghosts D) (rec : Rec) (old new : State D) (result : Result ℕ AppendWhy) → Applies disks rec old new result
+    → OnlyGrows entries_of (λ (state : State D). disks.faults state.disk) fixed_of old new
+applied_grows disks rec old new result is = record {
+  begins = begins_after result old.log new.log rec is.added.log;
+  later = is.cause.later;
+  stays = (let owner : new.owner ≡ old.owner = is.owner in let limits : new.limits ≡ old.limits = is.added.limits in cc);
+}

@@ -1,5 +1,6 @@
 -- How many bytes a log has, by the sizes of its records.
-use Rattle.std.proofs.Common.{◌≡◌, ◌+◌, ℕ, List, [], ◌∷◌, map, refl, arith, sum_by}
+use Rattle.std.proofs.Common.{◌≡◌, ◌+◌, ◌≤◌, ◌∙◌, ℕ, List, [], ◌∷◌, length, map, ap, sym, subst, Option, Some, None, IfSome, refl, arith, sum_by}
+use Rattle.std.proofs.lemmas.List.{length-map}
 use Rattle.std.proofs.lemmas.List.Sums.{sum_by-cons}
 use Rattle.up_entry.specs.declared.records.Rec.{Rec}
 use Rattle.up_journal.specs.Journal as journal
@@ -12,3 +13,8 @@ sums (rec ∷ log) = omega (arith, sum_by-cons (λ (size : ℕ). size + 37) (siz
 
 pub log_bytes : (log : List Rec) → journal.bytes_of (sizes_of log) ≡ bytes_of log
 log_bytes log = omega (arith, sums log)
+
+-- all payloads are read once their number is come to
+pub none_left : (log : Option (List (List ℕ))) (sizes : List ℕ) (n : ℕ) → IfSome log (λ payloads. map length payloads ≡ sizes) → length sizes ≤ n → IfSome log (λ payloads. length payloads ≤ n)
+none_left None sizes n is ended = tt
+none_left (Some payloads) sizes n is ended = omega (arith, ended, ap length is, length-map payloads (λ (payload : List ℕ). length payload))

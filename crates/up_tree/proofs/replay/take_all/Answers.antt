@@ -1,13 +1,14 @@
-use Rattle.std.proofs.Common.{◌≡◌, None, Some, Ok, true, IsErrOf, ℕ, List, [], ◌∷◌, ◌++◌, ◌∙◌, ap, sym, length, take}
+use Rattle.std.proofs.Common.{◌≡◌, None, Some, Ok, true, IsErrOf, ℕ, List, [], ◌∷◌, ◌++◌, ◌≤◌, ◌∙◌, ap, sym, length, take, arith}
 use Rattle.up_faults.proofs.Causes.{HasCause-then, HasCause-weaker}
-use Rattle.up_journal.specs.Journal.{State}
+use Rattle.up_journal.specs.Journal.{State, gate_behind}
 use Rattle.up_journal.specs.Logs.{log_step}
 use Rattle.up_journal.specs.Records.{replay}
 use Rattle.up_journal.specs.declared.fault.ReadWhy.TheVariants as read_why
-use Rattle.up_journal.proofs.Records.{next_damaged, next_read, payload_read, size_seen, take_next}
+use Rattle.up_journal.proofs.Records.{next_damaged, next_read, read_all, payload_read, size_seen, take_next}
 use Rattle.up_replay.specs.Fits.{fits}
 use Rattle.up_replay.specs.Sizes.{sizes_of}
 use Rattle.up_tree.specs.States.{record_in}
+use Rattle.up_tree.proofs.Sizes.{none_left}
 use Rattle.up_tree.proofs.Damages.{memory_damage, read_damage}
 use Rattle.up_tree.proofs.replay.take_all.Goals as goal
 
@@ -67,3 +68,11 @@ pub returns-in_err-take-clause-read : goal.returns-in_err-take-clause-read
 returns-in_err-take-clause-read g c =
     let e = c.payload.ensures in
     payload_read g.D.Disk c.args.journal.now c.loop-n.journal c.payload.new.self c.loop-n.invariant.read e.unchanged e.content e.fewer e.crash
+
+pub returns-clause-log : goal.returns-clause-log
+returns-clause-log g c =
+    let journal = c.args.journal.now in
+    let step = log_step record_in (fits c.args.tree.now.owner) in
+    let ended : length journal.sizes ≤ c.loop-n.n = omega (arith, c.loop-n-test.false, c.len-n-end.ensures.count) in
+    read_all step [] journal.log c.loop-n.n (gate_behind (take c.loop-n.n journal.sizes)) c.loop-n.tree.log c.loop-n.invariant.so_far
+    (none_left journal.log journal.sizes c.loop-n.n c.len-n-end.ensures.sizes ended)

@@ -72,7 +72,7 @@ after_append g c =
 
 entered : (g : Over) (c : goal.After-drop-payload-inside-2 g) → c.enter.new.self.log ≡ c.self.inside.tree.log ++ c.args.rec ∷ []
 entered g c =
-    log_entered c.make_ready.new.self.ready c.args.rec c.make_ready.new.self.log c.enter.new.self.log c.in_ok-make_ready.ensures c.enter.ensures.log
+    log_entered c.make_ready.new.self.ready c.args.rec c.make_ready.new.self.log c.enter.new.self.log c.in_ok-make_ready.ensures.ready c.enter.ensures.log
     ∙ ap (λ (l : List Rec). l ++ c.args.rec ∷ []) c.make_ready.ensures.log
 
 pub invariant_of-self-2 : goal.invariant_of-self-2

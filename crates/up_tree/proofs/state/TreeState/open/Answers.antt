@@ -1,6 +1,7 @@
 use Rattle.std.proofs.Common.{refl, sym, ap, ◌∙◌, subst}
 use Rattle.up_entry.specs.Spelling as spelling
 use Rattle.up_journal.proofs.Logs.{opens_log, refuses_opened, refuses_read}
+use Rattle.up_journal.proofs.Records.{opened_and_read}
 use Rattle.up_replay.specs.Fits.{fits}
 use Rattle.up_tree.specs.States.{record_in}
 use Rattle.up_tree.proofs.state.TreeState.open.Goals as goal
@@ -33,3 +34,8 @@ returns-in-Ok-replay-clause-opens g c =
       owner_is = r.owner;
       opens = (opens_log g.D.Disk record_in (fits c.args.owner) spelling.rec c.args.disk c.args.limits c.in-Ok.journal c.replay.new.journal c.in-Ok-replay.tree.log e.log e.settled e.limits e.safe r.sizes r.log c.replay.ensures.read).1;
     }
+
+pub returns-in-Ok-replay-clause-opened : goal.returns-in-Ok-replay-clause-opened
+returns-in-Ok-replay-clause-opened g c =
+    let e = c.in-Ok.ensures in
+    opened_and_read g.D.Disk c.args.disk c.in-Ok.journal c.replay.new.journal c.args.limits e.log e.settled.nothing e.limits e.opened c.replay.ensures.read
