@@ -1,6 +1,5 @@
 //! Lines that ask what a user who looks at a tree is answered.
-ghost use Rattle.std.specs.Prelude.{◌≡◌, [], IfOk};
-ghost use Rattle.up_list.specs.Looks.{Look};
+ghost use Rattle.std.specs.Prelude.{◌≡◌, IfOk};
 
 use crate::answer::Answer;
 use crate::fault::Fault;
@@ -8,7 +7,7 @@ use crate::words::{Words, path_of, text_of, user_of};
 use std::alloc::Global;
 use up_disk::MemDisk;
 use up_entry::Entry;
-use up_list::{Onlooker, TreeLook, glob_for, lookup, which_access};
+use up_list::{Onlooker, TreeLook, first_link, glob, lookup, which_access};
 use up_names::{Path, User};
 use up_pattern::{Pattern, parse_pattern};
 use up_policy::Loaded;
@@ -24,30 +23,57 @@ pub fn turn(
     mut words: Words<'_>,
     answer: &mut Answer,
 ) -> Result<bool, Fault> {
-    let keyword = words.word()?;
-    if !matches!(keyword, "glob" | "lookup" | "which") {
-        return Ok(false);
+    match words.word()? {
+        "glob" => glob_line(alloc, tree, loaded, words, answer)?,
+        "lookup" => look_line(alloc, tree, loaded, true, words, answer)?,
+        "which" => look_line(alloc, tree, loaded, false, words, answer)?,
+        "met" => met_line(alloc, tree, true, words, answer)?,
+        "above" => met_line(alloc, tree, false, words, answer)?,
+        _ => return Ok(false),
     }
-    let (user, asked) = words.two()?;
-    let user = user_of(alloc, user)?;
-    let look = TreeLook::new(tree.memory(), loaded, &user);
-    let reply = reply_to(alloc, &look, keyword, asked)?;
-    add_seen(&reply, answer);
     Ok(true)
 }
 
-// `glob USER PATTERN`, `lookup USER PATH`, `which USER PATH`.
+// `glob USER PATTERN`: the reply to Glob.
+fn glob_line(
+    alloc: Global,
+    tree: &TreeState<MemDisk>,
+    loaded: &Loaded,
+    mut words: Words<'_>,
+    answer: &mut Answer,
+) -> Result<(), Fault> {
+    let (user, asked) = words.two()?;
+    let user = user_of(alloc, user)?;
+    let pattern = pattern_in(alloc, tree.owner(), asked)?;
+    add_seen(&glob(alloc, tree, loaded, &user, &pattern), answer);
+    Ok(())
+}
+
+// `lookup USER PATH`, `which USER PATH`: the reply to Lookup, or else to WhichAccess.
+fn look_line(
+    alloc: Global,
+    tree: &TreeState<MemDisk>,
+    loaded: &Loaded,
+    is_lookup: bool,
+    mut words: Words<'_>,
+    answer: &mut Answer,
+) -> Result<(), Fault> {
+    let (user, asked) = words.two()?;
+    let user = user_of(alloc, user)?;
+    let look = TreeLook::new(tree.memory(), loaded, &user);
+    let reply = reply_to(alloc, &look, is_lookup, asked)?;
+    add_seen(&reply, answer);
+    Ok(())
+}
+
 fn reply_to(
     alloc: Global,
     look: &TreeLook<'_>,
-    keyword: &str,
+    is_lookup: bool,
     asked: &str,
 ) -> Result<Reply, Fault> {
-    if keyword == "glob" {
-        return glob_line(alloc, look, asked);
-    }
     let path = path_in(alloc, look.owner(), asked)?;
-    let reply = if keyword == "lookup" {
+    let reply = if is_lookup {
         lookup(alloc, look, &path)
     } else {
         which_access(alloc, look, &path)
@@ -55,9 +81,20 @@ fn reply_to(
     Ok(reply?)
 }
 
-fn glob_line(alloc: Global, look: &TreeLook<'_>, asked: &str) -> Result<Reply, Fault> {
-    let pattern = pattern_in(alloc, look.owner(), asked)?;
-    Ok(glob_for(alloc, look, &pattern)?)
+// `met PATH`, `above PATH`: the link on the way to a path, the path itself included, or else not.
+fn met_line(
+    alloc: Global,
+    tree: &TreeState<MemDisk>,
+    itself: bool,
+    mut words: Words<'_>,
+    answer: &mut Answer,
+) -> Result<(), Fault> {
+    let path = path_of(alloc, words.one()?)?;
+    match first_link(tree, &path, itself)? {
+        Some(link) => answer.coded(link.as_str().as_bytes()),
+        None => answer.word("none"),
+    }
+    Ok(())
 }
 
 // The path that a word names in the tree of this owner.
