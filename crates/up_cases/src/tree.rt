@@ -2,6 +2,7 @@
 //! what is then opened. A line is a case of its own: commands on an empty disk, parted by `; `, and so are their answers.
 mod asked;
 mod disk;
+mod many;
 mod recs;
 
 use crate::answer::Answer;
@@ -56,8 +57,21 @@ fn tree_turn(
     words: Words<'_>,
     answer: &mut Answer,
 ) -> Result<Stage, Fault> {
-    if recs::turn(alloc, &mut tree, words, answer)? || asked::turn(alloc, &tree, words, answer)? {
+    if done(alloc, &mut tree, words, answer)? {
         return Ok(Stage::Tree(tree));
     }
     disk::turn(alloc, tree.into_disk(), words, answer)
+}
+
+// Does a command of a tree, or answers `false` where it is none.
+fn done(
+    alloc: Global,
+    tree: &mut TreeState<MemDisk>,
+    words: Words<'_>,
+    answer: &mut Answer,
+) -> Result<bool, Fault> {
+    if recs::turn(alloc, tree, words, answer)? || many::turn(alloc, tree, words, answer)? {
+        return Ok(true);
+    }
+    asked::turn(alloc, tree, words, answer)
 }

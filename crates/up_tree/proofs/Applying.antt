@@ -1,5 +1,5 @@
 -- A record that is added, or refused.
-use Rattle.std.proofs.Common.{◌≡◌, ◌≢◌, ◌≤◌, ℕ, Bool, true, false, not, List, [], ◌∷◌, ◌++◌, length, map, is_ok, if◌then◌else◌, IfSome, Option, Some, None, Result, Ok, Err, IsErrAnd, refl, sym, ◌∙◌, ap, subst, ◌⊎◌}
+use Rattle.std.proofs.Common.{◌≡◌, ◌≢◌, ℕ, Bool, true, false, not, List, [], ◌∷◌, ◌++◌, length, is_ok, if◌then◌else◌, IfSome, Option, Some, None, Result, Ok, Err, IsErrAnd, refl, sym, ◌∙◌, ap, subst, ◌⊎◌}
 use Rattle.std.specs.Result.{result_ok}
 use Rattle.std.proofs.lemmas.Bool.{false≢true}
 use Rattle.up_disk.specs.declared.disk.Disk.{Ghosts}
@@ -7,7 +7,6 @@ use Rattle.up_entry.specs.ControlFiles.{is_control_file, is_ordinary}
 use Rattle.up_entry.specs.Reading.{rec_of}
 use Rattle.up_entry.specs.Spelling as spelling
 use Rattle.up_entry.specs.Spelling.{IsSpelledRec}
-use Rattle.up_entry.specs.declared.entries.Entry.{Entry}
 use Rattle.up_entry.specs.declared.entries.Kind.{Kind}
 use Rattle.up_entry.specs.declared.entries.Kind.TheVariants.{File, Directory, Link}
 use Rattle.up_entry.specs.declared.records.Rec.{Rec}
@@ -29,7 +28,7 @@ use Rattle.up_names.specs.PathNames.{PathName, control_of}
 use Rattle.up_names.specs.declared.paths.Control.{Control}
 use Rattle.up_names.specs.declared.paths.Control.TheVariants.{Ordinary, Access, Group}
 use Rattle.up_nodes.proofs.Tested.{fits_test}
-use Rattle.up_replay.specs.Fits.{Fits, PutFits, TextFits, control_for, fits}
+use Rattle.up_replay.specs.Fits.{Fits, TextFits, control_for, fits}
 use Rattle.up_tree.specs.States.{Applies, State, entries_of, fixed_of, record_in, state_of}
 
 -- ---- a record that fits has a spelling

@@ -244,6 +244,7 @@ impl<D: Disk> TreeState<D> {
     /// Adds a record that fits, after a doubtful one is settled. `Ok` is its position, from 1: from then on each crash leaves the log
     /// with it. `Full` comes at the limits; then, and for want of memory, no call of the disk is made. After a `Fault` the tree and
     /// its log are as before, and one record may be doubtful.
+    #[tactic(auto, using(crate::proofs::Applying::applied_grows))]
     pub fn apply(&mut self, rec: Rec) -> Result<u64, AppendWhy>
         requires fits { Fits self.old.owner self.old.log rec }
         requires size { size_of rec ≤ self.old.limits.largest }

@@ -9,10 +9,11 @@ use crate::crashes::{add_appended, add_open_fault, limits_of};
 use crate::fault::Fault;
 use crate::words::{Words, bytes_of, user_of};
 use std::alloc::Global;
-use up_disk::MemDisk;
+use up_disk::{Disk, MemDisk};
 use up_journal::{Journal, Limits};
 use up_lists::Items;
 use up_names::User;
+use up_refs::Reference;
 use up_tree::TreeState;
 
 /// The limits with which a tree over a crash image is opened, and payloads are appended.
@@ -35,6 +36,7 @@ pub fn turn(
         "crash" => crash_line(&disk, words, answer),
         "append" => append_line(alloc, disk, words, answer),
         "trees" => trees_line(alloc, disk, words, answer),
+        "digest" => digest_line(alloc, disk, words, answer),
         _ => Err(Fault::BadLine),
     }
 }
@@ -175,4 +177,20 @@ fn add_image(
         Err(fault) => add_open_fault(fault.why, answer),
     }
     Ok(())
+}
+
+// `digest`: the digest of all bytes of the disk.
+fn digest_line(
+    alloc: Global,
+    mut disk: MemDisk,
+    words: Words<'_>,
+    answer: &mut Answer,
+) -> Result<Stage, Fault> {
+    words.end()?;
+    let mut bytes = vec![in alloc; 0u8; disk.size() as usize]?;
+    match disk.read(0, bytes.as_mut_slice()) {
+        Ok(()) => answer.digits(Reference::of(&bytes).bytes()),
+        Err(_) => answer.word("fault"),
+    }
+    Ok(Stage::Disk(disk))
 }

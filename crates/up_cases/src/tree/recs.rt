@@ -35,8 +35,8 @@ pub fn turn(
     Ok(true)
 }
 
-// Adds a record where it fits: `ok` and its position, or `unfit`, or why not.
-fn add(tree: &mut TreeState<MemDisk>, rec: Rec, answer: &mut Answer) {
+/// Adds a record where it fits: `ok` and its position, or `unfit`, or why not.
+pub fn add(tree: &mut TreeState<MemDisk>, rec: Rec, answer: &mut Answer) {
     fits_is_told_by_rules();
     match tree.fits(&rec) {
         Ok(true) if rec_size(&rec) <= tree.largest() => add_appended(tree.apply(rec), answer),
@@ -70,28 +70,36 @@ fn short_rec(alloc: Global, keyword: &str, mut words: Words<'_>) -> Result<Optio
 // `dir PATH SEQUENCE`: puts a directory.
 fn dir_rec(alloc: Global, mut words: Words<'_>) -> Result<Option<Rec>, Fault> {
     let (path, sequence) = words.two()?;
-    let made = Made::new(path_of(alloc, path)?, Kind::Directory, number_of(sequence)?);
-    put(alloc, made, Items::new(alloc))
+    let sequence = number_of(sequence)?;
+    let path = path_of(alloc, path)?;
+    put(
+        alloc,
+        Made::new(path, Kind::Directory, sequence),
+        Items::new(alloc),
+    )
 }
 
 // `file PATH SEQUENCE TEXT`: puts a file, with the text of a control file.
 fn file_rec(alloc: Global, mut words: Words<'_>) -> Result<Option<Rec>, Fault> {
     let (path, sequence, text) = words.three()?;
-    let made = Made::new(path_of(alloc, path)?, Kind::File, number_of(sequence)?);
-    put(alloc, made, bytes_of(alloc, text)?)
+    let sequence = number_of(sequence)?;
+    let path = path_of(alloc, path)?;
+    let text = bytes_of(alloc, text)?;
+    put(alloc, Made::new(path, Kind::File, sequence), text)
 }
 
 // `link PATH SEQUENCE TARGET`: puts a link.
 fn link_rec(alloc: Global, mut words: Words<'_>) -> Result<Option<Rec>, Fault> {
     let (path, sequence, target) = words.three()?;
-    let mut made = Made::new(path_of(alloc, path)?, Kind::Link, number_of(sequence)?);
-    made.link = Some(path_of(alloc, target)?);
-    put(alloc, made, Items::new(alloc))
+    let sequence = number_of(sequence)?;
+    let path = path_of(alloc, path)?;
+    let target = path_of(alloc, target)?;
+    put(alloc, Made::link(path, sequence, target), Items::new(alloc))
 }
 
 /// What a command says of an entry.
 #[derive(Drop)]
-struct Made {
+pub struct Made {
     path: Path,
     kind: Kind,
     link: Option<Path>,
@@ -99,11 +107,21 @@ struct Made {
 }
 
 impl Made {
-    fn new(path: Path, kind: Kind, sequence: u64) -> Made {
+    /// An entry that is no link.
+    pub fn new(path: Path, kind: Kind, sequence: u64) -> Made {
         Made {
             path,
             kind,
             link: None,
+            sequence,
+        }
+    }
+
+    fn link(path: Path, sequence: u64, target: Path) -> Made {
+        Made {
+            path,
+            kind: Kind::Link,
+            link: Some(target),
             sequence,
         }
     }
@@ -114,8 +132,8 @@ fn put(alloc: Global, made: Made, text: Bytes) -> Result<Option<Rec>, Fault> {
     Ok(Some(Rec::Put(entry, text)))
 }
 
-// The entry, plain and without blocks, written by the owner of its path.
-fn entry_of(alloc: Global, made: Made) -> Result<Entry, AllocError> {
+/// The entry, plain and without blocks, written by the owner of its path.
+pub fn entry_of(alloc: Global, made: Made) -> Result<Entry, AllocError> {
     Ok(Entry {
         signed_name: made.path.clone()?,
         packing: 1,

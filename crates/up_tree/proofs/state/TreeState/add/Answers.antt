@@ -1,4 +1,4 @@
-use Rattle.std.proofs.Common.{◌≡◌, ◌++◌, ◌∷◌, [], ℕ, List, Some, length, Result, Ok, Err, IsErrOf, IfSome, sym, ap, subst, ◌∙◌}
+use Rattle.std.proofs.Common.{◌≡◌, ◌++◌, ◌∷◌, [], ℕ, List, length, Result, Ok, Err, IsErrOf, sym, ap, subst, ◌∙◌}
 use Rattle.up_entry.specs.Reading.{rec_of}
 use Rattle.up_entry.specs.Spelling as spelling
 use Rattle.up_entry.specs.declared.records.Rec.{Rec}
