@@ -12,6 +12,7 @@
 mod entries;
 mod fault;
 mod fitting;
+mod laws;
 mod lines;
 mod lists;
 mod numbers;
@@ -20,6 +21,7 @@ mod requests;
 mod words;
 
 pub use fitting::is_request;
+pub use laws::{lines_are_words, lines_tell_replies};
 pub use lines::{cut_word, is_silent, next_line, one_word, three_words, two_words};
 pub use numbers::{read_int, read_num};
 pub use replies::reply_lines;
