@@ -5,6 +5,7 @@ mod fronts;
 mod given;
 mod known;
 mod long;
+mod timed;
 
 use crate::answer::Answer;
 use crate::fault::Fault;
@@ -27,6 +28,9 @@ impl Topic for Messages {
             "server" => given::server_line(alloc, argument, answer),
             "known" => known::known_line(alloc, argument, answer),
             "long" => long::long_line(alloc, argument, answer),
+            "makes" | "writes" | "reads" | "copies" => {
+                timed::timed_line(alloc, keyword, argument, answer)
+            }
             _ => fronts::fronts_line(alloc, keyword, argument, answer),
         }
     }

@@ -1,5 +1,5 @@
 -- What is told of an entry and its blocks is read again.
-use Rattle.std.proofs.Common.{◌≡◌, ◌≢◌, ◌∙◌, ◌==◌, ◌||◌, ◌^◌, nat_le, ℕ, ℤ, ◌<◌, ◌≤◌, Bool, true, false, List, [], ◌∷◌, ◌++◌, length, map, Option, None, Some, option_map, Ok, codes, bytes_eq, cond, decimal, if◌then◌else◌, ⊤, refl, sym, ap, arith}
+use Rattle.std.proofs.Common.{◌≡◌, ◌≢◌, ◌∙◌, ◌==◌, ◌||◌, ◌^◌, nat_le, ℕ, ℤ, ◌<◌, ◌≤◌, Bool, true, false, List, [], ◌∷◌, ◌++◌, length, map, Option, None, Some, option_map, Ok, codes, bytes_eq, cond, decimal, if◌then◌else◌, refl, sym, ap, arith}
 use Rattle.std.specs.Fmt.{digit_glyph, signed_decimal}
 use Rattle.std.specs.List.{join_by, list_any, slice_split, AllByRecursion}
 use Rattle.std.specs.Result.{result_ok}
@@ -39,7 +39,7 @@ use Rattle.up_text.proofs.WordLemmas.{no-dash_from}
 abbrev attr_of : Kind → Bool → Attr
 attr_of kind incomplete = record { kind = kind; incomplete = incomplete }
 
-pub kind_in : List ℕ → Option Attr
+abbrev pub kind_in : List ℕ → Option Attr
 kind_in word =
     if bytes_eq word (codes "file") then Some (attr_of File false)
     else if bytes_eq word (codes "file?") then Some (attr_of File true)
@@ -118,7 +118,7 @@ store_visible (Address address) = field_visible address
 abbrev pub IsTaken : Block → Type 0
 IsTaken b = (IsBlock b × HasAddress b.location.endpoint) × AllByRecursion IsByte b.location.reference
 
-store_in : List ℕ → Option Endpoint
+abbrev store_in : List ℕ → Option Endpoint
 store_in word = if is_no_list word then Some Local else option_map (λ address. Address address) (decoded word)
 
 some_same : {x y : List ℕ} → Some x ≡ Some y → x ≡ y
@@ -137,10 +137,10 @@ store_again (Address address) has =
     ∙ ap (option_map (λ text. Address text)) (decoded-field address)
 
 -- the fields of a block
-block_parts : Block → List (List ℕ)
+abbrev block_parts : Block → List (List ℕ)
 block_parts b = text_of b.location.reference ∷ decimal b.offset ∷ decimal b.size ∷ store_field b.location.endpoint ∷ field b.packdata ∷ []
 
-parts_in : List (List ℕ) → Option Block
+abbrev parts_in : List (List ℕ) → Option Block
 parts_in (reference ∷ offset ∷ size ∷ store ∷ packdata ∷ []) = do
   named ← reference_in reference
   begin ← num_of offset
@@ -150,7 +150,7 @@ parts_in (reference ∷ offset ∷ size ∷ store ∷ packdata ∷ []) = do
   Some (record { location = record { endpoint = endpoint; reference = named }; offset = begin; size = bytes; packdata = written })
 parts_in _ = None
 
-block_in : List ℕ → Option Block
+abbrev block_in : List ℕ → Option Block
 block_in word = parts_in (slice_split is_colon word)
 
 parts_again : (b : Block) → IsTaken b → parts_in (block_parts b) ≡ Some b
@@ -162,14 +162,8 @@ parts_again b is =
     rw (named, begin, bytes, store, decoded-field b.packdata) refl
 
 parts_free : (p : ℕ → Bool) → ((b : ℕ) → is_upper_digit b ≡ true → p b ≡ false) → ((b : ℕ) → 48 ≤ b → b ≤ 57 → p b ≡ false) → ((endpoint : Endpoint) → list_any p (store_field endpoint) ≡ false) → ((text : List ℕ) → list_any p (field text) ≡ false) → (b : Block) → IsBlock b → AllByRecursion IsByte b.location.reference → AllByRecursion (λ part. list_any p part ≡ false) (block_parts b)
-parts_free p upper digit store text b is bytes = (
-  reference_free p upper b.location.reference is.reference bytes,
-  decimal_free p digit b.offset is.offset,
-  decimal_free p digit b.size is.size,
-  store b.location.endpoint,
-  text b.packdata,
-  tt,
-)
+parts_free p upper digit store text b is bytes = 
+    (reference_free p upper b.location.reference is.reference bytes, (decimal_free p digit b.offset is.offset, (decimal_free p digit b.size is.size, (store b.location.endpoint, (text b.packdata, tt)))))
 
 parts_split : (b : Block) → IsTaken b → slice_split is_colon (block_word b) ≡ block_parts b
 unfolding block_word
@@ -195,7 +189,7 @@ block_no_dash : (b : Block) → IsTaken b → block_word b ≢ 45 ∷ []
 block_no_dash b is same = none_not_some (ap block_in (sym same) ∙ block_again b is)
 
 -- the blocks of a word
-pub blocks_in : List ℕ → Option (List Block)
+abbrev pub blocks_in : List ℕ → Option (List Block)
 blocks_in = list_in block_in
 
 pub blocks_again : (blocks : List Block) → AllByRecursion IsTaken blocks → blocks_in (blocks_word blocks) ≡ Some blocks
@@ -207,7 +201,7 @@ blocks_again (b ∷ bs) all =
 
 -- ---- the paths of an entry are read again
 
-path_in : List ℕ → Option PathName
+abbrev path_in : List ℕ → Option PathName
 path_in word = do
   text ← decoded word
   result_ok (path_of text)
@@ -217,11 +211,11 @@ path_again path is =
     ap (λ found. found >>= λ text. result_ok (path_of text)) (decoded-coded (canonical path)) ∙ ap result_ok is
 
 -- the path that a text names, none for no text
-target_of : List ℕ → Option (Option PathName)
+abbrev target_of : List ℕ → Option (Option PathName)
 target_of [] = Some None
 target_of (b ∷ bs) = option_map (λ path. Some path) (result_ok (path_of (b ∷ bs)))
 
-target_in : List ℕ → Option (Option PathName)
+abbrev target_in : List ℕ → Option (Option PathName)
 target_in word = do
   text ← decoded word
   target_of text
@@ -242,7 +236,7 @@ target_again (Some path) is =
     ∙ target_named (canonical path) path (some_marked path.owner 47 _) is
 
 -- the signed name, `=` for the name
-signed_in : PathName → List ℕ → Option PathName
+abbrev signed_in : PathName → List ℕ → Option PathName
 signed_in name word = if bytes_eq word (codes "=") then Some name else path_in word
 
 -- a canonical path has a slash, so it is not `=`
@@ -271,7 +265,7 @@ signed_again e is = signed_by e (path_eq e.signed_name e.name) refl is
 
 -- ---- an entry is read again
 
-pub entry_in : List (List ℕ) → Option Entry
+abbrev pub entry_in : List (List ℕ) → Option Entry
 entry_in (name ∷ kind ∷ sequence ∷ time ∷ writer ∷ packing ∷ packdata ∷ link ∷ signed ∷ blocks ∷ []) = do
   path ← path_in name
   attr ← kind_in kind
@@ -298,7 +292,7 @@ entry_in (name ∷ kind ∷ sequence ∷ time ∷ writer ∷ packing ∷ packdat
 entry_in _ = None
 
 pub blocks_taken : (e : Entry) → IsEntry e → IsSpelled e → AreOfBytes e → AllByRecursion IsTaken e.blocks
-blocks_taken e is spelled bytes = all_both e.blocks (all_both e.blocks is.blocks.1 spelled.addresses) bytes
+blocks_taken e is spelled bytes = all_both _ _ e.blocks (all_both _ _ e.blocks is.blocks.1 spelled.addresses) bytes
 
 pub entry_again : (e : Entry) → IsEntry e → IsSpelled e → AreOfBytes e → entry_in (entry_words e) ≡ Some e
 unfolding entry_words
@@ -321,7 +315,7 @@ entry_again e is spelled bytes =
 
 blank_parts : (b : Block) → IsBlock b → AllByRecursion IsByte b.location.reference → AllByRecursion (λ part. list_any is_blank part ≡ false) (block_parts b)
 blank_parts b is bytes =
-    (reference_visible b.location.reference is.reference bytes, decimal_visible b.offset is.offset, decimal_visible b.size is.size, store_visible b.location.endpoint, field_visible b.packdata, tt)
+    (reference_visible b.location.reference is.reference bytes, (decimal_visible b.offset is.offset, (decimal_visible b.size is.size, (store_visible b.location.endpoint, (field_visible b.packdata, tt)))))
 
 block_is_word : (b : Block) → IsBlock b × AllByRecursion IsByte b.location.reference → IsWord (block_word b)
 unfolding block_word
@@ -335,7 +329,7 @@ unfolding blocks_word
 blocks_are_word [] all = literal_word (codes "-") refl refl
 blocks_are_word (b ∷ bs) all = (
   some_front (block_word b) _ (block_is_word b all.0).0,
-  join_free is_blank 44 refl (λ b. block_word b) (b ∷ bs) (all_weaker (λ b is. (block_is_word b is).1) (b ∷ bs) all),
+  join_free is_blank 44 refl (λ b. block_word b) (b ∷ bs) (all_weaker _ _ (λ b is. (block_is_word b is).1) (b ∷ bs) all),
 )
 
 kind_is_word : (kind : Kind) (incomplete : Bool) → IsWord (plain_kind kind ++ mark incomplete)
@@ -360,16 +354,5 @@ signed_is_word e = by_kind (path_eq e.signed_name e.name) where
 pub entry_is_words : (e : Entry) → IsEntry e → AreOfBytes e → AllByRecursion IsWord (entry_words e)
 unfolding entry_words
 entry_is_words e is bytes =
-    let packing : e.packing < 2 ^ 64 = omega (arith, is.packing) in (
-      coded_word (canonical e.name),
-      attr_is_word e.attr,
-      decimal_word e.sequence is.sequence,
-      int_word e.time is.time,
-      coded_word e.writer,
-      decimal_word e.packing packing,
-      coded_word e.packdata,
-      coded_word (link_text e.link),
-      signed_is_word e,
-      blocks_are_word e.blocks (all_both e.blocks is.blocks.1 bytes),
-      tt,
-    )
+    let packing : e.packing < 2 ^ 64 = omega (arith, is.packing) in 
+    (coded_word (canonical e.name), (attr_is_word e.attr, (decimal_word e.sequence is.sequence, (int_word e.time is.time, (coded_word e.writer, (decimal_word e.packing packing, (coded_word e.packdata, (coded_word (link_text e.link), (signed_is_word e, (blocks_are_word e.blocks (all_both _ _ e.blocks is.blocks.1 bytes), tt))))))))))

@@ -25,14 +25,14 @@ map_same [] = refl
 map_same (x ∷ xs) = ap (λ more. x ∷ more) (map_same xs)
 
 -- two facts of each
-pub all_both : {X : Type 0} {P Q : X → Type 0} (xs : List X) → AllByRecursion P xs → AllByRecursion Q xs → AllByRecursion (λ x. P x × Q x) xs
-all_both [] of_p of_q = tt
-all_both (x ∷ xs) of_p of_q = ((of_p.0, of_q.0), all_both xs of_p.1 of_q.1)
+pub all_both : {X : Type 0} (P Q : X → Type 0) (xs : List X) → AllByRecursion P xs → AllByRecursion Q xs → AllByRecursion (λ x. P x × Q x) xs
+all_both P Q [] of_p of_q = tt
+all_both P Q (x ∷ xs) of_p of_q = ((of_p.0, of_q.0), all_both P Q xs of_p.1 of_q.1)
 
-pub all_mapped : {X Y : Type 0} {P : X → Type 0} {Q : Y → Type 0} (f : X → Y) → ((x : X) → P x → Q (f x)) → (xs : List X) → AllByRecursion P xs → AllByRecursion Q (map f xs)
-all_mapped f each [] all = tt
-all_mapped f each (x ∷ xs) all = (each x all.0, all_mapped f each xs all.1)
+pub all_mapped : {X Y : Type 0} (P : X → Type 0) (Q : Y → Type 0) (f : X → Y) → ((x : X) → P x → Q (f x)) → (xs : List X) → AllByRecursion P xs → AllByRecursion Q (map f xs)
+all_mapped P Q f each [] all = tt
+all_mapped P Q f each (x ∷ xs) all = (each x all.0, all_mapped P Q f each xs all.1)
 
-pub all_weaker : {X : Type 0} {P Q : X → Type 0} → ((x : X) → P x → Q x) → (xs : List X) → AllByRecursion P xs → AllByRecursion Q xs
-all_weaker each [] all = tt
-all_weaker each (x ∷ xs) all = (each x all.0, all_weaker each xs all.1)
+pub all_weaker : {X : Type 0} (P Q : X → Type 0) → ((x : X) → P x → Q x) → (xs : List X) → AllByRecursion P xs → AllByRecursion Q xs
+all_weaker P Q each [] all = tt
+all_weaker P Q each (x ∷ xs) all = (each x all.0, all_weaker P Q each xs all.1)

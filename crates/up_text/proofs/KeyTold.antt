@@ -1,5 +1,5 @@
 -- Lists of endpoints are read again, but that the host's own store and the address `local` are printed alike.
-use Rattle.std.proofs.Common.{◌≡◌, ◌≢◌, ◌∙◌, ◌==◌, ℕ, ◌<◌, Bool, true, false, List, [], ◌∷◌, ◌++◌, length, map, Option, None, Some, option_map, codes, bytes_eq, cond, ⊤, refl, sym, ap, arith}
+use Rattle.std.proofs.Common.{◌≡◌, ◌≢◌, ◌∙◌, ◌==◌, ℕ, ◌<◌, Bool, true, false, List, [], ◌∷◌, ◌++◌, length, map, Option, None, Some, option_map, codes, bytes_eq, cond, refl, sym, ap, arith}
 use Rattle.std.specs.List.{flat_map, join_by, list_any, AllByRecursion}
 use Rattle.std.proofs.lemmas.Bool.{ne_eqb, true≢false}
 use Rattle.std.proofs.lemmas.Slice.Eq.{bytes_eq-Decides}
@@ -50,7 +50,7 @@ field_not_local address other =
     failed _ (λ same. not_local address other (some_same (sym (decoded-field address) ∙ ap decoded (is_local (field address) same) ∙ decoded-local)))
 
 named_by : (address : List ℕ) (test : Bool) → bytes_eq address (codes "local") ≡ test → endpoint_named (field address) ≡ Some (cond test Local (Address address))
-unfolding endpoint_named
+unfolding endpoint_named address_named
 named_by address true is = ap endpoint_named (ap field (is_local address is) ∙ field-local) ∙ local_named
 named_by address false is =
     let some = some_decoded (field address) address (decoded-field address) in
@@ -75,7 +75,7 @@ endpoint_no_dash (Address address) has is = field_no_dash address has is
 
 -- ---- lists of them
 
-endpoints_in : List ℕ → Option (List Endpoint)
+abbrev endpoints_in : List ℕ → Option (List Endpoint)
 endpoints_in = list_in endpoint_named
 
 endpoints_again : (endpoints : List Endpoint) → AllByRecursion HasAddress endpoints → endpoints_in (endpoints_word endpoints) ≡ Some (map (λ endpoint. endpoint_told endpoint) endpoints)
@@ -86,7 +86,7 @@ endpoints_again (e ∷ es) all =
 
 -- ---- key records
 
-pub key_in : List (List ℕ) → Option KeyRecord
+abbrev pub key_in : List (List ℕ) → Option KeyRecord
 key_in (user ∷ dirs ∷ stores ∷ key ∷ []) = do
   name ← decoded user
   directories ← endpoints_in dirs

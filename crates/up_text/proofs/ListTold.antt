@@ -5,7 +5,7 @@ use Rattle.up_text.specs.Lists.{◌>>=◌, is_comma, is_no_list}
 use Rattle.up_text.proofs.JoinLemmas.{split_joined}
 use Rattle.up_text.proofs.WordLemmas.{no-dash_from}
 
-pub all_of : {W X : Type 0} → (W → Option X) → List W → Option (List X)
+abbrev pub all_of : {W X : Type 0} → (W → Option X) → List W → Option (List X)
 all_of read [] = Some []
 all_of read (word ∷ more) = do
   first ← read word
@@ -22,7 +22,7 @@ all_again read f g Fits each (x ∷ xs) all =
     both_there (read (f x)) (all_of read (map f xs)) (g x) (map g xs) (each x all.0) (all_again read f g Fits each xs all.1)
 
 -- a word that is a list: `-`, or things parted by commas
-pub list_in : {X : Type 0} → (List ℕ → Option X) → List ℕ → Option (List X)
+abbrev pub list_in : {X : Type 0} → (List ℕ → Option X) → List ℕ → Option (List X)
 list_in read word = if is_no_list word then Some [] else all_of read (slice_split is_comma word)
 
 first_same : {x y : List ℕ} {xs ys : List (List ℕ)} → x ∷ xs ≡ y ∷ ys → x ≡ y

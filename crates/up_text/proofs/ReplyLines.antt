@@ -1,5 +1,5 @@
 -- The laws of the lines that tell a reply.
-use Rattle.std.proofs.Common.{◌≡◌, ◌∙◌, ◌<◌, ◌^◌, ◌↔◌, ℕ, Bool, true, false, List, [], ◌∷◌, length, map, Option, None, Some, codes, decimal, ⊤, refl, sym, subst, ap, arith}
+use Rattle.std.proofs.Common.{◌≡◌, ◌∙◌, ◌<◌, ◌^◌, ◌↔◌, ℕ, Bool, true, false, List, [], ◌∷◌, length, map, Option, None, Some, codes, decimal, refl, sym, subst, ap, arith}
 use Rattle.std.specs.List.{AllByRecursion}
 use Rattle.up_bytes.specs.Spelling.{IsList}
 use Rattle.up_entry.specs.declared.entries.Entry.{Entry}
@@ -36,13 +36,13 @@ abbrev AreWords : List (List ℕ) → Type 0
 AreWords words = (0 < length words) × AllByRecursion IsWord words
 
 one_word : (word : List ℕ) → IsWord word → AreWords (word ∷ [])
-one_word word is = (omega arith, is, tt)
+one_word word is = (omega arith, (is, tt))
 
 two_words : (word second : List ℕ) → IsWord word → IsWord second → AreWords (word ∷ second ∷ [])
-two_words word second is other = (omega arith, is, other, tt)
+two_words word second is other = (omega arith, (is, (other, tt)))
 
 entry_line : (word : List ℕ) (e : Entry) → IsWord word → IsEntry e → AreOfBytes e → AreWords (word ∷ entry_words e)
-entry_line word e is entry bytes = (omega arith, is, entry_is_words e entry bytes)
+entry_line word e is entry bytes = (omega arith, (is, entry_is_words e entry bytes))
 
 what_is_word : (w : What) → IsWord (what_word w)
 what_is_word what.Name = literal_word (codes "name") refl refl
@@ -96,21 +96,14 @@ event_is_word true = literal_word (codes "delete") refl refl
 event_is_word false = literal_word (codes "put") refl refl
 
 row_line : (r : Row) → IsRow r × AreOfBytes r.entry → AreWords (row_words r)
-row_line r is = (omega arith, literal_word (codes "row") refl refl, decimal_word r.rest is.0.0, entry_is_words r.entry is.0.1 is.1)
+row_line r is = (omega arith, (literal_word (codes "row") refl refl, (decimal_word r.rest is.0.0, entry_is_words r.entry is.0.1 is.1)))
 
 event_line : (e : WatchEvent) → IsEvent e × AreOfBytes e.entry → AreWords (event_words e)
-event_line e is = (omega arith, literal_word (codes "event") refl refl, decimal_word e.position is.0.0, event_is_word e.delete, entry_is_words e.entry is.0.1 is.1)
+event_line e is = (omega arith, (literal_word (codes "event") refl refl, (decimal_word e.position is.0.0, (event_is_word e.delete, entry_is_words e.entry is.0.1 is.1))))
 
 key_line : (known : KeyRecord) → AreWords (codes "key" ∷ key_words known)
-key_line known = (
-  omega arith,
-  literal_word (codes "key") refl refl,
-  coded_word known.user,
-  endpoints_are_word known.dirs,
-  endpoints_are_word known.stores,
-  coded_word known.key,
-  tt,
-)
+key_line known = 
+    (omega arith, (literal_word (codes "key") refl refl, (coded_word known.user, (endpoints_are_word known.dirs, (endpoints_are_word known.stores, (coded_word known.key, tt))))))
 
 access_line : (found : Option Entry) → IsOption found → IsOfBytes found → AreWords (codes "access" ∷ access_words found)
 access_line None is bytes = two_words (codes "access") (codes "none") (literal_word (codes "access") refl refl) (literal_word (codes "none") refl refl)
@@ -123,12 +116,12 @@ done_lines (done.Changed position) is bytes = (two_words (codes "ok") (decimal p
 done_lines (done.Entry e) is bytes = (entry_line (codes "entry") e (literal_word (codes "entry") refl refl) is bytes, tt)
 done_lines (done.Rows rows) is bytes = (
   two_words (codes "glob") (decimal (length rows)) (literal_word (codes "glob") refl refl) (decimal_word (length rows) is.0),
-  all_mapped (λ row. row_words row) row_line rows (all_both rows is.1 bytes),
+  all_mapped _ _ (λ row. row_words row) row_line rows (all_both _ _ rows is.1 bytes),
 )
 done_lines (done.Access found) is bytes = (access_line found is bytes, tt)
 done_lines (done.Events events next) is bytes = (
-  (omega arith, literal_word (codes "watch") refl refl, decimal_word (length events) is.0.0, decimal_word next is.1, tt),
-  all_mapped (λ event. event_words event) event_line events (all_both events is.0.1 bytes),
+  (omega arith, (literal_word (codes "watch") refl refl, (decimal_word (length events) is.0.0, (decimal_word next is.1, tt)))),
+  all_mapped _ _ (λ event. event_words event) event_line events (all_both _ _ events is.0.1 bytes),
 )
 done_lines (done.Text text) is bytes = (two_words (codes "text") (coded text) (literal_word (codes "text") refl refl) (coded_word text), tt)
 done_lines (done.Reference reference) is bytes = (two_words (codes "ref") (text_of reference) (literal_word (codes "ref") refl refl) (reference_word reference is bytes), tt)
@@ -145,7 +138,7 @@ counted word n is small = (two_words word (decimal n) is (decimal_word n small),
 reply_lines_words : (given : Reply) → IsReply given → ReferencesAreBytes given → AllByRecursion AreWords (reply_words given)
 unfolding reply_words
 reply_lines_words (reply.Ok d) is bytes = done_lines d is bytes
-reply_lines_words (reply.Invalid w) is bytes = ((omega arith, literal_word (codes "invalid") refl refl, what_is_word w, elements_are_words w is), tt)
+reply_lines_words (reply.Invalid w) is bytes = ((omega arith, (literal_word (codes "invalid") refl refl, (what_is_word w, elements_are_words w is))), tt)
 reply_lines_words reply.WrongHost is bytes = alone (codes "wronghost") (literal_word (codes "wronghost") refl refl)
 reply_lines_words (reply.FollowLink e) is bytes = (entry_line (codes "followlink") e (literal_word (codes "followlink") refl refl) is bytes, tt)
 reply_lines_words reply.Private is bytes = alone (codes "private") (literal_word (codes "private") refl refl)

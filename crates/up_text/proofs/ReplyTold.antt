@@ -1,5 +1,5 @@
 -- A reply is read again of the words of its lines.
-use Rattle.std.proofs.Common.{◌≡◌, ◌∙◌, ◌^◌, ℕ, ◌<◌, Bool, true, false, List, [], ◌∷◌, map, Option, None, Some, option_map, codes, bytes_eq, cond, decimal, if◌then◌else◌, ⊤, refl, sym, ap}
+use Rattle.std.proofs.Common.{◌≡◌, ◌∙◌, ◌^◌, ℕ, ◌<◌, Bool, true, false, List, [], ◌∷◌, map, Option, None, Some, option_map, codes, bytes_eq, cond, decimal, if◌then◌else◌, refl, sym, ap}
 use Rattle.std.specs.List.{AllByRecursion}
 use Rattle.up_bytes.specs.Spelling.{IsByte, IsList}
 use Rattle.up_entry.specs.declared.entries.Entry.{Entry}
@@ -33,24 +33,24 @@ use Rattle.up_text.proofs.WordBytes.{reference_again}
 
 -- ---- a single word
 
-number_in : List (List ℕ) → Option ℕ
+abbrev number_in : List (List ℕ) → Option ℕ
 number_in (word ∷ []) = num_of word
 number_in _ = None
 
 number_again : (n : ℕ) → n < 2 ^ 64 → num_of (decimal n) ≡ Some n
 number_again n small = num-every (decimal n) n small refl
 
-text_in : List (List ℕ) → Option (List ℕ)
+abbrev text_in : List (List ℕ) → Option (List ℕ)
 text_in (word ∷ []) = decoded word
 text_in _ = None
 
-kept_in : List (List ℕ) → Option (List ℕ)
+abbrev kept_in : List (List ℕ) → Option (List ℕ)
 kept_in (word ∷ []) = reference_in word
 kept_in _ = None
 
 -- ---- what is malformed
 
-what_in : List (List ℕ) → Option What
+abbrev what_in : List (List ℕ) → Option What
 what_in (word ∷ element ∷ []) = option_map (λ n. what.Pattern n) (num_of element)
 what_in (word ∷ []) =
     if bytes_eq word (codes "name") then Some what.Name
@@ -95,7 +95,7 @@ what_again what.GroupName is = refl
 
 -- ---- rights
 
-right_in : List (List ℕ) → Option Right
+abbrev right_in : List (List ℕ) → Option Right
 right_in (word ∷ []) =
     if bytes_eq word (codes "read") then Some right.Read
     else if bytes_eq word (codes "write") then Some right.Write
@@ -114,7 +114,7 @@ right_again right.Delete = refl
 
 -- ---- entries
 
-access_in : List (List ℕ) → Option (Option Entry)
+abbrev access_in : List (List ℕ) → Option (Option Entry)
 access_in (word ∷ []) = Some None
 access_in words = option_map (λ e. Some e) (entry_in words)
 
@@ -125,7 +125,7 @@ access_again (Some e) is spelled bytes = ap (option_map (λ e. Some e)) (entry_a
 
 -- ---- rows
 
-row_in : List (List ℕ) → Option Row
+abbrev row_in : List (List ℕ) → Option Row
 row_in (keyword ∷ rest ∷ words) = do
   left ← num_of rest
   e ← entry_in words
@@ -143,7 +143,7 @@ rows_again rows all = all_again row_in (λ row. row_words row) (λ row. row) IsR
 
 -- ---- events
 
-kind_in : List ℕ → Option Bool
+abbrev kind_in : List ℕ → Option Bool
 kind_in word =
     if bytes_eq word (codes "delete") then Some true
     else if bytes_eq word (codes "put") then Some false
@@ -153,7 +153,7 @@ kind_again : (delete : Bool) → kind_in (event_kind delete) ≡ Some delete
 kind_again true = refl
 kind_again false = refl
 
-event_in : List (List ℕ) → Option WatchEvent
+abbrev event_in : List (List ℕ) → Option WatchEvent
 event_in (keyword ∷ position ∷ kind ∷ words) = do
   n ← num_of position
   delete ← kind_in kind
@@ -171,7 +171,7 @@ events_again : (events : List WatchEvent) → AllByRecursion IsEventTold events 
 events_again events all = all_again event_in (λ event. event_words event) (λ event. event) IsEventTold event_again events all ∙ ap Some (map_same events)
 
 -- the number of events, and the sequence to go on from
-watched_in : List (List ℕ) → List (List (List ℕ)) → Option Done
+abbrev watched_in : List (List ℕ) → List (List (List ℕ)) → Option Done
 watched_in (count ∷ next ∷ []) more = do
   events ← all_of event_in more
   n ← num_of next
@@ -180,7 +180,7 @@ watched_in _ more = None
 
 -- ---- what was done
 
-done_in : List ℕ → List (List ℕ) → List (List (List ℕ)) → Option Done
+abbrev done_in : List ℕ → List (List ℕ) → List (List (List ℕ)) → Option Done
 done_in keyword words more =
     if bytes_eq keyword (codes "ok") then option_map (λ n. done.Changed n) (number_in words)
     else if bytes_eq keyword (codes "entry") then option_map (λ e. done.Entry e) (entry_in words)
@@ -194,7 +194,7 @@ done_in keyword words more =
     else None
 
 -- what was done, of its lines
-lines_done : List (List (List ℕ)) → Option Done
+abbrev lines_done : List (List (List ℕ)) → Option Done
 lines_done ((keyword ∷ words) ∷ more) = done_in keyword words more
 lines_done _ = None
 
@@ -202,10 +202,10 @@ done_again : (d : Done) → IsDone d → IsSpelledDone d → HasByteReferences d
 unfolding done_words further_words
 done_again (done.Changed position) is spelled bytes = ap (option_map (λ n. done.Changed n)) (number_again position is)
 done_again (done.Entry e) is spelled bytes = ap (option_map (λ e. done.Entry e)) (entry_again e is spelled bytes)
-done_again (done.Rows rows) is spelled bytes = ap (option_map (λ rows. done.Rows rows)) (rows_again rows (all_both rows (all_both rows is.1 spelled) bytes))
+done_again (done.Rows rows) is spelled bytes = ap (option_map (λ rows. done.Rows rows)) (rows_again rows (all_both _ _ rows (all_both _ _ rows is.1 spelled) bytes))
 done_again (done.Access found) is spelled bytes = ap (option_map (λ found. done.Access found)) (access_again found is spelled bytes)
 done_again (done.Events events next) is spelled bytes =
-    rw (events_again events (all_both events (all_both events is.0.1 spelled) bytes), number_again next is.1) refl
+    rw (events_again events (all_both _ _ events (all_both _ _ events is.0.1 spelled) bytes), number_again next is.1) refl
 done_again (done.Text text) is spelled bytes = ap (option_map (λ text. done.Text text)) (decoded-coded text)
 done_again (done.Reference reference) is spelled bytes = ap (option_map (λ reference. done.Reference reference)) (reference_again reference is bytes)
 done_again (done.Bytes text) is spelled bytes = ap (option_map (λ text. done.Bytes text)) (decoded-coded text)
@@ -214,7 +214,7 @@ done_again (done.Key known) is spelled bytes = ap (option_map (λ known. done.Ke
 -- ---- replies
 
 -- a reply other than of what was done, by its keyword
-refusal_in : List ℕ → List (List ℕ) → Option Reply
+abbrev refusal_in : List ℕ → List (List ℕ) → Option Reply
 refusal_in keyword words =
     if bytes_eq keyword (codes "invalid") then option_map (λ w. reply.Invalid w) (what_in words)
     else if bytes_eq keyword (codes "wronghost") then Some reply.WrongHost
@@ -235,16 +235,16 @@ refusal_in keyword words =
     else None
 
 -- the one where it is, else the other
-either : {X : Type 0} → Option X → Option X → Option X
+abbrev either : {X : Type 0} → Option X → Option X → Option X
 either (Some x) other = Some x
 either None other = other
 
-refusal_of : List (List (List ℕ)) → Option Reply
+abbrev refusal_of : List (List (List ℕ)) → Option Reply
 refusal_of ((keyword ∷ words) ∷ more) = refusal_in keyword words
 refusal_of _ = None
 
 -- a reply of the words of its lines
-pub reply_in : List (List (List ℕ)) → Option Reply
+abbrev pub reply_in : List (List (List ℕ)) → Option Reply
 reply_in [] = Some reply.OutOfMemory
 reply_in (line ∷ more) = either (option_map (λ d. reply.Ok d) (lines_done (line ∷ more))) (refusal_of (line ∷ more))
 

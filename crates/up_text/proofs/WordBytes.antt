@@ -1,5 +1,5 @@
 -- Which bytes stand in the words of output.
-use Rattle.std.proofs.Common.{◌≡◌, ◌≢◌, ◌∙◌, ◌==◌, ◌^◌, ◌&&◌, nat_le, nat_lt, ℕ, zero, suc, ◌<◌, ◌≤◌, ℤ, pos, negsuc, Bool, true, false, List, [], ◌∷◌, ◌++◌, length, map, None, Some, is_some, slice_index, codes, decimal, FitsSigned, w64, ⊤, refl, sym, ap, arith}
+use Rattle.std.proofs.Common.{◌≡◌, ◌≢◌, ◌∙◌, ◌==◌, ◌^◌, ◌&&◌, ◌||◌, nat_le, nat_lt, ℕ, zero, suc, ◌<◌, ◌≤◌, ℤ, pos, negsuc, Bool, true, false, List, [], ◌∷◌, ◌++◌, length, map, None, Some, is_some, slice_index, codes, decimal, FitsSigned, w64, refl, sym, ap, arith}
 use Rattle.std.specs.Fmt.{digit_glyph, signed_decimal}
 use Rattle.std.specs.List.{flat_map, join_by, list_all, list_any, AllByRecursion}
 use Rattle.std.specs.Str.Parse.{AllDigits}
@@ -114,7 +114,7 @@ some_word (b ∷ bs) other = omega arith
 -- what stands for a text is not empty
 pub some_decoded : (word text : List ℕ) → decoded word ≡ Some text → 0 < length word
 some_decoded word text is =
-    some_word word (λ none. absurd (true≢false (sym (ap is_some (sym is ∙ ap decoded none ∙ decoded-empty [] refl)))))
+    some_word word (λ none. absurd (true≢false (ap is_some (sym is ∙ ap decoded none ∙ decoded-empty [] refl))))
 
 pub literal_word : (word : List ℕ) → nat_lt 0 (length word) ≡ true → list_any is_blank word ≡ false → IsWord word
 literal_word word some visible = (ltb-true 0 (length word) some, visible)
