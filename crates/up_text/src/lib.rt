@@ -6,7 +6,8 @@
 //!
 //! [`read_request`] gives exactly what the words of a line ask, and [`read_client_line`] what they have the client do;
 //! [`is_request`] says whether they are such a line at all, which does not depend on who asks.
-//! [`reply_lines`] gives exactly the lines that tell a reply.
+//! [`reply_lines`] gives exactly the lines that tell a reply: words parted by single spaces ([`lines_are_words`]), and different
+//! ones for different replies ([`lines_tell_replies`]).
 #![tactic(auto)]
 
 mod entries;
