@@ -3,6 +3,7 @@ use crate::crashes::Crashes;
 use crate::ends::Ends;
 use crate::fields::Fields;
 use crate::frames::Streams;
+use crate::globs::Globs;
 use crate::lines::{File, run_lines};
 use crate::logs::Logs;
 use crate::messages::Messages;
@@ -19,6 +20,7 @@ use crate::scripts::run_scripts;
 use crate::signing::Signing;
 use crate::tally::Tally;
 use crate::texts::Texts;
+use crate::tree::Trees;
 use std::hash::RandomState;
 use std::random::RandomSource;
 use std::rt::Files;
@@ -67,6 +69,7 @@ fn run_file<R: Files + RandomSource + AllocGlobal + Print>(
     match topic_of(name) {
         "names" => run_lines(rt, file, Names, tally),
         "texts" => run_lines(rt, file, Texts, tally),
+        "tree" => run_lines(rt, file, Trees, tally),
         "ends" => run_lines(rt, file, Ends, tally),
         "messages" => run_lines(rt, file, Messages, tally),
         "replies" => run_lines(rt, file, Replies, tally),
@@ -82,6 +85,7 @@ fn run_file<R: Files + RandomSource + AllocGlobal + Print>(
         "crashes" => run_lines(rt, file, Crashes, tally),
         "records" => run_lines(rt, file, Records::new(), tally),
         "scripts" => run_scripts(rt, file, RandomState::new(rt)?, tally),
+        "globs" => run_lines(rt, file, Globs::new(RandomState::new(rt)?), tally),
         "rights" => run_lines(rt, file, Rights::new(RandomState::new(rt)?), tally),
         _ => {
             tally.fail();

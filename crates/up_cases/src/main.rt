@@ -12,6 +12,7 @@ mod fault;
 mod fields;
 mod files;
 mod frames;
+mod globs;
 mod lines;
 mod logs;
 mod messages;
@@ -29,6 +30,7 @@ mod signing;
 mod tally;
 mod texts;
 mod topic;
+mod tree;
 mod words;
 
 use std::rt::Env;

@@ -5,7 +5,7 @@ use Rattle.up_rights.specs.declared.Right.TheVariants as right
 use Rattle.up_list.specs.Founds.{entry_found}
 use Rattle.up_list.proofs.FrontLemmas.{front_owner}
 use Rattle.up_list.proofs.PassLemmas.{not_file, passed_check, passed_directory}
-use Rattle.up_list.proofs.glob.glob_for.Goals as goal
+use Rattle.up_list.proofs.globs.glob_for.Goals as goal
 
 pub one_row-requires : goal.one_row-requires
 one_row-requires g c = ap (λ (p : PathName). p.owner) c.in_ok-front.ensures ∙ (front_owner c.args.pattern.now ∙ c.requires)

@@ -5,7 +5,7 @@ use Rattle.up_list.specs.Founds.{entry_found}
 use Rattle.up_list.specs.Globs.{whole_reply}
 use Rattle.up_list.specs.Looks.{rights}
 use Rattle.up_list.proofs.ItemLemmas.{entry_named}
-use Rattle.up_list.proofs.glob.one_row.Goals as goal
+use Rattle.up_list.proofs.globs.one_row.Goals as goal
 
 -- the entry is shown by the rights on its name, which is the path
 pub returns : goal.returns

@@ -1,7 +1,7 @@
 use Rattle.std.proofs.Common.{◌+◌, sym, subst, arith}
 use Rattle.up_names.specs.PathNames.{PathName}
 use Rattle.up_list.proofs.GlobLemmas.{Leads, leads_end, leads_on, leads_there}
-use Rattle.up_list.proofs.glob.literal_path.Goals as goal
+use Rattle.up_list.proofs.globs.literal_path.Goals as goal
 
 -- the element is not literal
 pub returns-in_default : goal.returns-in_default

@@ -5,7 +5,7 @@ use Rattle.up_names.specs.PathOrderLaws.{path_cmp_total}
 use Rattle.up_wire.specs.declared.replies.Row.{Row}
 use Rattle.up_list.specs.Places.{is_before}
 use Rattle.up_list.proofs.GlobLemmas.{on_ok}
-use Rattle.up_list.proofs.glob.sort_rows.Goals as goal
+use Rattle.up_list.proofs.globs.sort_rows.Goals as goal
 
 pub returns-clause-sorted : goal.returns-clause-sorted
 returns-clause-sorted c =
