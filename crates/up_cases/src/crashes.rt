@@ -6,6 +6,7 @@ mod on_keys;
 mod on_ledger;
 mod on_store;
 mod others;
+mod replies;
 mod stage;
 mod watched;
 

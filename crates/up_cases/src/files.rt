@@ -6,12 +6,15 @@ use crate::frames::Streams;
 use crate::globs::Globs;
 use crate::lines::{File, run_lines};
 use crate::logs::Logs;
+use crate::messages::Messages;
 use crate::moves::Moves;
 use crate::names::Names;
 use crate::patterns::Patterns;
 use crate::peers::PeerLines;
 use crate::records::Records;
 use crate::references::References;
+use crate::replies::Replies;
+use crate::requests::Requests;
 use crate::rights::Rights;
 use crate::scripts::run_scripts;
 use crate::signing::Signing;
@@ -68,6 +71,9 @@ fn run_file<R: Files + RandomSource + AllocGlobal + Print>(
         "texts" => run_lines(rt, file, Texts, tally),
         "tree" => run_lines(rt, file, Trees, tally),
         "ends" => run_lines(rt, file, Ends, tally),
+        "messages" => run_lines(rt, file, Messages, tally),
+        "replies" => run_lines(rt, file, Replies, tally),
+        "requests" => run_lines(rt, file, Requests, tally),
         "logs" => run_lines(rt, file, Logs::new(), tally),
         "moves" => run_lines(rt, file, Moves, tally),
         "fields" => run_lines(rt, file, Fields, tally),

@@ -1,81 +1,60 @@
-//! A reply of a store or a key server, in the words of a script.
+//! The lines that tell a reply. A line stands alone.
 use crate::answer::Answer;
-use up_entry::{Endpoint, What};
-use up_rights::Right;
-use up_wire::{Done, KeyRecord, Reply};
+use crate::fault::Fault;
+use crate::topic::Topic;
+use crate::words::{Words, bytes_of_digits};
+use std::alloc::{AllocError, Global};
+use up_bytes::Bytes;
+use up_text::reply_lines;
+use up_wire::{ServerFrame, read_server};
 
-/// Adds a reply. One that neither answers is `other`.
-pub fn add_reply(reply: &Reply, answer: &mut Answer) {
-    match reply {
-        Reply::Ok(done) => add_done(done, answer),
-        Reply::Invalid(what) => {
-            answer.word("invalid");
-            answer.word(what_word(*what));
-        }
-        Reply::Permission(right) => {
-            answer.word("permission");
-            answer.word(Right::word(*right));
-        }
-        Reply::NotExist => answer.word("notexist"),
-        Reply::Full(records) => {
-            answer.word("full");
-            answer.number(*records);
-        }
-        Reply::Io => answer.word("io"),
-        Reply::OutOfMemory => answer.word("nomemory"),
-        _ => answer.word("other"),
-    }
-}
+/// Lines about the lines of replies. They keep nothing.
+#[derive(Clone, Copy)]
+pub struct Replies;
 
-fn add_done(done: &Done, answer: &mut Answer) {
-    match done {
-        Done::Changed(position) => {
-            answer.word("ok");
-            answer.number(*position);
-        }
-        Done::Reference(reference) => {
-            answer.word("ref");
-            answer.digits(reference.bytes());
-        }
-        Done::Bytes(bytes) => {
-            answer.word("bytes");
-            answer.coded(bytes.as_slice());
-        }
-        Done::Key(known) => add_key(known, answer),
-        _ => answer.word("other"),
-    }
-}
-
-/// Adds a key record: the user, the directories, the stores and the key.
-pub fn add_key(known: &KeyRecord, answer: &mut Answer) {
-    answer.word("key");
-    answer.coded(known.user.text().as_bytes());
-    add_endpoints(known.dirs.as_slice(), answer);
-    add_endpoints(known.stores.as_slice(), answer);
-    answer.coded(known.key.as_slice());
-}
-
-// Addresses joined by commas, or `-`.
-fn add_endpoints(endpoints: &[Endpoint], answer: &mut Answer) {
-    answer.begin();
-    if endpoints.is_empty() {
-        answer.push("-");
-    }
-    for (n, endpoint) in endpoints.iter().enumerate() {
-        answer.push(if n == 0 { "" } else { "," });
-        match endpoint {
-            Endpoint::Local => answer.push("local"),
-            Endpoint::Address(address) => answer.field(address.as_slice()),
+impl Topic for Replies {
+    fn turn(&mut self, alloc: Global, line: &str, answer: &mut Answer) -> Result<(), Fault> {
+        let mut words = Words::new(line);
+        match words.word()? {
+            "tell" => tell_line(alloc, words.one()?, answer),
+            _ => Err(Fault::BadLine),
         }
     }
 }
 
-fn what_word(what: What) -> &'static str {
-    match what {
-        What::Name => "name",
-        What::Reference => "reference",
-        What::Block => "block",
-        What::Key => "key",
-        _ => "other",
+// `tell HEX`: the lines that tell the reply whose message these bytes are, parted by ` / `; `none` where there is no line.
+// In a line each byte that is no printing character is coded, and so is `%`.
+fn tell_line(alloc: Global, digits: &str, answer: &mut Answer) -> Result<(), Fault> {
+    let bytes = bytes_of_digits(alloc, digits)?;
+    match read_server(alloc, bytes.as_slice()) {
+        Ok(frame) => Ok(add_frame(alloc, &frame, answer)?),
+        Err(_) => Err(Fault::BadLine),
+    }
+}
+
+fn add_frame(alloc: Global, frame: &ServerFrame, answer: &mut Answer) -> Result<(), AllocError> {
+    if let ServerFrame::Answer(given) = frame {
+        let lines = reply_lines(alloc, given)?;
+        add_lines(lines.as_slice(), answer);
+    }
+    Ok(())
+}
+
+fn add_lines(lines: &[Bytes], answer: &mut Answer) {
+    if lines.is_empty() {
+        answer.word("none");
+    }
+    for (place, line) in lines.iter().enumerate() {
+        if place > 0 {
+            answer.word("/");
+        }
+        add_line(line.as_slice(), answer);
+    }
+}
+
+// Adds a line, its words coded once more.
+fn add_line(line: &[u8], answer: &mut Answer) {
+    for word in line.split(|b| *b == b' ') {
+        answer.coded(word);
     }
 }

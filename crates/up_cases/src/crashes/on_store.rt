@@ -4,10 +4,10 @@ ghost use Rattle.up_store.specs.Answers.{IsAsked};
 
 use super::on_disk::add_outcome;
 use super::on_journal::add_open_fault;
+use super::replies::add_reply;
 use super::watched::Watched;
 use crate::answer::Answer;
 use crate::fault::Fault;
-use crate::replies::add_reply;
 use crate::words::{Words, bytes_of, user_of};
 use std::alloc::Global;
 use up_blocks::{BlockWhy, Blocks};

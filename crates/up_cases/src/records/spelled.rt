@@ -75,7 +75,7 @@ fn signed_text(entry: &Entry) -> &[u8] {
     }
 }
 
-/// The word of a rule of entries.
+/// The word of what is malformed.
 pub fn what_word(what: What) -> &'static str {
     match what {
         What::Name => "name",
@@ -90,7 +90,12 @@ pub fn what_word(what: What) -> &'static str {
         What::Control => "control",
         What::ControlSize => "controlsize",
         What::Sequence => "sequence",
-        _ => "another",
+        What::Pattern(_) => "pattern",
+        What::Reference => "reference",
+        What::Block => "block",
+        What::Key => "key",
+        What::SnapshotWatch => "snapshotwatch",
+        What::GroupName => "groupname",
     }
 }
 
