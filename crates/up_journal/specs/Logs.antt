@@ -79,8 +79,8 @@ pub record RefusesLog {D R : Type 0} (disks : Ghosts D) (read : ℕ → List ℕ
   pub synced : fault.why ≢ open_why.Fault → LeavesNow disks fault.disk (IsReadAs limits.largest (disks.content disk))
 
 -- A record was added, or was refused and the log is as before. Once it is acknowledged, each crash leaves the log with it. A crash
--- since the call began left the log, or the log with the doubtful record or with the one in hand. The disk tells its content where it
--- did.
+-- since the call began left the log, or the log with the doubtful record or with the one in hand. The disk tells its content after
+-- the call exactly where it did before.
 pub record AddsRecord {D R E : Type 0} (disks : Ghosts D) (read : ℕ → List ℕ → Result (List R) Damage) (rec : R) (old new : LogState D R) (result : Result ℕ E) : Type 0 where
   pub log : new.log ≡ (if is_ok result then old.log ++ rec ∷ [] else old.log)
   pub position : IfOk result (λ position. position ≡ length new.log)
@@ -91,7 +91,7 @@ pub record AddsRecord {D R E : Type 0} (disks : Ghosts D) (read : ℕ → List �
   pub acknowledged : OnOk result (LeavesNow disks new.disk (λ image. read new.limits.largest image ≡ Ok new.log))
   pub crash : Leaves disks old.disk new.disk (StandsForLog (read new.limits.largest) new.log new.further) (MayHaveLog (read old.limits.largest) old.log old.further rec)
 
--- A doubtful record was settled, or is as before. The disk tells its content where it did.
+-- A doubtful record was settled, or is as before. The disk tells its content after the call exactly where it did before.
 pub record ResolvesLog {D R E : Type 0} (disks : Ghosts D) (read : ℕ → List ℕ → Result (List R) Damage) (old new : LogState D R) (result : Result (Unit {0}) E) : Type 0 where
   pub log : new.log ≡ old.log
   pub settled : OnOk result (IsSettledLog new)
