@@ -173,6 +173,7 @@ module _ {D : Type 0} (disks : Ghosts D) (only_now : (disk : D) (image : List â„
       settled = tt;
       limits = refl;
       further = inr (inl refl);
+      told = refl;
       acknowledged = tt;
       crash = record {
         safe = safe.each;
