@@ -111,7 +111,8 @@ impl MemTree {
     /// The rules of the Access file in a directory after the first `n` records. It takes no memory and parses nothing.
     pub fn access_at(&self, dir: &Path, n: u64) -> Option<&AccessText>
         requires { n ≤ length self.now.log }
-        ensures { option_copied result ≡ (facts_of self.now.owner (tree_at self.now.log n)).access dir.now }
+        ensures { option_copied result
+            ≡ (facts_of self.now.owner (tree_at self.now.log n)).access dir.now }
     {
         self.kept.access_at(dir, n)
     }
@@ -119,7 +120,8 @@ impl MemTree {
     /// The items of the Group file at a path after the first `n` records. It takes no memory and parses nothing.
     pub fn group_at(&self, path: &Path, n: u64) -> Option<&GroupText>
         requires { n ≤ length self.now.log }
-        ensures { option_copied result ≡ (facts_of self.now.owner (tree_at self.now.log n)).group path.now }
+        ensures { option_copied result
+            ≡ (facts_of self.now.owner (tree_at self.now.log n)).group path.now }
     {
         self.kept.group_at(path, n)
     }
@@ -129,7 +131,8 @@ impl MemTree {
     pub fn nearest_at(&self, path: &Path, n: u64) -> Option<(u64, &AccessText)>
         requires { n ≤ length self.now.log }
         ensures text { option_map (λ found. found.1.now) result
-            ≡ first_text (facts_of self.now.owner (tree_at self.now.log n)).access (prefixes path.now) }
+            ≡ first_text (facts_of self.now.owner (tree_at self.now.log n)).access
+            (prefixes path.now) }
         ensures dir { option_map (λ found. cut found.0 path.now) result
             ≡ governing_prefix (tree_at self.now.log n) path.now }
     {

@@ -28,7 +28,8 @@ fn is_change_under(rec: &Rec, path: &Path) -> bool
 fn add_change(found: &mut Vec<u64>, n: u64, rec: &Rec, path: &Path) -> Result<(), AllocError>
     requires { n < 2 ^ 63 }
     ensures { OnOk result (found.new.items
-        ≡ (if changes_some (λ name. is_under name path.now) rec.now then found.old.items ++ (n + 1) ∷ [] else found.old.items)) }
+        ≡ (if changes_some (λ name. is_under name path.now) rec.now then found.old.items
+        ++ (n + 1) ∷ [] else found.old.items)) }
 {
     if is_change_under(rec, path) {
         found.push(n + 1)?;

@@ -27,7 +27,8 @@ impl Kept {
     /// The slot with a number, where there is one.
     pub(crate) fn slot_with(&self, id: Option<usize>) -> Option<&Slot>
         requires { Stands self.now }
-        ensures { (path : PathName) → IsIdOf (paths_of self.now) (slots_of self.now) path id → IsOwnSlot self.now path (option_copied result) }
+        ensures { (path : PathName) → IsIdOf (paths_of self.now) (slots_of self.now) path id
+            → IsOwnSlot self.now path (option_copied result) }
     {
         match id {
             Some(id) => slot_at(self.slots.as_slice(), id),
@@ -49,7 +50,8 @@ impl Kept {
     /// The path of the child at place `i`, from 0.
     pub(crate) fn child(&self, dir: &Path, i: u64) -> Option<&Path>
         requires { Stands self.now }
-        ensures { option_copied result ≡ slice_get (children (tree_of self.now.log.items) dir.now) i }
+        ensures { option_copied result
+            ≡ slice_get (children (tree_of self.now.log.items) dir.now) i }
     {
         match self.own_slot(dir) {
             Some(slot) => match slot.children.get(i) {
@@ -64,7 +66,8 @@ impl Kept {
     pub(crate) fn access_at(&self, dir: &Path, n: u64) -> Option<&AccessText>
         requires stands { Stands self.now }
         requires within { n ≤ length self.now.log.items }
-        ensures { option_copied result ≡ (facts_of self.now.owner (tree_at self.now.log.items n)).access dir.now }
+        ensures { option_copied result
+            ≡ (facts_of self.now.owner (tree_at self.now.log.items n)).access dir.now }
     {
         match self.own_slot(dir) {
             Some(slot) => text_at(slot.access.as_slice(), n, self.log.len() as u64),
@@ -76,7 +79,8 @@ impl Kept {
     pub(crate) fn group_at(&self, path: &Path, n: u64) -> Option<&GroupText>
         requires stands { Stands self.now }
         requires within { n ≤ length self.now.log.items }
-        ensures { option_copied result ≡ (facts_of self.now.owner (tree_at self.now.log.items n)).group path.now }
+        ensures { option_copied result
+            ≡ (facts_of self.now.owner (tree_at self.now.log.items n)).group path.now }
     {
         match self.own_slot(path) {
             Some(slot) => text_at(slot.group.as_slice(), n, self.log.len() as u64),
