@@ -5,9 +5,9 @@ ghost use Rattle.std.specs.Io.KnownBytes.{Appends, IsAtEnd};
 ghost use Rattle.up_faults.specs.Counts.{Rose};
 ghost use Rattle.up_ends.specs.Writing.{WritesPart};
 ghost use Rattle.up_script.specs.CanRuns.{bad_line, run_of};
-ghost use Rattle.up_script.specs.Statuses.{Answers, IsOneOf, answer_of, can_answer, code_of, input_limit, is_can, usage_line};
+ghost use Rattle.up_script.specs.Statuses.{AnswersWith, IsOneOf, answer_of, can_answer, code_of, input_limit, is_can, usage_line};
 
-use crate::can_lines::turn;
+use crate::can_script::CanScript;
 use crate::output::{Stop, finish, print};
 use crate::status::Status;
 use std::alloc::{AllocError, Global};
@@ -39,7 +39,7 @@ pub fn can_run<S: Source, K: Sink>(
 ) -> u8
     // Where the source tells its bytes and the sink what it holds, what is written is the meaning of these bytes.
     ensures meaning { IfSome (S.left source.old) (λ input.
-        Answers (K.held sink.old) (K.held sink.new) (can_answer (map string_bytes words.now) input) result) }
+        AnswersWith (K.held sink.old) (K.held sink.new) (can_answer (map string_bytes words.now) input) result) }
 
     // For every source and sink: the statuses that come, and the cause of each.
     ensures statuses { IsOneOf (0 ∷ 1 ∷ 2 ∷ 3 ∷ 4 ∷ 7 ∷ 64 ∷ []) result }
@@ -96,7 +96,7 @@ fn usage<K: Sink>(sink: &mut K) -> Status
 
 /// Runs a script that was read whole, and answers how that ended.
 fn run_script<K: Sink>(alloc: Global, random: RandomState, input: &[u8], sink: &mut K) -> Status
-    ensures answers { Answers (K.held sink.old) (K.held sink.new)
+    ensures answers { AnswersWith (K.held sink.old) (K.held sink.new)
         (answer_of (run_of input.now)) (code_of result) }
     ensures status { IsOneOf (0 ∷ 1 ∷ 3 ∷ 4 ∷ []) (code_of result) }
     ensures cause { code_of result ≡ 3 → Rose (K.faults sink.old) (K.faults sink.new) }
@@ -124,12 +124,12 @@ fn run_lines<K: Sink>(
     ensures cause { IsErrOf result Stop.WriteFault → Rose (K.faults sink.old) (K.faults sink.new) }
     ensures later { K.faults sink.old ≤ K.faults sink.new }
 {
-    let mut tree = None;
+    let mut script = CanScript::new(alloc, random);
     let mut gathered = Vec::new(alloc);
     let mut number: u64 = 1;
     let mut rest = lines;
     while let Some((line, after)) = next_line(rest) {
-        let Some(reply) = turn(alloc, random, &mut tree, line)? else {
+        let Some(reply) = script.run_line(line)? else {
             let last = bad_line(alloc, number)?;
             finish(sink, &mut gathered, &last)?;
             return Ok(Status::BadLine);

@@ -13,6 +13,7 @@
 mod can;
 mod can_files;
 mod can_lines;
+mod can_script;
 mod output;
 mod status;
 
