@@ -39,16 +39,20 @@ pub fn can_run<S: Source, K: Sink>(
 ) -> u8
     // Where the source tells its bytes and the sink what it holds, what is written is the meaning of these bytes.
     ensures meaning { IfSome (S.left source.old) (λ input.
-        AnswersWith (K.held sink.old) (K.held sink.new) (can_answer (map string_bytes words.now) input) result) }
+        AnswersWith (K.held sink.old) (K.held sink.new)
+        (can_answer (map string_bytes words.now) input) result) }
 
     // For every source and sink: the statuses that come, and the cause of each.
     ensures statuses { IsOneOf (0 ∷ 1 ∷ 2 ∷ 3 ∷ 4 ∷ 7 ∷ 64 ∷ []) result }
-    ensures usage { is_can (map string_bytes words.now) ≡ false → IsOneOf (3 ∷ 64 ∷ []) result × (source.new ≡ source.old) }
+    ensures usage { is_can (map string_bytes words.now) ≡ false
+        → IsOneOf (3 ∷ 64 ∷ []) result × (source.new ≡ source.old) }
     ensures usage_only { result ≡ 64 → is_can (map string_bytes words.now) ≡ false }
     ensures read_fault { result ≡ 2 → Rose (S.faults source.old) (S.faults source.new) }
     ensures write_fault { result ≡ 3 → Rose (K.faults sink.old) (K.faults sink.new) }
-    ensures too_long { result ≡ 7 → S.given source.old + input_limit < 2 ^ 64 - 1 → S.given source.old + input_limit < S.given source.new }
-    ensures too_long_always { S.given source.old + input_limit < 2 ^ 64 - 1 → S.given source.old + input_limit < S.given source.new → result ≡ 7 }
+    ensures too_long { result ≡ 7 → S.given source.old + input_limit < 2 ^ 64 - 1
+        → S.given source.old + input_limit < S.given source.new }
+    ensures too_long_always { S.given source.old + input_limit < 2 ^ 64 - 1
+        → S.given source.old + input_limit < S.given source.new → result ≡ 7 }
     ensures unread { result ≡ 2 → K.held sink.new ≡ K.held sink.old }
     ensures unwritten { result ≡ 7 → K.held sink.new ≡ K.held sink.old }
     ensures source_counts { S.faults source.old ≤ S.faults source.new }
@@ -117,7 +121,8 @@ fn run_lines<K: Sink>(
     lines: &[u8],
     sink: &mut K,
 ) -> Result<Status, Stop>
-    ensures whole { OnOk result (Appends (K.held sink.old) (K.held sink.new) (run_of lines.now).text) }
+    ensures whole { OnOk result
+        (Appends (K.held sink.old) (K.held sink.new) (run_of lines.now).text) }
     ensures status { IfOk result (λ status. code_of status ≡ (run_of lines.now).status) }
     ensures kind { IfOk result (λ status. IsOneOf (0 ∷ 1 ∷ []) (code_of status)) }
     ensures part { WritesPart (K.held sink.old) (K.held sink.new) (run_of lines.now).text }

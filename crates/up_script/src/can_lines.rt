@@ -68,8 +68,12 @@ pub fn access_line(
     files: &mut CanFiles,
     arguments: Option<&[u8]>,
 ) -> Result<Reply, AllocError>
-    ensures reply { IfOk result (λ reply. option_copied reply ≡ reply_of (named (access_line files.old (words_left (option_copied arguments.entry))))) }
-    ensures after { OnOk result (Some files.new ≡ tree_after (Some files.old) (named (access_line files.old (words_left (option_copied arguments.entry))))) }
+    ensures reply { IfOk result
+        (λ reply. option_copied reply
+        ≡ reply_of (named (access_line files.old (words_left (option_copied arguments.entry))))) }
+    ensures after { OnOk result
+        (Some files.new ≡ tree_after (Some files.old)
+        (named (access_line files.old (words_left (option_copied arguments.entry))))) }
 {
     let Some((path, text)) = two_words(arguments) else {
         return Ok(None);
@@ -105,7 +109,8 @@ fn access_dir(tree: &MapFacts, path: Path) -> Option<Path>
 
 /// The Access text that a word stands for, in this owner's tree.
 fn access_text(alloc: Global, owner: &User, word: &[u8]) -> Result<Option<AccessText>, AllocError>
-    ensures { IfOk result (λ found. found ≡ option_and_then (λ text. result_ok (access_of owner.now text)) (decoded word.now)) }
+    ensures { IfOk result (λ found. found
+        ≡ option_and_then (λ text. result_ok (access_of owner.now text)) (decoded word.now)) }
 {
     let Some(text) = word_text(alloc, word)? else {
         return Ok(None);
@@ -124,8 +129,12 @@ pub fn group_line(
     files: &mut CanFiles,
     arguments: Option<&[u8]>,
 ) -> Result<Reply, AllocError>
-    ensures reply { IfOk result (λ reply. option_copied reply ≡ reply_of (named (group_line files.old (words_left (option_copied arguments.entry))))) }
-    ensures after { OnOk result (Some files.new ≡ tree_after (Some files.old) (named (group_line files.old (words_left (option_copied arguments.entry))))) }
+    ensures reply { IfOk result
+        (λ reply. option_copied reply
+        ≡ reply_of (named (group_line files.old (words_left (option_copied arguments.entry))))) }
+    ensures after { OnOk result
+        (Some files.new ≡ tree_after (Some files.old)
+        (named (group_line files.old (words_left (option_copied arguments.entry))))) }
 {
     let Some((path, text)) = two_words(arguments) else {
         return Ok(None);
@@ -145,7 +154,8 @@ pub fn group_line(
 
 /// The Group text that a word stands for, in this owner's tree.
 fn group_text(alloc: Global, owner: &User, word: &[u8]) -> Result<Option<GroupText>, AllocError>
-    ensures { IfOk result (λ found. found ≡ option_and_then (λ text. result_ok (group_of owner.now text)) (decoded word.now)) }
+    ensures { IfOk result (λ found. found
+        ≡ option_and_then (λ text. result_ok (group_of owner.now text)) (decoded word.now)) }
 {
     let Some(text) = word_text(alloc, word)? else {
         return Ok(None);

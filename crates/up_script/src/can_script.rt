@@ -50,7 +50,8 @@ impl CanScript {
     /// Runs a line, and answers what it prints, or `None` where it is malformed and changes nothing.
     #[tactic(auto, unfolding(crate::specs::CanLines::effect_of, crate::specs::CanLines::words_effect))]
     pub fn run_line(&mut self, line: &[u8]) -> Result<Reply, AllocError>
-        ensures reply { IfOk result (λ reply. option_copied reply ≡ reply_of (effect_of self.old line.now)) }
+        ensures reply { IfOk result
+            (λ reply. option_copied reply ≡ reply_of (effect_of self.old line.now)) }
         ensures after { OnOk result (self.new ≡ tree_after self.old (effect_of self.old line.now)) }
     {
         if is_silent(line) {
@@ -67,7 +68,8 @@ impl CanScript {
         ensures reply { IfOk result (λ reply. option_copied reply
             ≡ reply_of (kind_effect kind self.old (words_left (option_copied arguments.entry)))) }
         ensures after { OnOk result (self.new
-            ≡ tree_after self.old (kind_effect kind self.old (words_left (option_copied arguments.entry)))) }
+            ≡ tree_after self.old
+            (kind_effect kind self.old (words_left (option_copied arguments.entry)))) }
     {
         match &mut self.tree {
             Some(tree) => tree.run_kind(self.alloc, kind, arguments),
@@ -133,7 +135,8 @@ impl CanTree {
         ensures reply { IfOk result (λ reply. option_copied reply
             ≡ reply_of (files_effect kind self.old (words_left (option_copied arguments.entry)))) }
         ensures after { OnOk result (Some self.new
-            ≡ tree_after (Some self.old) (files_effect kind self.old (words_left (option_copied arguments.entry)))) }
+            ≡ tree_after (Some self.old)
+            (files_effect kind self.old (words_left (option_copied arguments.entry)))) }
     {
         match kind {
             CanKind::Tree => Ok(None),
@@ -162,7 +165,13 @@ impl CanTree {
         if !read_path(alloc, path, &mut self.asked.path)? {
             return Ok(None);
         }
-        answer(alloc, &self.files, &self.asked.user, right, &self.asked.path)
+        answer(
+            alloc,
+            &self.files,
+            &self.asked.user,
+            right,
+            &self.asked.path,
+        )
     }
 }
 
@@ -216,7 +225,8 @@ fn answer(
     right: Right,
     path: &Path,
 ) -> Result<Reply, AllocError>
-    ensures { IfOk result (λ reply. option_copied reply ≡ answer_to files.now user.now right path.now) }
+    ensures { IfOk result (λ reply. option_copied reply
+        ≡ answer_to files.now user.now right path.now) }
 {
     if path.owner() != files.tree.owner() {
         return Ok(None);

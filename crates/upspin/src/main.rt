@@ -50,7 +50,9 @@ fn status(rt: &HostRuntime) -> u8 {
 fn meaning(status: u8) -> Option<&'static str> {
     match status {
         1 => Some("upspin: a line of the script is malformed (docs/MISTAKES.md)"),
-        2 => Some("upspin: standard input failed, and nothing was printed (README.md, Statuses)"),
+        2 => Some(
+            "upspin: no input or no random keys, and nothing was printed (README.md, Statuses)",
+        ),
         3 => Some("upspin: standard output failed, and not all was printed (README.md, Statuses)"),
         4 => Some("upspin: there was no memory, and not all was printed (README.md, Statuses)"),
         7 => Some("upspin: the script is too long, and nothing was printed (README.md, Statuses)"),
