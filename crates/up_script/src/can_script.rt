@@ -92,7 +92,7 @@ impl CanScript {
         let Some(tree) = tree_line(self.alloc, self.random, arguments)? else {
             return Ok(None);
         };
-        self.tree = Some(tree);
+        drop(self.tree.replace(tree));
         Ok(NOTHING)
     }
 }

@@ -18,9 +18,20 @@ pub fn next_line(text: &[u8]) -> Option<(&[u8], &[u8])>
     if text.is_empty() {
         return None;
     }
-    match place_of(b'\n', text) {
+    match line_end(text) {
         Some(end) => Some((&text[..end], &text[end + 1..])),
         None => Some((text, &text[text.len()..])),
+    }
+}
+
+/// The place of the first LF. Where a line has at most one byte, as an empty one and a bare `#` have, it is found at sight.
+fn line_end(text: &[u8]) -> Option<usize>
+    ensures { result ≡ position is_line_end text.now }
+{
+    match text {
+        [b'\n', ..] => Some(0),
+        [_, b'\n', ..] => Some(1),
+        _ => place_of(b'\n', text),
     }
 }
 
