@@ -1,5 +1,5 @@
 //! `upspin can`: a script in, verdicts out.
-ghost use Rattle.std.specs.Prelude.{◌≡◌, ◌+◌, ◌-◌, ◌<◌, ◌≤◌, ◌^◌, ◌↔◌, ◌∷◌, [], ◌==◌, ◌++◌, map, false, OnOk, IfSome, IfOk, IsErrOf, IsTrue, string_bytes};
+ghost use Rattle.std.specs.Prelude.{◌≡◌, None, ◌+◌, ◌-◌, ◌<◌, ◌≤◌, ◌^◌, ◌↔◌, ◌∷◌, [], ◌==◌, ◌++◌, map, false, OnOk, IfSome, IfOk, IsErrOf, IsTrue, string_bytes};
 ghost use Rattle.std.specs.List.{list_any};
 ghost use Rattle.std.specs.Io.KnownBytes.{Appends, IsAtEnd};
 ghost use Rattle.up_faults.specs.Counts.{Rose};
@@ -113,8 +113,7 @@ fn run_script<K: Sink>(alloc: Global, random: RandomState, input: &[u8], sink: &
     }
 }
 
-/// Runs a script's lines in turn, and prints what they say.
-#[tactic(auto, unfolding(crate::specs::CanRuns::run_of))]
+/// Runs a script's lines, and prints what they say.
 fn run_lines<K: Sink>(
     alloc: Global,
     random: RandomState,
@@ -130,6 +129,28 @@ fn run_lines<K: Sink>(
     ensures later { K.faults sink.old ≤ K.faults sink.new }
 {
     let mut script = CanScript::new(alloc, random);
+    let result = run_each(alloc, &mut script, lines, sink);
+    drop(script);
+    result
+}
+
+/// Runs a script's lines in turn from its beginning, and prints what they say.
+#[tactic(auto, unfolding(crate::specs::CanRuns::run_of))]
+fn run_each<K: Sink>(
+    alloc: Global,
+    script: &mut CanScript,
+    lines: &[u8],
+    sink: &mut K,
+) -> Result<Status, Stop>
+    requires { script.old ≡ None }
+    ensures whole { OnOk result
+        (Appends (K.held sink.old) (K.held sink.new) (run_of lines.now).text) }
+    ensures status { IfOk result (λ status. code_of status ≡ (run_of lines.now).status) }
+    ensures kind { IfOk result (λ status. IsOneOf (0 ∷ 1 ∷ []) (code_of status)) }
+    ensures part { WritesPart (K.held sink.old) (K.held sink.new) (run_of lines.now).text }
+    ensures cause { IsErrOf result Stop.WriteFault → Rose (K.faults sink.old) (K.faults sink.new) }
+    ensures later { K.faults sink.old ≤ K.faults sink.new }
+{
     let mut gathered = Vec::new(alloc);
     let mut number: u64 = 1;
     let mut rest = lines;

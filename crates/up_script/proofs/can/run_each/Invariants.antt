@@ -3,7 +3,7 @@ use Rattle.std.proofs.Common.{◌+◌, ◌≤◌, length}
 use Rattle.up_text.specs.Lines.{script_lines}
 use Rattle.up_script.specs.CanRuns.{run_from, run_of}
 use Rattle.up_script.proofs.CanFolds.{Runs}
-use Rattle.up_script.proofs.can.run_lines.Given as goal
+use Rattle.up_script.proofs.can.run_each.Given as goal
 
 abbrev pub invariant-loop-line : goal.invariant-loop-line
 invariant-loop-line g l = record {
