@@ -13,6 +13,7 @@ use up_entry::{Entry, Rec};
 use up_nodes::MemTree;
 
 /// What a record changes: the entry that it puts, or the one that it deletes.
+#[derive(Drop)]
 pub(crate) struct Changed<'a> {
     pub(crate) delete: bool,
     pub(crate) entry: &'a Entry,

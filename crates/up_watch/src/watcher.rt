@@ -12,6 +12,7 @@ use up_policy::{Loaded, rights_of};
 use up_rights::RightSet;
 
 /// A user who watches a tree, with what was loaded of the groups of others.
+#[derive(Drop)]
 pub(crate) struct Watcher<'a> {
     tree: &'a MemTree,
     loaded: &'a Loaded,
