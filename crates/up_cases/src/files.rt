@@ -16,6 +16,7 @@ use crate::scripts::run_scripts;
 use crate::signing::Signing;
 use crate::tally::Tally;
 use crate::texts::Texts;
+use crate::watches::Watches;
 use std::hash::RandomState;
 use std::random::RandomSource;
 use std::rt::Files;
@@ -77,6 +78,7 @@ fn run_file<R: Files + RandomSource + AllocGlobal + Print>(
         "records" => run_lines(rt, file, Records::new(), tally),
         "scripts" => run_scripts(rt, file, RandomState::new(rt)?, tally),
         "rights" => run_lines(rt, file, Rights::new(RandomState::new(rt)?), tally),
+        "watches" => run_lines(rt, file, Watches::new(RandomState::new(rt)?), tally),
         _ => {
             tally.fail();
             println!(rt; "{name}: no topic has this name")

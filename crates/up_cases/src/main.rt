@@ -27,6 +27,7 @@ mod signing;
 mod tally;
 mod texts;
 mod topic;
+mod watches;
 mod words;
 
 use std::rt::Env;
