@@ -113,3 +113,10 @@ deleted owner records log (suc k) path is = there (node_at (tree_of (take k reco
         ap (option_and_then (λ m. option_and_then entry_put (record_at records m))) (before ∙ sequences owner (take k records) fitting path node found)
         ∙ (ap (option_and_then entry_put) (record_taken records k node.entry.sequence (Put node.entry node.text) (put_there owner (take k records) fitting path node found))
         ∙ sym (ap (option_map entry_of) found))
+
+module _ (owner : List ℕ) (records : List Rec) (log : IsLog owner records) (n : ℕ) (path : PathName) (is : record_at records n ≡ Some (Delete path)) where
+  pub deleted_none : None ≡ change_before records n → None ≡ entry_at (tree_at records (n - 1)) path
+  deleted_none none = ap (option_and_then (λ m. option_and_then entry_put (record_at records m))) none ∙ deleted owner records log n path is
+
+  pub deleted_some : (m : ℕ) (found : Option Entry) → Some m ≡ change_before records n → found ≡ option_and_then entry_put (record_at records m) → found ≡ entry_at (tree_at records (n - 1)) path
+  deleted_some m found some put = put ∙ (ap (option_and_then (λ m. option_and_then entry_put (record_at records m))) some ∙ deleted owner records log n path is)

@@ -1,27 +1,36 @@
 -- The events of a log above a sequence, on paths under one, are what is told of the records that change such paths.
-use Rattle.std.proofs.Common.{◌≡◌, ◌≢◌, ℕ, zero, suc, ◌+◌, ◌-◌, ◌<◌, ◌≤◌, Bool, true, false, ◌&&◌, List, [], ◌∷◌, length, drop, refl, sym, ap, subst, ◌∙◌, arith, Option, Some, None}
-use Rattle.std.specs.Prelude.{if◌then◌else◌, filter, nat_lt, slice_get}
+use Rattle.std.proofs.Common.{◌≡◌, ◌≢◌, ℕ, zero, suc, ◌+◌, ◌-◌, ◌<◌, ◌≤◌, Bool, true, false, not, ◌&&◌, List, [], ◌∷◌, length, take, drop, refl, sym, ap, subst, ◌∙◌, arith, Option, Some, None}
+use Rattle.std.specs.Prelude.{pos, if◌then◌else◌, filter, nat_lt, slice_get, MatchOption}
 use Rattle.std.specs.List.{AllByRecursion, filter_map}
 use Rattle.std.specs.Option.{option_and_then, option_map}
-use Rattle.std.proofs.lemmas.Bool.{le-ltb, lt-ltb}
-use Rattle.up_names.specs.PathNames.{PathName, is_under}
+use Rattle.std.proofs.lemmas.Bool.{false≢true, le-ltb, lt-ltb}
+use Rattle.up_names.specs.PathNames.{PathName, is_under, parent_of}
 use Rattle.up_rights.specs.RightSets.{Rights, has_any}
 use Rattle.up_entry.specs.Showing.{shown_as}
 use Rattle.up_entry.specs.declared.entries.Entry.{Entry}
 use Rattle.up_entry.specs.declared.records.Rec.{Rec}
 use Rattle.up_entry.specs.declared.records.Rec.TheVariants.{Put, Delete, Snap}
 use Rattle.up_wire.specs.declared.replies.WatchEvent.{WatchEvent}
+use Rattle.up_wire.specs.declared.replies.Reply.TheVariants.{Invalid}
+use Rattle.up_entry.specs.declared.what.What.TheVariants as what
+use Rattle.up_policy.specs.Loadings.{Loading}
+use Rattle.up_nodes.specs.MemTrees.{TreeLog}
 use Rattle.up_replay.specs.Changes.{changes_some, changes_under, path_of_change, positions_of}
-use Rattle.up_replay.specs.Fits.{IsLog}
+use Rattle.up_replay.specs.Fits.{HasDirectory, HasPlace, IsLog, PutFits}
 use Rattle.up_replay.specs.Logs.{Limits, Log}
-use Rattle.up_replay.specs.Trees.{node_at, tree_at}
+use Rattle.up_replay.specs.Trees.{Tree, node_at, tree_at}
 use Rattle.up_replay.specs.declared.node.Node.{Node}
 use Rattle.up_replay.proofs.Paths.{some_none, some_same}
 use Rattle.up_replay.proofs.Rooted.{rooted_at}
+use Rattle.up_nodes.proofs.LogLaws.{front}
+use Rattle.up_list.specs.Rooted.{IsRooted}
+use Rattle.up_list.proofs.BelowLemmas.{parent_is}
+use Rattle.up_list.proofs.FrontLemmas.{owner_of}
+use Rattle.up_list.proofs.ViewLemmas.{rooted_log}
 use Rattle.up_list.specs.Looks.{Look, has_some, look_after, look_now, rights, shown}
 use Rattle.up_answers.specs.Events.{Change, change_at, change_in, event_at, event_of, events, events_to}
-use Rattle.up_answers.specs.Watches.{is_watched}
-use Rattle.up_watch.specs.Watching.{Watching, after, now, told}
+use Rattle.up_answers.specs.Watches.{batch, is_watched, watched}
+use Rattle.up_watch.specs.Watching.{Watching, after, log_in, now, told}
 use Rattle.up_watch.specs.Batches.{IsPosition}
 use Rattle.up_watch.proofs.Listed.{those_behind}
 
@@ -98,6 +107,38 @@ change_path owner records log n rec change is made = go rec (sym (ap (option_and
             ap Some (sym ((rooted_at owner records log.fitting n).named path node found))
             ∙ ap (λ (c : Change). Some c.entry.name) (some_same (record { delete = true; entry = node.entry }) change f)
 
+-- it is of the owner
+place_owned : (owner : List ℕ) (tree : Tree) → IsRooted owner tree → (path : PathName) → HasPlace owner tree path → path.owner ≡ owner
+place_owned owner tree rooted path place = go (parent_of path) refl place
+  where
+    go : (o : Option PathName) → parent_of path ≡ o → MatchOption o (path.owner ≡ owner) (HasDirectory tree) → path.owner ≡ owner
+    go None none h = h
+    go (Some dir) some h = ap (λ (p : PathName). p.owner) (parent_is path dir some).1 ∙ owner_of owner tree rooted dir h.0 h.1
+
+pub change_owned : (owner : List ℕ) (records : List Rec) → IsLog owner records → (n : ℕ) (change : Change) → change_at records n ≡ Some change → change.entry.name.owner ≡ owner
+unfolding change_at change_in
+change_owned owner records log n change made = go (slice_get records n) refl made
+  where
+    rooted : IsRooted owner (tree_at records n)
+    rooted = rooted_log owner (take n records) (front owner records n log)
+
+    by : (rec : Rec) → slice_get records n ≡ Some rec → change_in (tree_at records n) rec ≡ Some change → change.entry.name.owner ≡ owner
+    by (Put entry text) at e =
+        let fits : PutFits owner (take n records) entry text = log.fitting.each n (Put entry text) at in
+        ap (λ (c : Change). c.entry.name.owner) (sym (some_same (record { delete = false; entry = entry }) change e)) ∙ place_owned owner (tree_at records n) rooted entry.name fits.place
+    by (Snap time) at e = absurd (some_none change (sym e))
+    by (Delete path) at e = there (node_at (tree_at records n) path) refl e
+      where
+        there : (o : Option Node) → node_at (tree_at records n) path ≡ o → option_map (λ (node : Node). record { delete = true; entry = node.entry }) o ≡ Some change → change.entry.name.owner ≡ owner
+        there None found f = absurd (some_none change (sym f))
+        there (Some node) found f =
+            ap (λ (c : Change). c.entry.name.owner) (sym (some_same (record { delete = true; entry = node.entry }) change f))
+            ∙ (ap (λ (p : PathName). p.owner) (rooted.named path node found) ∙ owner_of owner (tree_at records n) rooted path node found)
+
+    go : (o : Option Rec) → slice_get records n ≡ o → option_and_then (change_in (tree_at records n)) o ≡ Some change → change.entry.name.owner ≡ owner
+    go None at e = absurd (some_none change (sym e))
+    go (Some rec) at e = by rec at e
+
 -- ---- all of them
 
 module _ (watching : Watching) (is : IsLog watching.owner watching.log) (limits : Limits) (path : PathName) (above : ℕ) (within : above ≤ length watching.log) where
@@ -122,6 +163,26 @@ module _ (watching : Watching) (is : IsLog watching.owner watching.log) (limits 
           ∙ (ap (λ b. b && is_under event.entry.name path) (lt-ltb above (suc n) (omega (arith, high)))
           ∙ (ap (λ p. is_under p path) of.name
           ∙ sym (ap (λ o. elim o as (λ _. Bool) [ None ↦ false | Some p ↦ is_under p path ]) (change_path watching.owner watching.log is n rec of.change at of.is))))
+
+-- what is told of the records that change a path under one, above a sequence
+pub watched_above : (tree : TreeLog) (is : IsLog tree.owner tree.log) (limits : Limits) (loaded : Loading) (user : List ℕ) (path : PathName) (above : ℕ) → above ≤ length tree.log →
+    batch (length tree.log) (filter_map (told (record { owner = tree.owner; log = tree.log; loaded = loaded; user = user })) (changes_under tree.log path above)) ≡ watched (log_in tree limits) loaded user path (pos above)
+unfolding watched
+watched_above tree is limits loaded user path above within =
+    let watching : Watching = record { owner = tree.owner; log = tree.log; loaded = loaded; user = user } in
+    ap (batch (length tree.log)) (sym (events_told watching is limits path above within))
+    ∙ sym (ap (λ b. if b then Invalid what.Sequence else batch (length tree.log) (filter (is_watched above path) (events (log_in tree limits) loaded user))) (le-ltb (length tree.log) above within))
+
+pub owned_of : (watching : Watching) (owner : List ℕ) (log : List Rec) → owner ≡ watching.owner → log ≡ watching.log → IsLog owner log → (n : ℕ) (change : Change) → Some change ≡ change_at watching.log (n - 1) → change.entry.name.owner ≡ watching.owner
+owned_of watching owner log same same' is n change at = change_owned owner log is (n - 1) change (ap (λ l. change_at l (n - 1)) same' ∙ sym at) ∙ same
+
+pub none_of : (r b : Bool) → r ≡ not b → r ≡ true → b ≡ false
+none_of r true is none = absurd (false≢true (sym is ∙ none))
+none_of r false is none = refl
+
+pub some_of : (r b : Bool) → r ≡ not b → r ≡ false → b ≡ true
+some_of r true is some = refl
+some_of r false is some = absurd (false≢true (sym some ∙ is))
 
 -- ---- one of them
 

@@ -54,5 +54,8 @@ fn entry_deleted(tree: &MemTree, n: u64) -> Option<&Entry>
         → option_copied result ≡ entry_at (tree_at tree.now.log (n - 1)) path }
 {
     let _records = tree.position();
-    entry_put(tree, tree.change_before(n)?)
+    match tree.change_before(n) {
+        Some(before) => entry_put(tree, before),
+        None => None,
+    }
 }

@@ -30,8 +30,8 @@ pub(crate) fn event_by(
     if held.is_empty() {
         return Ok(None);
     }
-    let then = watcher.rights_after(alloc, &changed.entry.name, n)?;
-    if then.is_empty() {
+    let was = watcher.rights_after(alloc, &changed.entry.name, n)?;
+    if was.is_empty() {
         return Ok(None);
     }
     Ok(Some(WatchEvent {

@@ -2,7 +2,7 @@
 ghost use Rattle.std.specs.Prelude.{◌≡◌, ◌++◌, IfOk, OnOk, length, map};
 ghost use Rattle.std.specs.List.{AllByRecursion, filter_map, flat_map};
 ghost use Rattle.std.specs.List.Sorted.{IsSortedBy, IsStableBy};
-ghost use Rattle.std.specs.Option.{option_to_list};
+ghost use Rattle.std.specs.Option.{option_map, option_to_list};
 ghost use Rattle.up_answers.specs.Watches.{items_under};
 ghost use Rattle.up_list.specs.Entries.{entries_in, entry_at};
 ghost use Rattle.up_list.specs.Founds.{entry_found};
@@ -43,10 +43,7 @@ fn walk<'a, O: Onlooker>(
     ensures closed { IfOk result (λ found.
         IsClosed (O.look onlooker.now).tree path.now (map entry_found found.items)) }
 {
-    let mut found = Vec::new(alloc);
-    if let Some(item) = onlooker.item(alloc, path)? {
-        found.push(item)?;
-    }
+    let mut found = first(alloc, onlooker.item(alloc, path)?)?;
     for i in 0..usize::MAX {
         let Some(item) = found.get(i) else {
             return Ok(found);
@@ -56,6 +53,18 @@ fn walk<'a, O: Onlooker>(
     }
     // No memory holds so many.
     Err(AllocError)
+}
+
+/// The list of an item, where there is one.
+fn first<'a>(alloc: Global, item: Option<Found<'a>>) -> Result<Vec<Found<'a>>, AllocError>
+    ensures { IfOk result (λ found. map entry_found found.items
+        ≡ option_to_list (option_map entry_found item.entry)) }
+{
+    let mut found = Vec::new(alloc);
+    if let Some(item) = item {
+        found.push(item)?;
+    }
+    Ok(found)
 }
 
 /// The events of those items on which the user has any right, in their order.
