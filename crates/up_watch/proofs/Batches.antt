@@ -1,5 +1,5 @@
 -- Events that are gathered from positions, one after the other, up to the 256th.
-use Rattle.std.proofs.Common.{◌≡◌, ℕ, suc, Bool, true, false, not, ◌+◌, ◌≤◌, List, [], ◌∷◌, ◌++◌, length, take, drop, refl, sym, ap, subst, ◌∙◌, arith, Option, Some, None, append-nil}
+use Rattle.std.proofs.Common.{◌≡◌, ℕ, suc, Bool, true, false, ◌+◌, ◌≤◌, List, [], ◌∷◌, ◌++◌, length, take, drop, refl, sym, ap, subst, ◌∙◌, arith, Option, Some, None, append-nil}
 use Rattle.std.specs.Prelude.{if◌then◌else◌, IsSome, nat_lt, slice_get, unwrap_or}
 use Rattle.std.specs.List.{cons_option, filter_map}
 use Rattle.std.specs.Option.{option_map, option_to_list}
@@ -74,10 +74,10 @@ module _ (told : ℕ → Option WatchEvent) (positions : List ℕ) (i : ℕ) (fo
   gathers_all records end so_far = batch_all records found so_far.few ∙ ap (batch records) (so_far.all ∙ ap (filter_map told) (take_all i positions end))
 
 -- what became of an event
-pub taken_in : (old now : List WatchEvent) (event : Option WatchEvent) (b : Bool) → not b ≡ false → Takes old now event b → (now ≡ old ++ option_to_list event) × (length now ≤ 256)
+pub taken_in : (old now : List WatchEvent) (event : Option WatchEvent) (b : Bool) → b ≡ true → Takes old now event b → (now ≡ old ++ option_to_list event) × (length now ≤ 256)
 taken_in old now event true is takes = takes
-taken_in old now event false is takes = absurd (false≢true (sym is))
+taken_in old now event false is takes = absurd (false≢true is)
 
-pub left_out : (old now : List WatchEvent) (event : Option WatchEvent) (b : Bool) → not b ≡ true → Takes old now event b → (now ≡ old) × (length old ≡ 256) × IsSome event
-left_out old now event true is takes = absurd (false≢true is)
+pub left_out : (old now : List WatchEvent) (event : Option WatchEvent) (b : Bool) → b ≡ false → Takes old now event b → (now ≡ old) × (length old ≡ 256) × IsSome event
+left_out old now event true is takes = absurd (false≢true (sym is))
 left_out old now event false is takes = takes

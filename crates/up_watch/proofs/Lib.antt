@@ -6,3 +6,4 @@ pub mod Puts
 pub mod Told
 pub mod Batches
 pub mod ItemsFound
+pub mod Sequences

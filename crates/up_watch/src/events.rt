@@ -30,8 +30,8 @@ pub(crate) fn event_by(
     if held.is_empty() {
         return Ok(None);
     }
-    let was = watcher.rights_after(alloc, &changed.entry.name, n)?;
-    if was.is_empty() {
+    let earlier = watcher.rights_after(alloc, &changed.entry.name, n)?;
+    if earlier.is_empty() {
         return Ok(None);
     }
     Ok(Some(WatchEvent {

@@ -1,8 +1,8 @@
 //! The items under a path, as they are now.
-ghost use Rattle.std.specs.Prelude.{◌≡◌, ◌++◌, IfOk, OnOk, length, map};
+ghost use Rattle.std.specs.Prelude.{◌≡◌, ◌++◌, IfOk, OnOk, length, map, slice_get};
 ghost use Rattle.std.specs.List.{AllByRecursion, filter_map, flat_map};
 ghost use Rattle.std.specs.List.Sorted.{IsSortedBy, IsStableBy};
-ghost use Rattle.std.specs.Option.{option_map, option_to_list};
+ghost use Rattle.std.specs.Option.{option_copied, option_map, option_to_list};
 ghost use Rattle.up_answers.specs.Watches.{items_under};
 ghost use Rattle.up_list.specs.Entries.{entries_in, entry_at};
 ghost use Rattle.up_list.specs.Founds.{entry_found};
@@ -45,7 +45,7 @@ fn walk<'a, O: Onlooker>(
 {
     let mut found = first(alloc, onlooker.item(alloc, path)?)?;
     for i in 0..usize::MAX {
-        let Some(item) = found.get(i) else {
+        let Some(item) = item_at(&found, i) else {
             return Ok(found);
         };
         let mut inside = onlooker.items_in(alloc, &item.entry().name)?;
@@ -53,6 +53,13 @@ fn walk<'a, O: Onlooker>(
     }
     // No memory holds so many.
     Err(AllocError)
+}
+
+/// The item at a place.
+fn item_at<'a, 'b>(found: &'b [Found<'a>], i: usize) -> Option<&'b Found<'a>>
+    ensures { option_copied result ≡ slice_get found.now i }
+{
+    found.get(i)
 }
 
 /// The list of an item, where there is one.

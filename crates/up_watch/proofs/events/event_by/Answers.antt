@@ -32,16 +32,16 @@ pub returns-then-is_empty-2-clause-event : goal.returns-then-is_empty-2-clause-e
 returns-then-is_empty-2-clause-event c =
     let at : Some (change_of c.in-Some.changed) ≡ change_at c.args.watcher.now.log (c.args.n - 1) =
     sym (ap (option_map change_of) c.in-Some.is) ∙ (c.changed_by.ensures ∙ ap (λ l. change_at l (c.args.n - 1)) c.tree-tree.ensures.log) in
-    told_early c.args.watcher.now c.args.n c.requires.first (change_of c.in-Some.changed) at c.in_ok-held.held c.in_ok-was.was
+    told_early c.args.watcher.now c.args.n c.requires.first (change_of c.in-Some.changed) at c.in_ok-held.held c.in_ok-earlier.earlier
     (some_of _ _ c.is_empty.ensures c.if-is_empty.false) (none_of _ _ c.is_empty-2.ensures c.if-is_empty-2.true) c.in_ok-held.ensures.held
-    (c.in_ok-was.ensures.held ∙ ap (λ (w : Watching). rights (after w c.args.n) c.in-Some.changed.entry.now.name) c.rights_now.ensures.same)
+    (c.in_ok-earlier.ensures.held ∙ ap (λ (w : Watching). rights (after w c.args.n) c.in-Some.changed.entry.now.name) c.rights_now.ensures.same)
 
 -- a right both now and then
 pub returns-clause-event : goal.returns-clause-event
 returns-clause-event c =
     let at : Some (change_of c.in-Some.changed) ≡ change_at c.args.watcher.now.log (c.args.n - 1) =
     sym (ap (option_map change_of) c.in-Some.is) ∙ (c.changed_by.ensures ∙ ap (λ l. change_at l (c.args.n - 1)) c.tree-tree.ensures.log) in
-    told_shown c.args.watcher.now c.args.n c.requires.first (change_of c.in-Some.changed) at c.in_ok-held.held c.in_ok-was.was c.in_ok-shown.field-0
+    told_shown c.args.watcher.now c.args.n c.requires.first (change_of c.in-Some.changed) at c.in_ok-held.held c.in_ok-earlier.earlier c.in_ok-shown.field-0
     (some_of _ _ c.is_empty.ensures c.if-is_empty.false) (some_of _ _ c.is_empty-2.ensures c.if-is_empty-2.false) c.in_ok-held.ensures.held
-    (c.in_ok-was.ensures.held ∙ ap (λ (w : Watching). rights (after w c.args.n) c.in-Some.changed.entry.now.name) c.rights_now.ensures.same)
+    (c.in_ok-earlier.ensures.held ∙ ap (λ (w : Watching). rights (after w c.args.n) c.in-Some.changed.entry.now.name) c.rights_now.ensures.same)
     (c.in_ok-shown.ensures ∙ ap (λ b. shown_as b c.in-Some.changed.entry.now) c.has.ensures)
