@@ -2,7 +2,8 @@ use Rattle.std.proofs.Common.{◌≡◌, Option, sym, ap, subst, ◌∙◌, arit
 use Rattle.std.specs.List.{filter_map}
 use Rattle.std.proofs.lemmas.Option.{slice_get-get_or}
 use Rattle.up_entry.specs.declared.records.Rec.{Rec}
-use Rattle.up_answers.specs.Watches.{batch}
+use Rattle.std.specs.Prelude.{unwrap_or}
+use Rattle.up_answers.specs.Watches.{batch, position_at}
 use Rattle.up_wire.specs.declared.replies.WatchEvent.{WatchEvent}
 use Rattle.up_wire.specs.declared.replies.Done.TheVariants.{Events}
 use Rattle.up_wire.specs.declared.replies.Reply.TheVariants.{Ok}
@@ -19,7 +20,7 @@ returns-then-not-branch c =
     let is : c.in_ok-event.event ≡ told w n = c.in_ok-event.ensures.event ∙ ap (λ (v : Watching). told v n) c.loop-position.invariant.1 in
     let out = left_out c.loop-position.found.items c.take_event.new.found.items c.in_ok-event.event c.in_ok-take_event.field-0 c.if-not-branch.true c.in_ok-take_event.ensures in
     c.full.ensures (length w.log)
-    ∙ (ap (λ es. Ok (Events es _)) out.0
+    ∙ (ap (λ es. Ok (Events es (unwrap_or (position_at es 255) (length w.log)))) out.0
     ∙ gathers_more (told w) c.args.positions.now c.loop-position.position-index c.loop-position.found.items (length w.log) n c.in_ok-event.event at is c.loop-position.invariant.0 out.1 out.2)
 
 -- one position more

@@ -17,6 +17,6 @@ loop-i-preserved g c =
     (slice_get-map entry_found c.loop-i.found.items c.loop-i.i
     ∙ ap (option_map entry_found) (sym (ap (λ l. slice_get l c.loop-i.i) c.deref.ensures.value) ∙ (sym c.item_at.ensures ∙ ap option_copied c.in-Some.is)))
     c.loop-i.invariant
-    (ap (map entry_found) c.append.ensures.items
+    (ap (map entry_found) c.in_ok-append.ensures.items
     ∙ (map-append entry_found c.loop-i.found.items c.in_ok-inside.inside.items
     ∙ ap (λ l. map entry_found c.loop-i.found.items ++ l) (c.in_ok-inside.ensures ∙ ap (λ (e : Entry). entries_in tree e.name) c.entry.ensures)))
