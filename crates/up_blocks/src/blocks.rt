@@ -13,7 +13,7 @@ ghost use Rattle.up_faults.specs.Counts.{HasCause};
 ghost use Rattle.up_journal.specs.Crashes.{IsOpened, LeavesNow};
 ghost use Rattle.up_journal.specs.Journal.{AreLimits};
 ghost use Rattle.up_journal.specs.Opened.{IsRefusedFor};
-ghost use Rattle.up_journal.specs.Logs.{OpensLog, RefusesLog, ResolvesLog, StandsForLog};
+ghost use Rattle.up_journal.specs.Logs.{EachFits, OpensLog, RefusesLog, ResolvesLog, StandsForLog};
 
 use crate::fault::BlockWhy;
 use crate::index::Index;
@@ -94,6 +94,7 @@ impl<D: Disk> Blocks<D> {
     /// The number of records. What it says besides holds of every store at every moment.
     pub fn position(&self) -> u64
         ensures count { result ≡ length self.now.log }
+        ensures fitting { EachFits fits self.now.log }
         ensures limits { AreLimits self.now.limits }
         ensures room { largest_room ≤ self.now.limits.largest }
         ensures told { AllByRecursion (IsTold (is_some (D.content self.now.disk))) self.now.log }

@@ -1,26 +1,16 @@
 //! The files of cases, and the topic of each.
-use crate::crashes::Crashes;
-use crate::ends::Ends;
-use crate::fields::Fields;
-use crate::frames::Streams;
-use crate::lines::{File, run_lines};
-use crate::logs::Logs;
-use crate::moves::Moves;
-use crate::names::Names;
-use crate::patterns::Patterns;
-use crate::peers::PeerLines;
-use crate::records::Records;
-use crate::references::References;
-use crate::rights::Rights;
 use crate::scripts::run_scripts;
-use crate::signing::Signing;
-use crate::tally::Tally;
-use crate::texts::Texts;
-use crate::watches::Watches;
 use std::hash::RandomState;
 use std::random::RandomSource;
 use std::rt::Files;
 use std::{fs, io};
+use up_case_lines::{File, Tally, run_lines};
+use up_case_logs::{Crashes, Fields, Logs, Moves, Records};
+use up_case_texts::{
+    Ends, Messages, Names, Patterns, PeerLines, References, Replies, Requests, Rights, Signing,
+    Streams, Texts,
+};
+use up_case_trees::{Globs, Trees, Watches};
 
 /// Runs each file of a folder, in order of their names.
 pub fn run_all<R: Files + RandomSource + AllocGlobal + Print + Clone + Drop>(
@@ -65,7 +55,11 @@ fn run_file<R: Files + RandomSource + AllocGlobal + Print>(
     match topic_of(name) {
         "names" => run_lines(rt, file, Names, tally),
         "texts" => run_lines(rt, file, Texts, tally),
+        "tree" => run_lines(rt, file, Trees, tally),
         "ends" => run_lines(rt, file, Ends, tally),
+        "messages" => run_lines(rt, file, Messages, tally),
+        "replies" => run_lines(rt, file, Replies, tally),
+        "requests" => run_lines(rt, file, Requests, tally),
         "logs" => run_lines(rt, file, Logs::new(), tally),
         "moves" => run_lines(rt, file, Moves, tally),
         "fields" => run_lines(rt, file, Fields, tally),
@@ -77,6 +71,7 @@ fn run_file<R: Files + RandomSource + AllocGlobal + Print>(
         "crashes" => run_lines(rt, file, Crashes, tally),
         "records" => run_lines(rt, file, Records::new(), tally),
         "scripts" => run_scripts(rt, file, RandomState::new(rt)?, tally),
+        "globs" => run_lines(rt, file, Globs::new(RandomState::new(rt)?), tally),
         "rights" => run_lines(rt, file, Rights::new(RandomState::new(rt)?), tally),
         "watches" => run_lines(rt, file, Watches::new(RandomState::new(rt)?), tally),
         _ => {

@@ -258,6 +258,7 @@ impl<D: Disk> Journal<D> {
         ensures log { OnErr result (self.new.log ≡ self.old.log) }
         ensures further { OnErr result ((self.new.further ≡ None)
             ⊎ ((self.new.further ≡ self.old.further) ⊎ (self.new.further ≡ Some payload.now))) }
+        ensures told { is_some (D.content self.new.disk) ≡ is_some (D.content self.old.disk) }
         ensures counts { HasCause (D.faults self.old.disk) (D.faults self.new.disk) (IsErrOf result AppendWhy.Fault) }
 
         // What a crash leaves now, and what it might have left since the call began.
@@ -292,6 +293,7 @@ impl<D: Disk> Journal<D> {
         ensures sizes { self.new.sizes ≡ self.old.sizes }
         ensures head { self.new.head ≡ self.old.head }
         ensures limits { self.new.limits ≡ self.old.limits }
+        ensures told { is_some (D.content self.new.disk) ≡ is_some (D.content self.old.disk) }
         ensures counts { HasCause (D.faults self.old.disk) (D.faults self.new.disk) (IsErr result) }
         ensures crash { Leaves D.Disk self.old.disk self.new.disk
             (StandsFor self.new.limits.largest self.new.log self.new.further)

@@ -2,7 +2,7 @@
 ghost use Rattle.std.specs.Prelude.{◌≡◌, ◌<◌, ◌++◌, ◌∷◌, [], ℕ, List, Ok, Some, None, true, false, length, IfErr, IfOk, IfSome, IsErrOf, OnOk, vec_capacity, vec_len};
 ghost use Rattle.std.specs.FinMap.Entries.{put};
 ghost use Rattle.up_faults.specs.Counts.{HasCause};
-ghost use Rattle.up_journal.specs.Logs.{log_step};
+ghost use Rattle.up_journal.specs.Logs.{EachFits, log_step};
 ghost use Rattle.up_journal.specs.Opened.{IsDamageOf};
 ghost use Rattle.up_journal.specs.Records.{OnlyPayloads, replay};
 ghost use Rattle.up_keys.specs.Keys.{AreLast, sizes_of};
@@ -95,6 +95,7 @@ pub fn replay<D: Disk>(alloc: Global, journal: &mut Journal<D>) -> Result<Known,
     ensures last { IfOk result (λ known. AreLast known.records.items known.last.entries) }
     ensures log { IfOk result (λ known. (log : List (List ℕ)) → journal.old.log ≡ Some log
         → replay (log_step decoded fits) [] log ≡ Ok known.records.items) }
+    ensures fitting { IfOk result (λ known. EachFits fits known.records.items) }
     ensures sizes { IfOk result (λ known. journal.old.sizes ≡ sizes_of known.records.items) }
     ensures damaged { IfErr result (IsDamageOf (replay (log_step decoded fits) []) journal.old.log) }
     ensures read { OnlyPayloads D.Disk journal.old journal.new }

@@ -67,7 +67,7 @@ link_of_directory tree path dir =
 
 module _ (owner : List ℕ) (tree : Tree) (rooted : IsRooted owner tree) (path : PathName) where
   -- above an item stands a directory
-  above : (n : ℕ) (node : Node) → suc n ≤ length path.elements → node_at tree (cut (suc n) path) ≡ Some node → HasDirectory tree (cut n path)
+  pub above : (n : ℕ) (node : Node) → suc n ≤ length path.elements → node_at tree (cut (suc n) path) ≡ Some node → HasDirectory tree (cut n path)
   above n node h there =
       let place : HasPlace owner tree (cut (suc n) path) = rooted.placed (cut (suc n) path) node there in
       go (parent_of (cut (suc n) path)) (parent_of_cut n path h) place

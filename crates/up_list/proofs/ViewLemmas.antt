@@ -1,7 +1,8 @@
 -- The tree of a log, as it is seen through what is kept in memory.
 use Rattle.std.proofs.Common.{◌≡◌, ℕ, zero, suc, ◌+◌, ◌-◌, ◌<◌, ◌≤◌, Bool, true, false, cond, List, [], ◌∷◌, ◌++◌, length, map, take, refl, sym, ap, subst, ◌∙◌, arith, Option, Some, None, is_some, bytes_eq}
-use Rattle.std.specs.Prelude.{IfOk, Result, filter, find, if◌then◌else◌, slice_get, slice_index_or}
+use Rattle.std.specs.Prelude.{IfOk, Result, filter, find, nat_lt, if◌then◌else◌, slice_get, slice_index_or}
 use Rattle.std.proofs.lemmas.List.{take_all}
+use Rattle.std.proofs.lemmas.Bool.{lt-ltb}
 use Rattle.std.specs.FinMap.Entries as entries
 use Rattle.std.specs.List.{AllByRecursion, cons_option}
 use Rattle.std.specs.Map.{keys_of, values_of}
@@ -28,6 +29,7 @@ use Rattle.up_list.specs.Governing.{governing_file}
 use Rattle.up_list.specs.Looks.{Look}
 use Rattle.up_list.specs.Rooted.{IsRooted}
 use Rattle.up_list.specs.Seen.{Seen, has_name, look_of, standing_node}
+use Rattle.up_list.proofs.LinkLemmas.{above as has_above}
 use Rattle.up_list.proofs.ChildLemmas.{all_in, all_weaker, one_entry}
 use Rattle.up_list.proofs.LiteralLemmas.{in_extended, same_end}
 use Rattle.up_list.proofs.MeetLemmas.{size_in}
@@ -49,64 +51,120 @@ on_way tree path = go (standing_prefix tree path)
     go None = refl
     go (Some p) = refl
 
--- a way up: nothing stands at the longer prefixes
-pub record Climbs (tree : Tree) (path way : PathName) (up : ℕ) : Type 0 where
-  pub at : way ≡ cut (length path.elements - up) path
-  pub left : standing_prefix tree path ≡ find (λ prefix. is_some (node_at tree prefix)) (prefixes_to (length path.elements - up) path)
+-- what stands at the prefix with one element less; nothing where there is none
+abbrev pub before_front : Tree → PathName → ℕ → Option Node
+before_front tree path zero = None
+before_front tree path (suc n) = node_at tree (cut n path)
 
-climbs : (tree : Tree) (path : PathName) → Climbs tree path path 0
+-- Where the longest prefix that stands is looked for: nothing stands at the prefix `top` and at longer ones; something stands at
+-- that with `low` elements less one, where there is one, and it was found.
+pub record Halves (tree : Tree) (path top : PathName) (low : ℕ) (found : Option Node) : Type 0 where
+  pub at : top ≡ cut (length top.elements) path
+  pub within : length top.elements ≤ length path.elements
+  pub order : low ≤ length top.elements
+  pub none : (k : ℕ) → length top.elements ≤ k → k ≤ length path.elements → node_at tree (cut k path) ≡ None
+  pub was : found ≡ before_front tree path low
+  pub some : nat_lt 0 low ≡ is_some found
+
+-- the longest of some prefixes at which something stands is the first of them, where something stands there
+first_stands : (tree : Tree) (path : PathName) (n : ℕ) → is_some (node_at tree (cut n path)) ≡ true → find (λ prefix. is_some (node_at tree prefix)) (prefixes_to n path) ≡ Some (cut n path)
+first_stands tree path zero s = ap (λ b. if b then Some (cut 0 path) else None) s
+first_stands tree path (suc n) s = ap (λ b. if b then Some (cut (suc n) path) else find (λ prefix. is_some (node_at tree prefix)) (prefixes_to n path)) s
+
+module _ (owner : List ℕ) (tree : Tree) (rooted : IsRooted owner tree) (path : PathName) where
+  -- nothing stands at a longer prefix than at one at which nothing stands
+  none_longer : (n k : ℕ) → node_at tree (cut n path) ≡ None → n + k ≤ length path.elements → node_at tree (cut (n + k) path) ≡ None
+  none_longer n zero none h = ap (λ m. node_at tree (cut m path)) (let e : n + 0 ≡ n = omega arith in e) ∙ none
+  none_longer n (suc k) none h = ap (λ m. node_at tree (cut m path)) (let e : n + suc k ≡ suc (n + k) = omega arith in e) ∙ go (node_at tree (cut (suc (n + k)) path)) refl (none_longer n k none (omega (arith, h)))
+    where
+      go : (o : Option Node) → node_at tree (cut (suc (n + k)) path) ≡ o → node_at tree (cut (n + k) path) ≡ None → o ≡ None
+      go None e above = refl
+      go (Some node) e above = let dir = has_above owner tree rooted path (n + k) node (omega (arith, h)) e in absurd (some_none dir.0 (sym dir.1 ∙ above))
+
+  pub none_from : (n k : ℕ) → node_at tree (cut n path) ≡ None → n ≤ k → k ≤ length path.elements → node_at tree (cut k path) ≡ None
+  none_from n k none low high =
+      let same : n + (k - n) ≡ k = omega (arith, low) in
+      subst (λ m. node_at tree (cut m path) ≡ None) same (none_longer n (k - n) none (subst (λ m. m ≤ length path.elements) (sym same) high))
+
+  -- at the start the path itself is the top
+  pub halves_from : (top : PathName) → top ≡ path → node_at tree path ≡ None → Halves tree path top 0 None
+  halves_from top is none =
+      let size : length top.elements ≡ length path.elements = ap (λ (p : PathName). length p.elements) is in
+      record {
+        at = is ∙ (sym (cut_whole path) ∙ ap (λ n. cut n path) (sym size));
+        within = omega (arith, size);
+        order = omega arith;
+        none = λ k low high. ap (λ n. node_at tree (cut n path)) (let e : k ≡ length path.elements = omega (arith, low, high, size) in e) ∙ (ap (node_at tree) (cut_whole path) ∙ none);
+        was = refl;
+        some = refl;
+      }
+
+  -- nothing stands at the prefix in the middle
+  pub halves_down : (top way : PathName) (low middle : ℕ) (found : Option Node) → Halves tree path top low found → low ≤ middle → middle ≤ length top.elements →
+      way ≡ cut middle top → node_at tree way ≡ None → Halves tree path way low found
+  halves_down top way low middle found h le lt is none =
+      let at : way ≡ cut middle path = is ∙ (ap (cut middle) h.at ∙ cut_cut middle (length top.elements) path lt) in
+      let size : length way.elements ≡ middle = ap (λ (p : PathName). length p.elements) at ∙ length_cut middle path (omega (arith, lt, h.within)) in
+      record {
+        at = at ∙ ap (λ n. cut n path) (sym size);
+        within = omega (arith, size, lt, h.within);
+        order = omega (arith, size, le);
+        none = λ k from to. none_from middle k (ap (node_at tree) (sym at) ∙ none) (omega (arith, size, from)) to;
+        was = h.was;
+        some = h.some;
+      }
+
+  -- something does
+  pub halves_up : (top way : PathName) (low middle : ℕ) (found : Option Node) (node : Node) → Halves tree path top low found → middle < length top.elements →
+      way ≡ cut middle top → node_at tree way ≡ Some node → Halves tree path top (middle + 1) (Some node)
+  halves_up top way low middle found node h lt is there =
+      let at : way ≡ cut middle path = is ∙ (ap (cut middle) h.at ∙ cut_cut middle (length top.elements) path (omega (arith, lt))) in
+      let next : middle + 1 ≡ suc middle = omega arith in
+      record {
+        at = h.at;
+        within = h.within;
+        order = omega (arith, lt);
+        none = h.none;
+        was = sym there ∙ (ap (node_at tree) at ∙ ap (before_front tree path) (sym next));
+        some = lt-ltb 0 (middle + 1) (omega arith);
+      }
+
+  abbrev stands : PathName → Bool
+  stands prefix = is_some (node_at tree prefix)
+
+  skipped : (n m : ℕ) → m ≤ n → ((k : ℕ) → m < k → k ≤ n → node_at tree (cut k path) ≡ None) → find stands (prefixes_to n path) ≡ find stands (prefixes_to m path)
+  skipped n m h none = by (n - m) n (omega (arith, h)) none
+    where
+      by : (d n : ℕ) → n ≡ m + d → ((k : ℕ) → m < k → k ≤ n → node_at tree (cut k path) ≡ None) → find stands (prefixes_to n path) ≡ find stands (prefixes_to m path)
+      by zero n e none = ap (λ k. find stands (prefixes_to k path)) (let same : n ≡ m = omega (arith, e) in same)
+      by (suc d) n e none =
+          let more : n ≡ suc (m + d) = omega (arith, e) in
+          ap (λ k. find stands (prefixes_to k path)) more
+          ∙ (ap (λ o. if is_some o then Some (cut (suc (m + d)) path) else find stands (prefixes_to (m + d) path)) (none (suc (m + d)) (omega arith) (omega (arith, more)))
+          ∙ by d (m + d) refl (λ k low high. none k low (omega (arith, high, more))))
+
+  -- at the end what was found is what stands at the longest prefix that stands
+  pub halves_end : (top : PathName) (low : ℕ) (found : Option Node) → Halves tree path top low found → length top.elements ≤ low → standing_node tree path ≡ found
+  unfolding standing_prefix
+  halves_end top low found h end = go low (let e : low ≡ length top.elements = omega (arith, end, h.order) in e) h.was h.some
+    where
+      go : (n : ℕ) → n ≡ length top.elements → found ≡ before_front tree path n → nat_lt 0 n ≡ is_some found → option_and_then (node_at tree) (find stands (prefixes_to (length path.elements) path)) ≡ found
+      go zero e is some =
+          ap (option_and_then (node_at tree)) (skipped (length path.elements) 0 (omega arith) (λ k from to. h.none k (omega (arith, e, from)) to)
+          ∙ ap (λ o. if is_some o then Some (cut 0 path) else None) (h.none 0 (omega (arith, e)) (omega arith)))
+          ∙ sym is
+      go (suc n) e is some =
+          ap (option_and_then (node_at tree)) (skipped (length path.elements) n (omega (arith, e, h.within)) (λ k from to. h.none k (omega (arith, e, from)) to)
+          ∙ first_stands tree path n (ap is_some (sym is) ∙ (sym some ∙ lt-ltb 0 (suc n) (omega arith))))
+          ∙ sym is
+
+-- what stands at the path itself stands on the way
+pub stands_itself : (tree : Tree) (path : PathName) (node : Node) → node_at tree path ≡ Some node → Some (entry_of node) ≡ entry_on_way tree path
 unfolding standing_prefix
-climbs tree path =
-    let all : length path.elements - 0 ≡ length path.elements = omega arith in
-    record { at = sym (ap (λ n. cut n path) all ∙ cut_whole path); left = ap (λ n. find (λ prefix. is_some (node_at tree prefix)) (prefixes_to n path)) (sym all) }
-
--- the whole path is the first way
-pub climbs_from : (tree : Tree) (path way : PathName) → way ≡ path → Climbs tree path way 0
-climbs_from tree path way h = subst (λ w. Climbs tree path w 0) (sym h) (climbs tree path)
-
-found_here : (tree : Tree) (path : PathName) (k : ℕ) (node : Node) → node_at tree (cut (suc k) path) ≡ Some node →
-    find (λ prefix. is_some (node_at tree prefix)) (prefixes_to (suc k) path) ≡ Some (cut (suc k) path)
-found_here tree path k node there = ap (λ o. if is_some o then Some (cut (suc k) path) else find (λ prefix. is_some (node_at tree prefix)) (prefixes_to k path)) there
-
-not_here : (tree : Tree) (path : PathName) (k : ℕ) → node_at tree (cut (suc k) path) ≡ None →
-    find (λ prefix. is_some (node_at tree prefix)) (prefixes_to (suc k) path) ≡ find (λ prefix. is_some (node_at tree prefix)) (prefixes_to k path)
-not_here tree path k none = ap (λ o. if is_some o then Some (cut (suc k) path) else find (λ prefix. is_some (node_at tree prefix)) (prefixes_to k path)) none
-
-pub climbs_found : (tree : Tree) (path way : PathName) (up : ℕ) (node : Node) → up < length path.elements → Climbs tree path way up → node_at tree way ≡ Some node → standing_node tree path ≡ Some node
-climbs_found tree path way up node low so_far there =
-    let k : ℕ = length path.elements - suc up in
-    let more : length path.elements - up ≡ suc k = omega (arith, low) in
-    let here : node_at tree (cut (suc k) path) ≡ Some node = ap (λ n. node_at tree (cut n path)) (sym more) ∙ (ap (node_at tree) (sym so_far.at) ∙ there) in
-    ap (option_and_then (node_at tree)) (so_far.left ∙ (ap (λ n. find (λ prefix. is_some (node_at tree prefix)) (prefixes_to n path)) more ∙ found_here tree path k node here)) ∙ here
-
-pub climbs_on : (tree : Tree) (path way : PathName) (up : ℕ) → up < length path.elements → Climbs tree path way up → node_at tree way ≡ None → Climbs tree path (cut (length way.elements - 1) way) (up + 1)
-climbs_on tree path way up low so_far none =
-    let k : ℕ = length path.elements - suc up in
-    let more : length path.elements - up ≡ suc k = omega (arith, low) in
-    let next : length path.elements - (up + 1) ≡ k = omega arith in
-    let is : way ≡ cut (suc k) path = so_far.at ∙ ap (λ n. cut n path) more in
-    let here : node_at tree (cut (suc k) path) ≡ None = ap (node_at tree) (sym is) ∙ none in
-    let size : length way.elements ≡ suc k = ap (λ (p : PathName). length p.elements) is ∙ length_cut (suc k) path (omega (arith, low)) in
-    record {
-      at =
-          ap (λ n. cut n way) (let e : length way.elements - 1 ≡ k = omega (arith, size) in e)
-          ∙ (ap (cut k) is ∙ (cut_cut k (suc k) path (omega arith) ∙ ap (λ n. cut n path) (sym next)));
-      left =
-          so_far.left ∙ (ap (λ n. find (λ prefix. is_some (node_at tree prefix)) (prefixes_to n path)) more
-          ∙ (not_here tree path k here ∙ ap (λ n. find (λ prefix. is_some (node_at tree prefix)) (prefixes_to n path)) (sym next)));
-    }
-
-pub climbs_end : (tree : Tree) (path way : PathName) (up : ℕ) → length path.elements ≤ up → Climbs tree path way up → node_at tree way ≡ standing_node tree path
-climbs_end tree path way up high so_far =
-    let none : length path.elements - up ≡ 0 = omega (arith, high) in
-    let is : way ≡ cut 0 path = so_far.at ∙ ap (λ n. cut n path) none in
-    ap (node_at tree) is
-    ∙ (go (node_at tree (cut 0 path)) refl
-    ∙ sym (ap (option_and_then (node_at tree)) (so_far.left ∙ ap (λ n. find (λ prefix. is_some (node_at tree prefix)) (prefixes_to n path)) none)))
-  where
-    go : (o : Option Node) → node_at tree (cut 0 path) ≡ o → node_at tree (cut 0 path) ≡ option_and_then (node_at tree) (if is_some (node_at tree (cut 0 path)) then Some (cut 0 path) else None)
-    go None e = e ∙ sym (ap (λ x. option_and_then (node_at tree) (if is_some x then Some (cut 0 path) else None)) e)
-    go (Some node) e = sym (ap (λ x. option_and_then (node_at tree) (if is_some x then Some (cut 0 path) else None)) e)
+stands_itself tree path node there =
+    let here : node_at tree (cut (length path.elements) path) ≡ Some node = ap (node_at tree) (cut_whole path) ∙ there in
+    ap (option_map entry_of) (sym (ap (option_and_then (node_at tree)) (first_stands tree path (length path.elements) (ap is_some here)) ∙ here))
+    ∙ on_way tree path
 
 -- ---- the items of a directory
 

@@ -12,3 +12,4 @@ pub mod Deciding
 pub mod Walking
 pub mod Places
 pub mod Seen
+pub mod States

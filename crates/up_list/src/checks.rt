@@ -70,7 +70,7 @@ fn link_on_way<'a, O: Onlooker>(
 }
 
 /// The item, where it is a link.
-fn if_link(found: Option<Found>) -> Option<Found>
+pub(crate) fn if_link(found: Option<Found>) -> Option<Found>
     ensures { option_map entry_found result
         ≡ option_and_then if_link (option_map entry_found found.entry) }
 {

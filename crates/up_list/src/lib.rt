@@ -12,6 +12,8 @@
 //! rows of the items that match, in order of paths, each entry as the user is shown it. It looks into those directories alone
 //! whose names match on the way; what it finds there, level by level, are the rows (`rows_sorted` of `proofs/SortLemmas.antt`).
 //!
+//! [`first_link`] and [`glob`] are asked of a tree over its log, by the same definitions.
+//!
 //! A [`TreeView`] is the tree of a log as it is or as it was after its first records: what rights are read by (`up_policy`'s
 //! `Facts`). A [`TreeLook`] is an onlooker of the tree as it is, kept in memory.
 #![tactic(auto)]
@@ -20,16 +22,18 @@ mod asking;
 mod checks;
 mod decided;
 mod found;
-mod glob;
+mod globs;
 mod onlooker;
 mod reads;
+mod state;
 mod view;
 mod walk;
 
 pub use asking::{Asked, asked_of};
 pub use checks::check;
 pub use found::Found;
-pub use glob::glob_for;
+pub use globs::glob_for;
 pub use onlooker::Onlooker;
 pub use reads::{group_text, lookup, which_access};
+pub use state::{first_link, glob};
 pub use view::{TreeLook, TreeView};

@@ -1,16 +1,17 @@
 //! The tree of a log, as it is or as it was, and a user before it.
-ghost use Rattle.std.specs.Prelude.{◌≡◌, ◌≤◌, ◌<◌, IfOk, find, length, map, take};
+ghost use Rattle.std.specs.Prelude.{◌≡◌, ◌≤◌, ◌<◌, None, IfOk, find, length, map, take};
 ghost use Rattle.std.specs.Option.{option_and_then, option_copied, option_map};
 ghost use Rattle.up_names.specs.PathNames.{cut, extended};
 ghost use Rattle.up_list.specs.Entries.{entries_in, entry_at, entry_of, entry_on_way};
 ghost use Rattle.up_list.specs.Founds.{entry_found};
 ghost use Rattle.up_list.specs.Reads.{file_text};
+ghost use Rattle.up_list.specs.Rooted.{IsRooted};
 ghost use Rattle.up_list.specs.Seen.{group_listed, has_name, look_of};
 ghost use Rattle.up_replay.specs.Rights.{access_path, facts_of, governing_prefix, group_paths};
-ghost use Rattle.up_replay.specs.Trees.{tree_of};
+ghost use Rattle.up_replay.specs.Trees.{node_at, tree_of};
 
 use crate::found::Found;
-use crate::glob::within;
+use crate::globs::within;
 use crate::onlooker::Onlooker;
 use std::alloc::{AllocError, Global};
 use std::marker::Model;
@@ -190,26 +191,60 @@ impl Onlooker for TreeLook<'_> {
 }
 
 /// The entry of a node that a tree keeps.
-fn kept<'a>(node: Option<&'a Node>) -> Option<Found<'a>>
+pub(crate) fn kept<'a>(node: Option<&'a Node>) -> Option<Found<'a>>
     ensures { option_map entry_found result ≡ option_map entry_of (option_copied node.entry) }
 {
     let node = node?;
     Some(Found::Kept(&node.entry))
 }
 
-/// What stands at the longest prefix of a path at which something stands.
-fn standing<'a>(tree: &'a MemTree, path: &Path) -> Result<Option<&'a Node>, AllocError>
+/// What stands at the longest prefix of a path at which something stands, the path itself included.
+pub(crate) fn standing<'a>(tree: &'a MemTree, path: &Path) -> Result<Option<&'a Node>, AllocError>
     ensures { IfOk result (λ found. option_map entry_of (option_copied found)
         ≡ entry_on_way (tree_of tree.now.log) path.now) }
 {
-    let mut way = path.clone()?;
-    for up in 0..path.len() {
-        if let Some(node) = tree.node(&way) {
-            return Ok(Some(node));
-        }
-        way.drop_last();
+    let _records = tree.position();
+    match tree.node(path) {
+        Some(node) => Ok(Some(node)),
+        None => standing_above(tree, path),
     }
-    Ok(tree.node(&way))
+}
+
+/// The same where nothing stands at the path itself. Items stand at the shorter ones of the prefixes alone, so that the last of
+/// them is found by halving.
+fn standing_above<'a>(tree: &'a MemTree, path: &Path) -> Result<Option<&'a Node>, AllocError>
+    requires rooted { IsRooted tree.now.owner (tree_of tree.now.log) }
+    requires none { node_at (tree_of tree.now.log) path.now ≡ None }
+    ensures { IfOk result (λ found. option_map entry_of (option_copied found)
+        ≡ entry_on_way (tree_of tree.now.log) path.now) }
+{
+    let mut top = path.clone()?;
+    let mut low = 0;
+    let mut found = None;
+    while low < top.len() {
+        let middle = low + (top.len() - low) / 2;
+        let way = shortened(&top, middle)?;
+        match tree.node(&way) {
+            Some(node) => {
+                found = Some(node);
+                low = middle + 1;
+            }
+            None => top = way,
+        }
+    }
+    Ok(found)
+}
+
+/// The path of the first `n` elements.
+fn shortened(path: &Path, n: u64) -> Result<Path, AllocError>
+    requires { n ≤ length path.now.elements }
+    ensures { IfOk result (λ front. front ≡ cut n path.now) }
+{
+    let mut front = path.clone()?;
+    for up in n..path.len() {
+        front.drop_last();
+    }
+    Ok(front)
 }
 
 /// The items in a directory, in order of paths.

@@ -61,7 +61,7 @@ int-none : (word : List ℕ) → ((z : ℤ) → fits_i64 z ≡ true → word ≡
 int-none word never = sym (none-from word never (int_of word) refl)
 
 -- the test of the range
-fits-from : (z : ℤ) → FitsSigned w64 z → fits_i64 z ≡ true
+pub fits-from : (z : ℤ) → FitsSigned w64 z → fits_i64 z ≡ true
 fits-from (pos n) fits = lt-ltb n (2 ^ 63) (omega (arith, ints, fits))
 fits-from (negsuc n) fits = lt-ltb n (2 ^ 63) (omega (arith, ints, fits))
 

@@ -6,12 +6,14 @@
 //!
 //! [`read_request`] gives exactly what the words of a line ask, and [`read_client_line`] what they have the client do;
 //! [`is_request`] says whether they are such a line at all, which does not depend on who asks.
-//! [`reply_lines`] gives exactly the lines that tell a reply.
+//! [`reply_lines`] gives exactly the lines that tell a reply: words parted by single spaces ([`lines_are_words`]), and different
+//! ones for different replies ([`lines_tell_replies`]).
 #![tactic(auto)]
 
 mod entries;
 mod fault;
 mod fitting;
+mod laws;
 mod lines;
 mod lists;
 mod numbers;
@@ -20,6 +22,7 @@ mod requests;
 mod words;
 
 pub use fitting::is_request;
+pub use laws::{lines_are_words, lines_tell_replies};
 pub use lines::{cut_word, is_silent, next_line, one_word, three_words, two_words};
 pub use numbers::{read_int, read_num};
 pub use replies::reply_lines;

@@ -1,6 +1,6 @@
 //! Watch: what happened under a path of a tree, or what there is.
 //!
-//! [`watch_in`] replies exactly as `watch_reply` of `up_answers` says (`specs/Watches.antt` there), and TooLarge in place of a reply
+//! [`watch`] of a tree over its log, and [`watch_in`] of a tree in memory, reply exactly as `watch_reply` of `up_answers` says (`specs/Watches.antt` there), and TooLarge in place of a reply
 //! that is too long; want of memory alone is free. From 0 on a sequence asks for the changes of items on which the user has any
 //! right now and had any directly after the record (`specs/Events.antt` there), the first 256 of them; at -1 for the items as
 //! they are now; at -2 for the length of the log.
@@ -18,4 +18,4 @@ mod items;
 mod watch;
 mod watcher;
 
-pub use watch::watch_in;
+pub use watch::{watch, watch_in};

@@ -1,21 +1,45 @@
 //! The reply to Watch.
-ghost use Rattle.std.specs.Prelude.{◌≡◌, IfOk, pos};
+ghost use Rattle.std.specs.Prelude.{◌≡◌, ◌≢◌, IfOk, pos};
 ghost use Rattle.up_answers.specs.Watches.{watch_reply, watched};
 ghost use Rattle.up_replay.specs.Logs.{Limits as Bounds};
+ghost use Rattle.up_tree.specs.States.{log_of};
 ghost use Rattle.up_wire.specs.Bounds.{bounded};
+ghost use Rattle.up_wire.specs.declared.replies.Reply.TheVariants.{OutOfMemory};
 ghost use Rattle.up_watch.specs.Watching.{log_in};
 
 use crate::batch::batch;
 use crate::items::items_under;
 use crate::watcher::Watcher;
 use std::alloc::{AllocError, Global};
+use up_disk::Disk;
 use up_entry::What;
 use up_list::{TreeLook, check};
 use up_lists::Items;
 use up_names::{Path, User};
 use up_nodes::MemTree;
 use up_policy::Loaded;
+use up_tree::TreeState;
 use up_wire::{Done, Reply, bounded};
+
+/// The reply to Watch of a path of the tree's owner: what happened under it above a sequence, or what there is. Want of memory is
+/// a reply too.
+pub fn watch<D: Disk>(
+    alloc: Global,
+    state: &TreeState<D>,
+    loaded: &Loaded,
+    user: &User,
+    path: &Path,
+    sequence: i64,
+) -> Reply
+    requires { path.now.owner ≡ state.now.owner }
+    ensures { result ≢ OutOfMemory → result
+        ≡ bounded (watch_reply (log_of state.now) loaded.now user.now path.now sequence) }
+{
+    match watch_in(alloc, state.memory(), loaded, user, path, sequence) {
+        Ok(reply) => reply,
+        Err(AllocError) => Reply::OutOfMemory,
+    }
+}
 
 /// The reply to Watch of a path of a tree in memory: what happened under it above a sequence, or what there is. It looks at no
 /// limit of the log.
