@@ -123,7 +123,8 @@ impl<D: Disk> Blocks<D> {
     /// and for want of memory, no call of the disk is made.
     pub fn get(&mut self, reference: &Reference) -> Result<Bytes, BlockWhy>
         ensures gives { GivesBlock D.Disk reference.now self.old self.new result }
-        ensures grows { OnlyGrows log_of (λ blocks. D.faults blocks.disk) limits_of self.old self.new }
+        ensures grows { OnlyGrows log_of
+            (λ blocks. D.faults blocks.disk) limits_of self.old self.new }
     {
         let _position = self.journal.len();
         let Some(number) = self.index.numbers.get(reference) else {
@@ -140,7 +141,8 @@ impl<D: Disk> Blocks<D> {
     pub fn put(&mut self, bytes: &[u8]) -> Result<Reference, BlockWhy>
         requires { length bytes.now ≤ largest_block }
         ensures puts { PutsBlock D.Disk bytes.now self.old self.new result }
-        ensures grows { OnlyGrows log_of (λ blocks. D.faults blocks.disk) limits_of self.old self.new }
+        ensures grows { OnlyGrows log_of
+            (λ blocks. D.faults blocks.disk) limits_of self.old self.new }
     {
         let reference = Reference::of(bytes);
         if self.index.holds(&reference) {
@@ -170,7 +172,8 @@ impl<D: Disk> Blocks<D> {
     /// held.
     pub fn delete(&mut self, reference: &Reference) -> Result<u64, BlockWhy>
         ensures deletes { DeletesBlock D.Disk reference.now self.old self.new result }
-        ensures grows { OnlyGrows log_of (λ blocks. D.faults blocks.disk) limits_of self.old self.new }
+        ensures grows { OnlyGrows log_of
+            (λ blocks. D.faults blocks.disk) limits_of self.old self.new }
     {
         if !self.index.holds(reference) {
             return Err(BlockWhy::NotExist);
@@ -207,7 +210,8 @@ impl<D: Disk> Blocks<D> {
         ensures resolves { ResolvesLog D.Disk blocks_in self.old self.new result }
         ensures untouched { self.old.doubtful ≡ false → IsOk result × (self.new ≡ self.old) }
         ensures cause { HasCause (D.faults self.old.disk) (D.faults self.new.disk) (IsErr result) }
-        ensures grows { OnlyGrows log_of (λ blocks. D.faults blocks.disk) limits_of self.old self.new }
+        ensures grows { OnlyGrows log_of
+            (λ blocks. D.faults blocks.disk) limits_of self.old self.new }
     {
         self.journal.resolve()
     }

@@ -23,7 +23,8 @@ fn take(index: &mut Index, payload: &[u8]) -> Result<bool, AllocError>
         → IsIndex log index.old.records.items index.old.numbers.entries
         → log_step decoded fits log payload.now ≡ None }
     ensures sizes { result ≡ Ok true
-        → map size_kept index.new.records.items ≡ map size_kept index.old.records.items ++ length payload.now ∷ [] }
+        → map size_kept index.new.records.items ≡ map size_kept index.old.records.items
+        ++ length payload.now ∷ [] }
 {
     let Some(change) = read_payload(payload) else {
         return Ok(false);
@@ -45,7 +46,8 @@ pub fn replay<D: Disk>(alloc: Global, journal: &mut Journal<D>) -> Result<Index,
     ensures log { IfOk result (λ index. (payloads : List (List ℕ)) → journal.old.log ≡ Some payloads
         → replay (log_step decoded fits) [] payloads ≡ Ok (map record_of payloads)) }
     ensures sizes { IfOk result (λ index. journal.old.sizes ≡ map size_kept index.records.items) }
-    ensures damaged { IfErr result (IsDamageOf (replay (log_step decoded fits) []) journal.old.log) }
+    ensures damaged { IfErr result
+        (IsDamageOf (replay (log_step decoded fits) []) journal.old.log) }
     ensures read { OnlyPayloads D.Disk journal.old journal.new }
     ensures counts { HasCause (D.faults journal.old.disk) (D.faults journal.new.disk)
         (IsErrOf result OpenWhy.Fault) }

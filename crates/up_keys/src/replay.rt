@@ -35,7 +35,8 @@ pub fn enter(
     requires room { vec_len records.old < vec_capacity records.old }
     requires ready { last.old.ready ≡ true }
     ensures records { records.new.items ≡ records.old.items ++ card ∷ [] }
-    ensures entries { last.new.entries ≡ put user_cmp user (length records.old.items) last.old.entries }
+    ensures entries { last.new.entries
+        ≡ put user_cmp user (length records.old.items) last.old.entries }
 {
     last.put_reserved(user, records.len() as u64);
     records.push_reserved(card);
@@ -72,9 +73,11 @@ fn take(alloc: Global, known: &mut Known, payload: &[u8]) -> Result<bool, AllocE
     ensures last { OnOk result (AreLast known.new.records.items known.new.last.entries) }
     ensures taken { result ≡ Ok true
         → log_step decoded fits known.old.records.items payload.now ≡ Some known.new.records.items }
-    ensures not_taken { result ≡ Ok false → log_step decoded fits known.old.records.items payload.now ≡ None }
+    ensures not_taken { result ≡ Ok false
+        → log_step decoded fits known.old.records.items payload.now ≡ None }
     ensures sizes { result ≡ Ok true
-        → sizes_of known.new.records.items ≡ sizes_of known.old.records.items ++ length payload.now ∷ [] }
+        → sizes_of known.new.records.items ≡ sizes_of known.old.records.items
+        ++ length payload.now ∷ [] }
 {
     let Some(card) = decoded(alloc, payload)? else {
         return Ok(false);
@@ -97,7 +100,8 @@ pub fn replay<D: Disk>(alloc: Global, journal: &mut Journal<D>) -> Result<Known,
         → replay (log_step decoded fits) [] log ≡ Ok known.records.items) }
     ensures fitting { IfOk result (λ known. EachFits fits known.records.items) }
     ensures sizes { IfOk result (λ known. journal.old.sizes ≡ sizes_of known.records.items) }
-    ensures damaged { IfErr result (IsDamageOf (replay (log_step decoded fits) []) journal.old.log) }
+    ensures damaged { IfErr result
+        (IsDamageOf (replay (log_step decoded fits) []) journal.old.log) }
     ensures read { OnlyPayloads D.Disk journal.old journal.new }
     ensures counts { HasCause (D.faults journal.old.disk) (D.faults journal.new.disk)
         (IsErrOf result OpenWhy.Fault) }

@@ -56,6 +56,6 @@ abbrev pub is_cut_short : ℕ → Bool
 is_cut_short status = list_any (λ s. s == status) (2 ∷ 3 ∷ 4 ∷ [])
 
 -- what a call answered and wrote, for what it should: all of it, and after a fault or want of memory a front of it
-pub record Answers (old new : Option Text) (answer : Answer) (status : ℕ) : Type 0 where
+pub record AnswersWith (old new : Option Text) (answer : Answer) (status : ℕ) : Type 0 where
   pub whole : is_cut_short status ≡ false → Appends old new answer.text × (status ≡ answer.status)
   pub part : WritesPart old new answer.text
