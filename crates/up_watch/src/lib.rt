@@ -15,7 +15,7 @@ mod batch;
 mod changed;
 mod events;
 mod items;
-mod watch;
 mod watcher;
+mod watches;
 
-pub use watch::{watch, watch_in};
+pub use watches::{watch, watch_in};

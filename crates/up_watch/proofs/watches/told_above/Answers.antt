@@ -6,7 +6,7 @@ use Rattle.up_replay.specs.Changes.{changes_under}
 use Rattle.up_watch.specs.Batches.{IsPosition}
 use Rattle.up_watch.specs.Watching.{Watching, told}
 use Rattle.up_watch.proofs.Told.{positions_within, watched_above}
-use Rattle.up_watch.proofs.watch.told_above.Goals as goal
+use Rattle.up_watch.proofs.watches.told_above.Goals as goal
 
 pub batch-requires : goal.batch-requires
 batch-requires c =

@@ -3,7 +3,7 @@ use Rattle.up_answers.specs.Watches.{watch_reply}
 use Rattle.up_wire.specs.Bounds.{bounded}
 use Rattle.up_watch.specs.Watching.{log_in}
 use Rattle.up_watch.proofs.Sequences.{same_number}
-use Rattle.up_watch.proofs.watch.watch_in.Goals as goal
+use Rattle.up_watch.proofs.watches.watch_in.Goals as goal
 
 pub returns : goal.returns
 returns c =

@@ -3,7 +3,7 @@ use Rattle.std.specs.Prelude.{IfOk}
 use Rattle.up_answers.specs.Watches.{watched}
 use Rattle.up_watch.specs.Watching.{log_in}
 use Rattle.up_watch.proofs.Sequences.{above_of}
-use Rattle.up_watch.proofs.watch.told.Goals as goal
+use Rattle.up_watch.proofs.watches.told.Goals as goal
 
 pub returns-then-sequence-ge0 : goal.returns-then-sequence-ge0
 returns-then-sequence-ge0 c =
