@@ -3,17 +3,17 @@ use Rattle.std.proofs.Common.{◌≡◌, ◌≢◌, ◌≤◌, ◌<◌, ◌+◌,
 use Rattle.std.specs.FinMap.Entries.{find}
 use Rattle.std.specs.List.{AllByRecursion}
 use Rattle.std.specs.Option.{option_and_then}
-use Rattle.up_blocks.specs.Kept.{IsIndex, IsStore, Keeps, block_of, further_seen, kept_of, log_seen, record_of, record_or, size_kept, spelling, store_state, untold}
-use Rattle.up_blocks.specs.Records.{IsTold, block_in, blocks_in, blocks_of, decoded, fits, holds, largest_room, put_record, reference_cmp}
+use Rattle.up_blocks.specs.Kept.{IsIndex, IsStore, Keeps, block_of, further_seen, kept_of, log_seen, record_of, record_or, size_kept, size_put, spelling, store_state, untold}
+use Rattle.up_blocks.specs.Records.{IsTold, block_in, blocks_in, blocks_of, decoded, fits, held_sizes, holds, largest_room, put_record, reference_cmp, size_in, size_of}
 use Rattle.up_blocks.specs.declared.record.BlockRecord.{BlockRecord}
-use Rattle.up_blocks.specs.declared.record.BlockRecord.TheVariants.{Delete}
+use Rattle.up_blocks.specs.declared.record.BlockRecord.TheVariants.{Put, Delete}
 use Rattle.up_blocks.specs.declared.record.Kept.{Kept}
 use Rattle.up_blocks.specs.declared.record.Kept.TheVariants as kept
 use Rattle.up_blocks.specs.Blocks.{GivesBlock, why_of_read}
 use Rattle.up_blocks.specs.declared.fault.BlockWhy.{BlockWhy}
 use Rattle.up_blocks.specs.declared.fault.BlockWhy.TheVariants as why
 use Rattle.up_blocks.proofs.Indexed.{index_holds, payload_at, size_untold}
-use Rattle.up_blocks.proofs.Stored.{count_is, resolved_at, safe_at}
+use Rattle.up_blocks.proofs.Stored.{count_is, resolved_at, safe_at, sizes_seen}
 use Rattle.up_disk.proofs.Moments.{started}
 use Rattle.up_faults.specs.Counts.{HasCause}
 use Rattle.up_faults.proofs.Causes.{HasCause-same, HasCause-weaker}
@@ -23,7 +23,7 @@ use Rattle.std.proofs.lemmas.Option.{slice_get-map, slice_get_within}
 use Rattle.up_disk.specs.declared.disk.Disk.{Ghosts}
 use Rattle.up_journal.specs.Crashes.{Leaves, LeavesNow}
 use Rattle.up_journal.specs.Journal.{HasLog, IsSettled, StandsFor, State}
-use Rattle.up_journal.specs.Logs.{OpensLog, ResolvesLog, StandsForLog, log_step}
+use Rattle.up_journal.specs.Logs.{EachFits, OpensLog, ResolvesLog, StandsForLog, log_step}
 use Rattle.up_journal.specs.Opened.{IsLogOf}
 use Rattle.up_journal.specs.Records.{OnlyPayloads, replay}
 use Rattle.up_journal.specs.declared.limits.Limits.{Limits}
@@ -126,16 +126,17 @@ module _ {D : Type 0} (disks : Ghosts D) where
   -- the whole of it
   pub opens_store : (disk : D) (limits : Limits) (opened read : State D) (records : List Kept) (numbers : List (List ℕ × ℕ)) → largest_room ≤ limits.largest
       → IsLogOf limits.largest (disks.content disk) opened.log → IsSettled opened → opened.limits ≡ limits
-      → LeavesNow disks opened.disk (HasLog limits.largest opened.log) → opened.sizes ≡ map size_kept records → IsIndex (log_seen opened.log records) records numbers
+      → LeavesNow disks opened.disk (HasLog limits.largest opened.log) → opened.sizes ≡ map size_kept records → IsIndex (log_seen opened.log records) records numbers → EachFits fits (log_seen opened.log records)
       → ((payloads : List (List ℕ)) → opened.log ≡ Some payloads → replay (log_step decoded fits) [] payloads ≡ Ok (map record_of payloads)) → OnlyPayloads disks opened read
       → IsStore disks read records numbers × OpensLog disks blocks_in limits disk (store_state read read.log records)
-  opens_store disk limits opened read records numbers room log_is settled same safe sized index whole reads =
+  opens_store disk limits opened read records numbers room log_is settled same safe sized index fitting whole reads =
       let same_log : read.log ≡ opened.log = ap (λ (j : State D). j.log) reads.unchanged in
       let index_read = subst (λ l. IsIndex (log_seen l records) records numbers) (sym same_log) index in
       let both = opens_at disk limits opened read read.log records numbers (sym same_log) log_is settled same safe sized index_read whole reads in (
         record {
           sizes = ap (λ (j : State D). j.sizes) reads.unchanged ∙ sized;
           keeps = both.0;
+          fitting = subst (λ l. EachFits fits (log_seen l records)) (sym same_log) fitting;
           index = index_read;
           room = subst (λ (l : Limits). largest_room ≤ l.largest) (sym (ap (λ (j : State D). j.limits) reads.unchanged ∙ same)) room;
         },
@@ -180,6 +181,34 @@ read_is (Some payloads) records number found bytes held some read =
         let bytes_are : drop 1 payload ≡ bytes = cc in
         held.found_is ∙ ap Some (told_bytes payload held.block (ap block_of same ∙ held.is) ∙ ap Some bytes_are)
 
+-- what is read of a block that is held has its size
+pub size_read : (log : List BlockRecord) (records : List Kept) (numbers : List (List ℕ × ℕ)) (reference bytes : List ℕ) (number : ℕ) (sizes : List ℕ) → IsIndex log records numbers → find reference_cmp reference numbers ≡ Some number
+    → sizes ≡ map size_kept records → option_map (λ size. size - 1) (slice_get sizes (number + 1 - 1)) ≡ Some (length bytes) → size_in log reference ≡ Some (length bytes)
+size_read log records numbers reference bytes number sizes index at kept read =
+    by_record (slice_get log number) (size_in log reference)
+    (ap (option_map (given_by size_put log)) (sym at) ∙ numbers_found size_put reference_cmp reference log numbers (held_sizes log) index.sized)
+    (sym (ap (option_map (λ size. size - 1)) seen) ∙ subst (λ (n : ℕ). option_map (λ size. size - 1) (slice_get sizes n) ≡ Some (length bytes)) (omega arith) read)
+  where
+    seen : slice_get sizes number ≡ option_map size_of (slice_get log number)
+    seen = ap (λ s. slice_get s number) (kept ∙ sym (sizes_seen log records numbers index)) ∙ slice_get-map size_of log number
+
+    by_put : (size : ℕ) (found : Option ℕ) → Some (Some size) ≡ option_map Some found → Some (size + 1 - 1) ≡ Some (length bytes) → found ≡ Some (length bytes)
+    by_put size None given read = absurd (cc)
+    by_put size (Some s) given read =
+        let same : size ≡ s = cc in
+        let long : size + 1 - 1 ≡ length bytes = cc in
+        let is : s ≡ length bytes = omega (arith, same, long) in
+        ap Some is
+
+    by_delete : (found : Option ℕ) → Some None ≡ option_map Some found → found ≡ Some (length bytes)
+    by_delete None given = absurd (cc)
+    by_delete (Some s) given = absurd (cc)
+
+    by_record : (rec : Option BlockRecord) (found : Option ℕ) → Some (option_and_then size_put rec) ≡ option_map Some found → option_map (λ size. size - 1) (option_map size_of rec) ≡ Some (length bytes) → found ≡ Some (length bytes)
+    by_record None found given read = absurd (cc)
+    by_record (Some (Put r size block)) found given read = by_put size found given read
+    by_record (Some (Delete r)) found given read = by_delete found given
+
 module _ {D : Type 0} (disks : Ghosts D) where
   abbrev failed : BlockWhy → Result (List ℕ) BlockWhy
   failed reason = Err reason
@@ -194,6 +223,7 @@ module _ {D : Type 0} (disks : Ghosts D) where
         missing = λ _. refl;
         there = λ _. sym (index_holds (log_seen journal.log records) records numbers reference kept.index) ∙ ap is_some none;
         found = tt;
+        size = tt;
         never_full = λ n is. cc;
         unchanged = refl;
         content = refl;
@@ -229,12 +259,13 @@ module _ {D : Type 0} (disks : Ghosts D) where
     read_on : Keeps disks new new.log × ResolvesLog {E = BlockWhy} disks blocks_in (store_state old old.log records) (store_state new new.log records) (Err why.Fault)
     read_on =
         resolved_at disks {E = BlockWhy} (Err why.Fault) old new records old.log new.log refl refl kept.keeps (ap (λ (j : State D). j.sizes) unchanged) same_log (ap (λ (j : State D). j.limits) unchanged)
-        tt (ap (λ (j : State D). j.doubtful) unchanged, ap (λ (j : State D). j.further) unchanged) crash
+        tt (ap (λ (j : State D). j.doubtful) unchanged, ap (λ (j : State D). j.further) unchanged) (ap is_some content) crash
 
     pub kept_read : IsStore disks new records numbers
     kept_read = record {
       sizes = ap (λ (j : State D). j.sizes) unchanged ∙ kept.sizes;
       keeps = read_on.0;
+      fitting = subst (λ l. EachFits fits (log_seen l records)) (sym same_log) kept.fitting;
       index = subst (λ l. IsIndex (log_seen l records) records numbers) (sym same_log) kept.index;
       room = subst (λ (l : Limits). largest_room ≤ l.largest) (sym (ap (λ (j : State D). j.limits) unchanged)) kept.room;
     }
@@ -243,12 +274,14 @@ module _ {D : Type 0} (disks : Ghosts D) where
     state_read = ap (λ (j : State D). store_state j j.log records) unchanged
 
     -- its bytes were read
-    pub gives_bytes : (bytes : List ℕ) → is_some old.log ≡ is_some (disks.content old.disk) → IfSome old.log (λ log. option_map (drop 1) (slice_get log (number + 1 - 1)) ≡ Some bytes) → HasCause (disks.faults old.disk) (disks.faults new.disk) ⊥
+    pub gives_bytes : (bytes : List ℕ) → is_some old.log ≡ is_some (disks.content old.disk) → IfSome old.log (λ log. option_map (drop 1) (slice_get log (number + 1 - 1)) ≡ Some bytes)
+        → option_map (λ size. size - 1) (slice_get old.sizes (number + 1 - 1)) ≡ Some (length bytes) → HasCause (disks.faults old.disk) (disks.faults new.disk) ⊥
         → GivesBlock disks reference (store_state old old.log records) (store_state new new.log records) (Ok bytes)
-    gives_bytes bytes told read cause = record {
+    gives_bytes bytes told read sized cause = record {
       missing = λ none. absurd (let both = sym holds_it ∙ none in cc);
       there = λ is. absurd (cc);
       found = λ some. read_is old.log records number (block_in (log_seen old.log records) reference) bytes is_held (told ∙ some) read;
+      size = size_read (log_seen old.log records) records numbers reference bytes number old.sizes kept.index at kept.sizes sized;
       never_full = λ n is. cc;
       unchanged = state_read;
       content = content;
@@ -267,6 +300,7 @@ module _ {D : Type 0} (disks : Ghosts D) where
       missing = λ none. absurd (let both = sym holds_it ∙ none in cc);
       there = λ is. absurd (not_missing a is);
       found = tt;
+      size = tt;
       never_full = λ n is. not_full a n is;
       unchanged = state_read;
       content = content;

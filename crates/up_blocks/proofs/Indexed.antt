@@ -5,8 +5,8 @@ use Rattle.std.proofs.lemmas.List.{length-map, map-append}
 use Rattle.std.proofs.lemmas.List.Sums.{fold-append}
 use Rattle.std.specs.FinMap.Entries.{find}
 use Rattle.std.specs.Ordering.{eq_by_cmp}
-use Rattle.up_blocks.specs.Kept.{IsIndex, IsTaken, block_of, fits_by, kept_of, numbered, record_of, record_or, size_kept, spelling, untold}
-use Rattle.up_blocks.specs.Records.{after_record, blocks_of, decoded, fits, holds, largest_block, put_record, reference_cmp, size_of}
+use Rattle.up_blocks.specs.Kept.{IsIndex, IsTaken, block_of, fits_by, kept_of, numbered, record_of, record_or, size_kept, size_put, spelling, untold}
+use Rattle.up_blocks.specs.Records.{after_record, blocks_of, decoded, fits, held_sizes, holds, largest_block, put_record, reference_cmp, size_of, sized_after}
 use Rattle.up_blocks.specs.declared.record.BlockRecord.{BlockRecord}
 use Rattle.up_blocks.specs.declared.record.BlockRecord.TheVariants.{Put, Delete}
 use Rattle.up_blocks.specs.declared.record.Kept.{Kept}
@@ -116,6 +116,9 @@ delete_is reference long = ap (λ (n : ℕ). record_or (cond (eqb n 32) (Some (D
 blocks_more : (log : List BlockRecord) (rec : BlockRecord) → blocks_of (log ++ rec ∷ []) ≡ after_record (blocks_of log) rec
 blocks_more log rec = fold-append after_record [] log (rec ∷ [])
 
+held_sizes_more : (log : List BlockRecord) (rec : BlockRecord) → held_sizes (log ++ rec ∷ []) ≡ sized_after (held_sizes log) rec
+held_sizes_more log rec = fold-append sized_after [] log (rec ∷ [])
+
 pub index_length : (log : List BlockRecord) (records : List Kept) (numbers : List (List ℕ × ℕ)) → IsIndex log records numbers → length log ≡ length records
 index_length log records numbers is = sym (length-map log kept_of) ∙ ap length is.same
 
@@ -125,8 +128,16 @@ index_more log rec records numbers is = record {
   same = map-append kept_of log (rec ∷ []) ∙ ap (λ ks. ks ++ kept_of rec ∷ []) is.same;
   held = subst (λ n. AreNumbers block_of (log ++ rec ∷ []) (numbered n (kept_of rec) numbers) (blocks_of (log ++ rec ∷ []))) (index_length log records numbers is)
       (subst (λ blocks. AreNumbers block_of (log ++ rec ∷ []) (numbered (length log) (kept_of rec) numbers) blocks) (sym (blocks_more log rec)) (by_record rec));
+  sized = subst (λ n. AreNumbers size_put (log ++ rec ∷ []) (numbered n (kept_of rec) numbers) (held_sizes (log ++ rec ∷ []))) (index_length log records numbers is)
+      (subst (λ sizes. AreNumbers size_put (log ++ rec ∷ []) (numbered (length log) (kept_of rec) numbers) sizes) (sym (held_sizes_more log rec)) (by_size rec));
 }
   where
+    by_size : (rec : BlockRecord) → AreNumbers size_put (log ++ rec ∷ []) (numbered (length log) (kept_of rec) numbers) (sized_after (held_sizes log) rec)
+    by_size (Put reference size bytes) = numbers_put size_put reference_cmp log (Put reference size bytes) reference size numbers (held_sizes log) is.sized refl
+    by_size (Delete reference) =
+        numbers_without size_put reference_cmp (λ other. not (eq_by_cmp reference_cmp reference other)) (log ++ Delete reference ∷ []) numbers (held_sizes log)
+        (numbers_longer size_put log (Delete reference ∷ []) numbers (held_sizes log) is.sized)
+
     by_record : (rec : BlockRecord) → AreNumbers block_of (log ++ rec ∷ []) (numbered (length log) (kept_of rec) numbers) (after_record (blocks_of log) rec)
     by_record (Put reference size bytes) = numbers_put block_of reference_cmp log (Put reference size bytes) reference bytes numbers (blocks_of log) is.held refl
     by_record (Delete reference) =
@@ -159,6 +170,7 @@ taken log payload change records numbers is fitted index =
     record {
       change = change;
       added = refl;
+      fitted = fitted;
       step = added decoded fits log payload (record_of payload) r.decodes rec_fits;
       told = subst (λ k. IsIndex (log ++ record_of payload ∷ []) (records ++ k ∷ []) (numbered (length records) k numbers)) r.keeps (index_more log (record_of payload) records numbers index);
       silent = subst (λ k. IsIndex (log ++ untold change ∷ []) (records ++ k ∷ []) (numbered (length records) k numbers)) (kept_untold change) (index_more log (untold change) records numbers index);

@@ -7,13 +7,14 @@ use Rattle.up_blocks.specs.declared.record.BlockRecord.{BlockRecord}
 use Rattle.up_blocks.specs.declared.record.Kept.{Kept}
 use Rattle.up_journal.specs.Damages.{Damage}
 use Rattle.up_journal.specs.Damages as damages
-use Rattle.up_journal.specs.Logs.{log_step}
+use Rattle.up_journal.specs.Logs.{EachFits, log_step}
 use Rattle.up_journal.specs.Opened.{IsDamageOf, why_of, why_of_read}
 use Rattle.up_journal.specs.declared.fault.OpenWhy.{OpenWhy}
 use Rattle.up_journal.specs.declared.fault.OpenWhy.TheVariants as open_why
 use Rattle.up_journal.specs.declared.fault.ReadWhy.{ReadWhy}
 use Rattle.up_journal.specs.declared.fault.ReadWhy.TheVariants as read_why
 use Rattle.up_journal.specs.Records.{ReadUpTo, replay, replay_from}
+use Rattle.up_journal.proofs.Logs.{fits_more, fits_none, fits_step}
 use Rattle.up_journal.proofs.Records.{take_next}
 
 -- the log up to the record with that number, from 0
@@ -40,13 +41,29 @@ index_next None n payload before records numbers is taken =
 index_next (Some payloads) n payload before records numbers is taken =
     subst (λ l. IsIndex l records numbers) (sym (told_next payloads n payload is)) taken.told
 
+pub fits_next : (told : Option (List (List ℕ))) (n : ℕ) (payload : List ℕ) (before records : List Kept) (numbers : List (List ℕ × ℕ)) → IfSome told (λ payloads. slice_get payloads n ≡ Some payload)
+    → IsTaken (up_to n told before) payload before records numbers → EachFits fits (up_to n told before) → EachFits fits (up_to (n + 1) told records)
+fits_next None n payload before records numbers is taken fitting =
+    let same : map untold records ≡ map untold before ++ untold taken.change ∷ [] = ap (map untold) taken.added ∙ map-append untold before (taken.change ∷ []) in
+    subst (λ l. EachFits fits l) (sym same) (fits_more fits (map untold before) (untold taken.change) fitting taken.fitted)
+fits_next (Some payloads) n payload before records numbers is taken fitting =
+    let log = map record_of (take n payloads) in
+    subst (λ l. EachFits fits l) (sym (told_next payloads n payload is)) (fits_step fits decoded log payload (log ++ record_of payload ∷ []) fitting taken.step)
+
 -- nothing is read yet
+pub fits_first : (told : Option (List (List ℕ))) (records : List Kept) → records ≡ [] → EachFits fits (up_to 0 told records)
+fits_first told records none = subst (λ r. EachFits fits (up_to 0 told r)) (sym none) (start told)
+  where
+    start : (told : Option (List (List ℕ))) → EachFits fits (up_to 0 told [])
+    start None = fits_none fits
+    start (Some payloads) = fits_none fits
+
 pub index_none : (told : Option (List (List ℕ))) (records : List Kept) (numbers : List (List ℕ × ℕ)) → records ≡ [] → numbers ≡ [] → IsIndex (up_to 0 told records) records numbers
 index_none told records numbers none empty = subst (λ r. IsIndex (up_to 0 told r) r numbers) (sym none) (subst (λ n. IsIndex (up_to 0 told []) [] n) (sym empty) (start told))
   where
     start : (told : Option (List (List ℕ))) → IsIndex (up_to 0 told []) [] []
-    start None = record { same = refl; held = record { same = refl } }
-    start (Some payloads) = record { same = refl; held = record { same = refl } }
+    start None = record { same = refl; held = record { same = refl }; sized = record { same = refl } }
+    start (Some payloads) = record { same = refl; held = record { same = refl }; sized = record { same = refl } }
 
 -- all is read
 take_all : {X : Type 0} (xs : List X) (n : ℕ) → length xs ≤ n → take n xs ≡ xs
@@ -70,6 +87,13 @@ index_all None sizes n records numbers sized all index = index
 index_all (Some payloads) sizes n records numbers sized all index =
     let count : length payloads ≡ n = sym (length-map payloads length) ∙ ap length sized ∙ sym all in
     subst (λ l. IsIndex (map record_of l) records numbers) (take_whole payloads n count) index
+
+pub fits_all : (told : Option (List (List ℕ))) (sizes : List ℕ) (n : ℕ) (records : List Kept) → IfSome told (λ payloads. map length payloads ≡ sizes) → n ≡ length sizes
+    → EachFits fits (up_to n told records) → EachFits fits (log_seen told records)
+fits_all None sizes n records sized all fitting = fitting
+fits_all (Some payloads) sizes n records sized all fitting =
+    let count : length payloads ≡ n = sym (length-map payloads length) ∙ ap length sized ∙ sym all in
+    subst (λ l. EachFits fits (map record_of l)) (take_whole payloads n count) fitting
 
 pub log_all : (told : Option (List (List ℕ))) (sizes : List ℕ) (n gate : ℕ) (records : List Kept) → IfSome told (λ payloads. map length payloads ≡ sizes) → n ≡ length sizes
     → ReadUpTo (log_step decoded fits) [] told n gate (up_to n told records) → (payloads : List (List ℕ)) → told ≡ Some payloads → replay (log_step decoded fits) [] payloads ≡ Ok (map record_of payloads)

@@ -16,11 +16,11 @@ use Rattle.up_faults.specs.Counts.{HasCause}
 use Rattle.up_faults.proofs.Causes.{HasCause-same, HasCause-weaker}
 use Rattle.up_journal.specs.Crashes.{Leaves, LeavesNow}
 use Rattle.up_journal.specs.Journal.{IsSettled, MayHave, StandsFor, State, is_full, with_further}
-use Rattle.up_journal.specs.Logs.{AddsRecord, IsSettledLog, KeepsLog, MayHaveLog, ResolvesLog, StandsForLog, log_state}
+use Rattle.up_journal.specs.Logs.{AddsRecord, EachFits, IsSettledLog, KeepsLog, MayHaveLog, ResolvesLog, StandsForLog, log_state}
 use Rattle.up_journal.specs.declared.fault.AppendWhy.{AppendWhy}
 use Rattle.up_journal.specs.declared.fault.AppendWhy.TheVariants as append
 use Rattle.up_journal.specs.declared.limits.Limits.{Limits}
-use Rattle.up_journal.proofs.Logs.{adds_err, adds_none, adds_ok, keeps_safe, resolves_log}
+use Rattle.up_journal.proofs.Logs.{adds_err, adds_none, adds_ok, fits_more, keeps_safe, resolves_log}
 
 -- ---- the bytes of records
 
@@ -96,9 +96,10 @@ module _ {D : Type 0} (disks : Ghosts D) where
 
     pub added_at : (was now : Option (List (List ℕ))) (position : ℕ) → old.log ≡ was → new.log ≡ now → Keeps disks old was → fits (log_seen was records) (untold change) ≡ true
         → new.sizes ≡ map size_kept more → new.sizes ≡ old.sizes ++ length payload ∷ [] → new.log ≡ with_further old.log (Some payload) → IsSettled new → new.limits ≡ old.limits → position ≡ length new.sizes
+        → is_some (disks.content new.disk) ≡ is_some (disks.content old.disk)
         → Leaves disks old.disk new.disk (StandsFor new.limits.largest new.log new.further) (MayHave old.limits.largest old.log old.further payload)
         → Keeps disks new now × AddsRecord {E = BlockWhy} disks blocks_in (recorded (is_some was) payload) (store_state old was records) (store_state new now more) (Ok position)
-    added_at None None position was_is now_is keeps fitted sizes sized longer settled same place crash =
+    added_at None None position was_is now_is keeps fitted sizes sized longer settled same place tells crash =
         let crash_none : Leaves disks old.disk new.disk (StandsFor new.limits.largest None new.further) (MayHave old.limits.largest None old.further payload) =
         subst (λ l. Leaves disks old.disk new.disk (StandsFor new.limits.largest l new.further) (MayHave old.limits.largest None old.further payload)) now_is
         (subst (λ l. Leaves disks old.disk new.disk (StandsFor new.limits.largest new.log new.further) (MayHave old.limits.largest l old.further payload)) was_is crash) in (
@@ -109,27 +110,29 @@ module _ {D : Type 0} (disks : Ghosts D) where
             settled = record { settled = settled.settled; nothing = refl };
             limits = same;
             further = tt;
+            told = tells;
             acknowledged = record { each = λ image left. absurd (no_log new.limits.largest new.further image (crash_none.safe image left)) };
             crash = silent_leaves old.disk new.disk new.limits.largest old.limits.largest new.further old.further payload crash_none;
           },
         )
-    added_at None (Some after) position was_is now_is keeps fitted sizes sized longer settled same place crash =
+    added_at None (Some after) position was_is now_is keeps fitted sizes sized longer settled same place tells crash =
         absurd (let none : new.log ≡ None = longer ∙ ap (λ l. with_further l (Some payload)) was_is in let both = sym now_is ∙ none in cc)
-    added_at (Some payloads) None position was_is now_is keeps fitted sizes sized longer settled same place crash =
+    added_at (Some payloads) None position was_is now_is keeps fitted sizes sized longer settled same place tells crash =
         absurd (let some : new.log ≡ Some (payloads ++ payload ∷ []) = longer ∙ ap (λ l. with_further l (Some payload)) was_is in let both = sym now_is ∙ some in cc)
-    added_at (Some payloads) (Some after) position was_is now_is keeps fitted sizes sized longer settled same place crash =
+    added_at (Some payloads) (Some after) position was_is now_is keeps fitted sizes sized longer settled same place tells crash =
         let r = reads payload change is in
         let log = map record_of payloads in
         let is_longer = longer_is payloads after (sym now_is ∙ longer ∙ ap (λ l. with_further l (Some payload)) was_is) in
         let rec_fits : fits log (record_of payload) ≡ true = sym (fits_untold log (record_of payload)) ∙ ap (λ k. fits log (untold k)) r.keeps ∙ fitted in
-        let adds = adds_ok disks decoded fits spelling {E = BlockWhy} old new log (record_of payload) payload position keeps r.decodes rec_fits r.spelled sized longer settled same place crash in
+        let adds = adds_ok disks decoded fits spelling {E = BlockWhy} old new log (record_of payload) payload position keeps r.decodes rec_fits r.spelled sized longer settled same place tells crash in
         subst (λ l. KeepsLog disks decoded fits spelling new l × AddsRecord {E = BlockWhy} disks blocks_in (record_of payload) (log_state decoded old log) (log_state decoded new l) (Ok position)) (sym (told_more payloads after is_longer)) adds
 
     pub kept_at : (was now : Option (List (List ℕ))) (reason : BlockWhy) → old.log ≡ was → new.log ≡ now → Keeps disks old was → fits (log_seen was records) (untold change) ≡ true
         → new.sizes ≡ old.sizes → new.log ≡ old.log → new.limits ≡ old.limits → (new.further ≡ None) ⊎ ((new.further ≡ old.further) ⊎ (new.further ≡ Some payload))
+        → is_some (disks.content new.disk) ≡ is_some (disks.content old.disk)
         → Leaves disks old.disk new.disk (StandsFor new.limits.largest new.log new.further) (MayHave old.limits.largest old.log old.further payload)
         → Keeps disks new now × AddsRecord disks blocks_in (recorded (is_some was) payload) (store_state old was records) (store_state new now records) (Err reason)
-    kept_at None None reason was_is now_is keeps fitted sized same_log same which crash =
+    kept_at None None reason was_is now_is keeps fitted sized same_log same which tells crash =
         let crash_none : Leaves disks old.disk new.disk (StandsFor new.limits.largest None new.further) (MayHave old.limits.largest None old.further payload) =
         subst (λ l. Leaves disks old.disk new.disk (StandsFor new.limits.largest l new.further) (MayHave old.limits.largest None old.further payload)) now_is
         (subst (λ l. Leaves disks old.disk new.disk (StandsFor new.limits.largest new.log new.further) (MayHave old.limits.largest l old.further payload)) was_is crash) in (
@@ -140,18 +143,19 @@ module _ {D : Type 0} (disks : Ghosts D) where
             settled = tt;
             limits = same;
             further = inl refl;
+            told = tells;
             acknowledged = tt;
             crash = silent_leaves old.disk new.disk new.limits.largest old.limits.largest new.further old.further payload crash_none;
           },
         )
-    kept_at None (Some after) reason was_is now_is keeps fitted sized same_log same which crash = absurd (let both = sym now_is ∙ same_log ∙ was_is in cc)
-    kept_at (Some payloads) None reason was_is now_is keeps fitted sized same_log same which crash = absurd (let both = sym now_is ∙ same_log ∙ was_is in cc)
-    kept_at (Some payloads) (Some after) reason was_is now_is keeps fitted sized same_log same which crash =
+    kept_at None (Some after) reason was_is now_is keeps fitted sized same_log same which tells crash = absurd (let both = sym now_is ∙ same_log ∙ was_is in cc)
+    kept_at (Some payloads) None reason was_is now_is keeps fitted sized same_log same which tells crash = absurd (let both = sym now_is ∙ same_log ∙ was_is in cc)
+    kept_at (Some payloads) (Some after) reason was_is now_is keeps fitted sized same_log same which tells crash =
         let r = reads payload change is in
         let log = map record_of payloads in
         let same_is : after ≡ payloads = (let both = sym now_is ∙ same_log ∙ was_is in cc) in
         let rec_fits : fits log (record_of payload) ≡ true = sym (fits_untold log (record_of payload)) ∙ ap (λ k. fits log (untold k)) r.keeps ∙ fitted in
-        let adds = adds_err disks decoded fits spelling old new log (record_of payload) payload reason keeps r.decodes rec_fits sized same_log same which crash in
+        let adds = adds_err disks decoded fits spelling old new log (record_of payload) payload reason keeps r.decodes rec_fits sized same_log same which tells crash in
         subst (λ l. KeepsLog disks decoded fits spelling new (map record_of l) × AddsRecord disks blocks_in (record_of payload) (log_state decoded old log) (log_state decoded new (map record_of l)) (Err reason)) (sym same_is) adds
 
   -- where the journal is not called
@@ -163,6 +167,7 @@ module _ {D : Type 0} (disks : Ghosts D) where
     settled = tt;
     limits = refl;
     further = inr (inl refl);
+    told = refl;
     acknowledged = tt;
     crash = record {
       safe = λ image left. absurd (keeps.each image left);
@@ -174,9 +179,10 @@ module _ {D : Type 0} (disks : Ghosts D) where
   -- once a doubtful record is settled, or not
   pub resolved_at : {E : Type 0} (result : Result (Unit {0}) E) (old new : State D) (records : List Kept) (was now : Option (List (List ℕ))) → old.log ≡ was → new.log ≡ now → Keeps disks old was
       → new.sizes ≡ old.sizes → new.log ≡ old.log → new.limits ≡ old.limits → OnOk result (IsSettled new) → OnErr result ((new.doubtful ≡ old.doubtful) × (new.further ≡ old.further))
+      → is_some (disks.content new.disk) ≡ is_some (disks.content old.disk)
       → Leaves disks old.disk new.disk (StandsFor new.limits.largest new.log new.further) (StandsFor old.limits.largest old.log old.further)
       → Keeps disks new now × ResolvesLog disks blocks_in (store_state old was records) (store_state new now records) result
-  resolved_at {E} result old new records None None was_is now_is keeps sized same_log same settled refused crash =
+  resolved_at {E} result old new records None None was_is now_is keeps sized same_log same settled refused tells crash =
       let crash_none : Leaves disks old.disk new.disk (StandsFor new.limits.largest None new.further) (StandsFor old.limits.largest None old.further) =
       subst (λ l. Leaves disks old.disk new.disk (StandsFor new.limits.largest l new.further) (StandsFor old.limits.largest None old.further)) now_is
       (subst (λ l. Leaves disks old.disk new.disk (StandsFor new.limits.largest new.log new.further) (StandsFor old.limits.largest l old.further)) was_is crash) in (
@@ -186,6 +192,7 @@ module _ {D : Type 0} (disks : Ghosts D) where
           settled = settled_at result settled;
           limits = same;
           refused = refused_at result refused;
+          told = tells;
           acknowledged = none_left result (λ image left. no_log new.limits.largest new.further image (crash_none.safe image left));
           crash = silent_resolves old.disk new.disk new.limits.largest old.limits.largest new.further old.further crash_none;
         },
@@ -202,11 +209,11 @@ module _ {D : Type 0} (disks : Ghosts D) where
       none_left : (result : Result (Unit {0}) E) → ((image : List ℕ) → disks.may_leave new.disk image → ⊥) → OnOk result (LeavesNow disks new.disk (λ image. blocks_in new.limits.largest image ≡ Ok (map untold records)))
       none_left (Ok x) none = record { each = λ image left. absurd (none image left) }
       none_left (Err e) none = tt
-  resolved_at result old new records None (Some after) was_is now_is keeps sized same_log same settled refused crash = absurd (let both = sym now_is ∙ same_log ∙ was_is in cc)
-  resolved_at result old new records (Some payloads) None was_is now_is keeps sized same_log same settled refused crash = absurd (let both = sym now_is ∙ same_log ∙ was_is in cc)
-  resolved_at {E} result old new records (Some payloads) (Some after) was_is now_is keeps sized same_log same settled refused crash =
+  resolved_at result old new records None (Some after) was_is now_is keeps sized same_log same settled refused tells crash = absurd (let both = sym now_is ∙ same_log ∙ was_is in cc)
+  resolved_at result old new records (Some payloads) None was_is now_is keeps sized same_log same settled refused tells crash = absurd (let both = sym now_is ∙ same_log ∙ was_is in cc)
+  resolved_at {E} result old new records (Some payloads) (Some after) was_is now_is keeps sized same_log same settled refused tells crash =
       let same_is : after ≡ payloads = (let both = sym now_is ∙ same_log ∙ was_is in cc) in
-      let done = resolves_log disks decoded fits spelling {E = E} result old new (map record_of payloads) keeps sized same_log same settled refused crash in
+      let done = resolves_log disks decoded fits spelling {E = E} result old new (map record_of payloads) keeps sized same_log same settled refused tells crash in
       subst (λ l. KeepsLog disks decoded fits spelling new (map record_of l) × ResolvesLog disks blocks_in (log_state decoded old (map record_of payloads)) (log_state decoded new (map record_of l)) result) (sym same_is) done
 
   -- ---- the whole of it
@@ -247,19 +254,23 @@ module _ {D : Type 0} (disks : Ghosts D) where
         ∙ ap (is_full old.limits old.sizes) (recorded_size told payload ∙ (reads payload change is).size)
 
     pub entered : (position : ℕ) → new.sizes ≡ old.sizes ++ length payload ∷ [] → new.log ≡ with_further old.log (Some payload) → IsSettled new → new.limits ≡ old.limits → position ≡ length new.sizes
+        → is_some (disks.content new.disk) ≡ is_some (disks.content old.disk)
         → Leaves disks old.disk new.disk (StandsFor new.limits.largest new.log new.further) (MayHave old.limits.largest old.log old.further payload)
         → (is_full old.limits old.sizes (length payload) ≡ true → ⊥) → HasCause (disks.faults old.disk) (disks.faults new.disk) ⊥
         → IsStore disks new (records ++ change ∷ []) (numbered (length records) change numbers)
         × AddsBlock disks (recorded told payload) (store_state old old.log records) (store_state new new.log (records ++ change ∷ [])) (Ok position)
-    entered position sized longer settled same place crash room cause =
+    entered position sized longer settled same place tells crash room cause =
         let sizes : new.sizes ≡ map size_kept (records ++ change ∷ []) = sized ∙ ap (λ s. s ++ length payload ∷ []) kept.sizes ∙ sym (sizes_more records payload change is) in
-        let adds = added_at old new records change payload is old.log new.log position refl refl kept.keeps fitted sizes sized longer settled same place crash in
+        let adds = added_at old new records change payload is old.log new.log position refl refl kept.keeps fitted sizes sized longer settled same place tells crash in
         let rec = recorded (is_some old.log) payload in
         let keeps_rec : kept_of rec ≡ change = kept_recorded (is_some old.log) ∙ (reads payload change is).keeps in
+        let rec_fits : fits (log_seen old.log records) rec ≡ true =
+        sym (fits_untold (log_seen old.log records) rec) ∙ ap (λ k. fits (log_seen old.log records) (untold k)) keeps_rec ∙ fitted in
         let index = index_more (log_seen old.log records) rec records numbers kept.index in (
           record {
             sizes = sizes;
             keeps = adds.0;
+            fitting = subst (λ l. EachFits fits l) (sym adds.1.log) (fits_more fits (log_seen old.log records) rec kept.fitting rec_fits);
             index = subst (λ l. IsIndex l (records ++ change ∷ []) (numbered (length records) change numbers)) (sym adds.1.log)
                 (subst (λ k. IsIndex (log_seen old.log records ++ rec ∷ []) (records ++ k ∷ []) (numbered (length records) k numbers)) keeps_rec index);
             room = subst (λ (l : Limits). largest_room ≤ l.largest) (sym same) kept.room;
@@ -279,17 +290,19 @@ module _ {D : Type 0} (disks : Ghosts D) where
         kept_recorded false = kept_untold (kept_of (record_of payload))
 
     pub not_entered : (a : AppendWhy) → new.sizes ≡ old.sizes → new.log ≡ old.log → new.limits ≡ old.limits → (new.further ≡ None) ⊎ ((new.further ≡ old.further) ⊎ (new.further ≡ Some payload))
+        → is_some (disks.content new.disk) ≡ is_some (disks.content old.disk)
         → Leaves disks old.disk new.disk (StandsFor new.limits.largest new.log new.further) (MayHave old.limits.largest old.log old.further payload)
         → (is_full old.limits old.sizes (length payload) ≡ true → a ≡ append.Full (length old.sizes))
         → ((n : ℕ) → a ≡ append.Full n → (is_full old.limits old.sizes (length payload) ≡ true) × (n ≡ length old.sizes))
         → (a ≢ append.Fault → new ≡ old) → HasCause (disks.faults old.disk) (disks.faults new.disk) (a ≡ append.Fault)
         → IsStore disks new records numbers × AddsBlock disks (recorded told payload) (store_state old old.log records) (store_state new new.log records) (Err (why_of a))
-    not_entered a sized same_log same which crash full full_only untouched cause =
-        let adds = kept_at old new records change payload is old.log new.log (why_of a) refl refl kept.keeps fitted sized same_log same which crash in
+    not_entered a sized same_log same which tells crash full full_only untouched cause =
+        let adds = kept_at old new records change payload is old.log new.log (why_of a) refl refl kept.keeps fitted sized same_log same which tells crash in
         let count = count_is old records numbers kept in (
           record {
             sizes = sized ∙ kept.sizes;
             keeps = adds.0;
+            fitting = subst (λ l. EachFits fits (log_seen l records)) (sym same_log) kept.fitting;
             index = subst (λ l. IsIndex (log_seen l records) records numbers) (sym same_log) kept.index;
             room = subst (λ (l : Limits). largest_room ≤ l.largest) (sym same) kept.room;
           },

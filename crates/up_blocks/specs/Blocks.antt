@@ -1,7 +1,7 @@
 -- What contracts see of a store. This project's own.
 use Rattle.std.specs.Prelude.{◌≡◌, ◌≢◌, ℕ, Bool, true, false, if◌then◌else◌, List, length, is_some, IsSome, Some, Result, Ok, Err, IfErr, IfOk, IsErrOf}
 use Rattle.up_blocks.specs.Kept.{kept_of, record_of, untold}
-use Rattle.up_blocks.specs.Records.{block_in, blocks_in, holds, put_record, size_of, sizes_of}
+use Rattle.up_blocks.specs.Records.{block_in, blocks_in, holds, put_record, size_in, size_of, sizes_of}
 use Rattle.up_blocks.specs.declared.fault.BlockWhy.{BlockWhy}
 use Rattle.up_blocks.specs.declared.fault.BlockWhy.TheVariants as why
 use Rattle.up_blocks.specs.declared.record.BlockRecord.{BlockRecord}
@@ -67,11 +67,13 @@ pub record DeletesBlock {D : Type 0} (disks : Ghosts D) (reference : List ℕ) (
   pub missing : holds old.log reference ≡ false → (result ≡ Err why.NotExist) × (new ≡ old)
   pub held : holds old.log reference ≡ true → AddsBlock disks (Delete reference) old new result
 
--- A block was given, or refused. Nothing is changed but what a read does to a disk.
+-- A block was given, or refused: where the disk tells them, its bytes, and else as many bytes as it has. Nothing is changed but what
+-- a read does to a disk.
 pub record GivesBlock {D : Type 0} (disks : Ghosts D) (reference : List ℕ) (old new : LogState D BlockRecord) (result : Result (List ℕ) BlockWhy) : Type 0 where
   pub missing : holds old.log reference ≡ false → result ≡ Err why.NotExist
   pub there : result ≡ Err why.NotExist → holds old.log reference ≡ false
   pub found : IfOk result (λ bytes. IsSome (disks.content old.disk) → block_in old.log reference ≡ Some (Some bytes))
+  pub size : IfOk result (λ bytes. size_in old.log reference ≡ Some (length bytes))
   pub never_full : (n : ℕ) → result ≢ Err (why.Full n)
   pub unchanged : new ≡ record old { disk = new.disk }
   pub content : disks.content new.disk ≡ disks.content old.disk

@@ -1,8 +1,8 @@
 -- What a store keeps in memory. This project's own.
-use Rattle.std.specs.Prelude.{◌≡◌, ◌≤◌, ◌+◌, ◌&&◌, ℕ, Bool, not, nat_le, is_some, List, [], ◌∷◌, ◌++◌, map, replicate, Option, Some, None}
+use Rattle.std.specs.Prelude.{◌≡◌, ◌≤◌, ◌+◌, ◌&&◌, ℕ, Bool, true, not, nat_le, is_some, List, [], ◌∷◌, ◌++◌, map, replicate, Option, Some, None}
 use Rattle.std.specs.FinMap.Entries.{find, put, where_key}
 use Rattle.std.specs.Ordering.{eq_by_cmp}
-use Rattle.up_blocks.specs.Records.{blocks_of, decoded, fits, largest_block, largest_room, reference_cmp}
+use Rattle.up_blocks.specs.Records.{blocks_of, decoded, fits, held_sizes, largest_block, largest_room, reference_cmp}
 use Rattle.up_blocks.specs.declared.record.BlockRecord.{BlockRecord}
 use Rattle.up_blocks.specs.declared.record.BlockRecord.TheVariants.{Put, Delete}
 use Rattle.up_blocks.specs.declared.record.Kept.{Kept}
@@ -10,7 +10,7 @@ use Rattle.up_blocks.specs.declared.record.Kept.TheVariants as kept
 use Rattle.up_disk.specs.declared.disk.Disk.{Ghosts}
 use Rattle.up_journal.specs.Crashes.{LeavesNow}
 use Rattle.up_journal.specs.Journal.{State}
-use Rattle.up_journal.specs.Logs.{KeepsLog, LogState, further_record, log_step}
+use Rattle.up_journal.specs.Logs.{EachFits, KeepsLog, LogState, further_record, log_step}
 use Rattle.up_maps.specs.Numbers.{AreNumbers}
 
 -- all of a record but its bytes
@@ -57,15 +57,21 @@ abbrev pub block_of : BlockRecord → Option (Option (List ℕ))
 block_of (Put reference size bytes) = Some bytes
 block_of (Delete reference) = None
 
+-- and its size
+abbrev pub size_put : BlockRecord → Option ℕ
+size_put (Put reference size bytes) = Some size
+size_put (Delete reference) = None
+
 -- the numbers of the records of blocks, after the record with that number
 abbrev pub numbered : ℕ → Kept → List (List ℕ × ℕ) → List (List ℕ × ℕ)
 numbered number (kept.Put reference size) numbers = put reference_cmp reference number numbers
 numbered number (kept.Delete reference) numbers = where_key reference_cmp (λ other. not (eq_by_cmp reference_cmp reference other)) numbers
 
--- these are the records of a log without their bytes, and the numbers of the records of the blocks that are held
+-- these are the records of a log without their bytes, and the numbers of the records of the blocks that are held, with their sizes
 pub record IsIndex (log : List BlockRecord) (records : List Kept) (numbers : List (List ℕ × ℕ)) : Type 0 where
   pub same : map kept_of log ≡ records
   pub held : AreNumbers block_of log numbers (blocks_of log)
+  pub sized : AreNumbers size_put log numbers (held_sizes log)
 
 -- whether a record fits, by these numbers
 abbrev pub fits_by : List (List ℕ × ℕ) → Kept → Bool
@@ -76,6 +82,7 @@ fits_by numbers (kept.Delete reference) = is_some (find reference_cmp reference 
 pub record IsTaken (log : List BlockRecord) (payload : List ℕ) (before records : List Kept) (numbers : List (List ℕ × ℕ)) : Type 0 where
   pub change : Kept
   pub added : records ≡ before ++ change ∷ []
+  pub fitted : fits log (untold change) ≡ true
   pub step : log_step decoded fits log payload ≡ Some (log ++ record_of payload ∷ [])
   pub told : IsIndex (log ++ record_of payload ∷ []) records numbers
   pub silent : IsIndex (log ++ untold change ∷ []) records numbers
@@ -96,5 +103,6 @@ Keeps disks journal (Some payloads) = KeepsLog disks decoded fits spelling journ
 pub record IsStore {D : Type 0} (disks : Ghosts D) (journal : State D) (records : List Kept) (numbers : List (List ℕ × ℕ)) : Type 0 where
   pub sizes : journal.sizes ≡ map size_kept records
   pub keeps : Keeps disks journal journal.log
+  pub fitting : EachFits fits (log_seen journal.log records)
   pub index : IsIndex (log_seen journal.log records) records numbers
   pub room : largest_room ≤ journal.limits.largest

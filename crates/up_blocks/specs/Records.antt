@@ -70,6 +70,18 @@ block_in log reference = find reference_cmp reference (blocks_of log)
 abbrev pub holds : List BlockRecord → List ℕ → Bool
 holds log reference = is_some (block_in log reference)
 
+-- the sizes of the blocks that are held, by the same fold
+abbrev pub sized_after : List (List ℕ × ℕ) → BlockRecord → List (List ℕ × ℕ)
+sized_after sizes (Put reference size bytes) = put reference_cmp reference size sizes
+sized_after sizes (Delete reference) = where_key reference_cmp (λ other. not (eq_by_cmp reference_cmp reference other)) sizes
+
+abbrev pub held_sizes : List BlockRecord → List (List ℕ × ℕ)
+held_sizes log = fold sized_after [] log
+
+-- the size of the block with a reference, if it is held, whether or not its bytes are told
+abbrev pub size_in : List BlockRecord → List ℕ → Option ℕ
+size_in log reference = find reference_cmp reference (held_sizes log)
+
 -- ---- the log
 
 -- a Put fits where its block is not too long and not held, and a Delete where the block is held

@@ -13,7 +13,7 @@ ghost use Rattle.up_faults.specs.Counts.{HasCause};
 ghost use Rattle.up_journal.specs.Crashes.{IsOpened, LeavesNow};
 ghost use Rattle.up_journal.specs.Journal.{AreLimits};
 ghost use Rattle.up_journal.specs.Opened.{IsRefusedFor};
-ghost use Rattle.up_journal.specs.Logs.{OpensLog, RefusesLog, ResolvesLog, StandsForLog};
+ghost use Rattle.up_journal.specs.Logs.{EachFits, OpensLog, RefusesLog, ResolvesLog, StandsForLog};
 
 use crate::fault::BlockWhy;
 use crate::index::Index;
@@ -94,6 +94,7 @@ impl<D: Disk> Blocks<D> {
     /// The number of records. What it says besides holds of every store at every moment.
     pub fn position(&self) -> u64
         ensures count { result ≡ length self.now.log }
+        ensures fitting { EachFits fits self.now.log }
         ensures limits { AreLimits self.now.limits }
         ensures room { largest_room ≤ self.now.limits.largest }
         ensures told { AllByRecursion (IsTold (is_some (D.content self.now.disk))) self.now.log }
@@ -122,7 +123,8 @@ impl<D: Disk> Blocks<D> {
     /// and for want of memory, no call of the disk is made.
     pub fn get(&mut self, reference: &Reference) -> Result<Bytes, BlockWhy>
         ensures gives { GivesBlock D.Disk reference.now self.old self.new result }
-        ensures grows { OnlyGrows log_of (λ blocks. D.faults blocks.disk) limits_of self.old self.new }
+        ensures grows { OnlyGrows log_of
+            (λ blocks. D.faults blocks.disk) limits_of self.old self.new }
     {
         let _position = self.journal.len();
         let Some(number) = self.index.numbers.get(reference) else {
@@ -139,7 +141,8 @@ impl<D: Disk> Blocks<D> {
     pub fn put(&mut self, bytes: &[u8]) -> Result<Reference, BlockWhy>
         requires { length bytes.now ≤ largest_block }
         ensures puts { PutsBlock D.Disk bytes.now self.old self.new result }
-        ensures grows { OnlyGrows log_of (λ blocks. D.faults blocks.disk) limits_of self.old self.new }
+        ensures grows { OnlyGrows log_of
+            (λ blocks. D.faults blocks.disk) limits_of self.old self.new }
     {
         let reference = Reference::of(bytes);
         if self.index.holds(&reference) {
@@ -169,7 +172,8 @@ impl<D: Disk> Blocks<D> {
     /// held.
     pub fn delete(&mut self, reference: &Reference) -> Result<u64, BlockWhy>
         ensures deletes { DeletesBlock D.Disk reference.now self.old self.new result }
-        ensures grows { OnlyGrows log_of (λ blocks. D.faults blocks.disk) limits_of self.old self.new }
+        ensures grows { OnlyGrows log_of
+            (λ blocks. D.faults blocks.disk) limits_of self.old self.new }
     {
         if !self.index.holds(reference) {
             return Err(BlockWhy::NotExist);
@@ -206,7 +210,8 @@ impl<D: Disk> Blocks<D> {
         ensures resolves { ResolvesLog D.Disk blocks_in self.old self.new result }
         ensures untouched { self.old.doubtful ≡ false → IsOk result × (self.new ≡ self.old) }
         ensures cause { HasCause (D.faults self.old.disk) (D.faults self.new.disk) (IsErr result) }
-        ensures grows { OnlyGrows log_of (λ blocks. D.faults blocks.disk) limits_of self.old self.new }
+        ensures grows { OnlyGrows log_of
+            (λ blocks. D.faults blocks.disk) limits_of self.old self.new }
     {
         self.journal.resolve()
     }

@@ -7,10 +7,11 @@
 //! that is held changes nothing, calls no disk and answers its reference (`held`); else, as [`Blocks::delete`] of one that is held,
 //! it adds the record, is `Full` exactly at the limits, and a crash at any moment leaves the log, or it with the record in hand or
 //! with the doubtful one, and after `Ok` it with the record. [`Blocks::open`] takes exactly the logs whose records decode and fit
-//! (`opens`, `refuses`). [`Blocks::reference`] tells the references that are held, in the order of their bytes.
+//! (`opens`, `refuses`). At every moment each record of the log fits those before it (`fitting` of [`Blocks::position`]).
+//! [`Blocks::reference`] tells the references that are held, in the order of their bytes.
 //!
 //! In memory stand the references and where their bytes are, never the bytes. Of a disk that tells nothing no clause says which
-//! bytes a read gives: there `get` may hand out any bytes of the block's size.
+//! bytes a read gives: there `get` may hand out any bytes of the block's size (`size`).
 #![tactic(auto)]
 
 mod blocks;

@@ -4,7 +4,7 @@ ghost use Rattle.up_blocks.specs.Kept.{IsIndex, IsTaken, log_seen, record_of, si
 ghost use Rattle.up_blocks.specs.Records.{decoded, fits};
 ghost use Rattle.up_blocks.specs.declared.record.BlockRecord.{BlockRecord as OneRecord};
 ghost use Rattle.up_faults.specs.Counts.{HasCause};
-ghost use Rattle.up_journal.specs.Logs.{log_step};
+ghost use Rattle.up_journal.specs.Logs.{EachFits, log_step};
 ghost use Rattle.up_journal.specs.Opened.{IsDamageOf};
 ghost use Rattle.up_journal.specs.Records.{OnlyPayloads, replay};
 
@@ -23,7 +23,8 @@ fn take(index: &mut Index, payload: &[u8]) -> Result<bool, AllocError>
         → IsIndex log index.old.records.items index.old.numbers.entries
         → log_step decoded fits log payload.now ≡ None }
     ensures sizes { result ≡ Ok true
-        → map size_kept index.new.records.items ≡ map size_kept index.old.records.items ++ length payload.now ∷ [] }
+        → map size_kept index.new.records.items ≡ map size_kept index.old.records.items
+        ++ length payload.now ∷ [] }
 {
     let Some(change) = read_payload(payload) else {
         return Ok(false);
@@ -40,10 +41,13 @@ fn take(index: &mut Index, payload: &[u8]) -> Result<bool, AllocError>
 pub fn replay<D: Disk>(alloc: Global, journal: &mut Journal<D>) -> Result<Index, OpenWhy>
     ensures index { IfOk result (λ index.
         IsIndex (log_seen journal.old.log index.records.items) index.records.items index.numbers.entries) }
+    ensures fitting { IfOk result (λ index.
+        EachFits fits (log_seen journal.old.log index.records.items)) }
     ensures log { IfOk result (λ index. (payloads : List (List ℕ)) → journal.old.log ≡ Some payloads
         → replay (log_step decoded fits) [] payloads ≡ Ok (map record_of payloads)) }
     ensures sizes { IfOk result (λ index. journal.old.sizes ≡ map size_kept index.records.items) }
-    ensures damaged { IfErr result (IsDamageOf (replay (log_step decoded fits) []) journal.old.log) }
+    ensures damaged { IfErr result
+        (IsDamageOf (replay (log_step decoded fits) []) journal.old.log) }
     ensures read { OnlyPayloads D.Disk journal.old journal.new }
     ensures counts { HasCause (D.faults journal.old.disk) (D.faults journal.new.disk)
         (IsErrOf result OpenWhy.Fault) }

@@ -52,7 +52,8 @@ pub trait Fields: Sized {
 
     /// Appends the value. A call that finds no memory appends nothing.
     final fn write(&self, out: &mut Writer) -> Result<(), AllocError>
-        ensures written { out.new ≡ (if is_ok result then out.old ++ spelling self.now else out.old) }
+        ensures written { out.new
+            ≡ (if is_ok result then out.old ++ spelling self.now else out.old) }
         ensures typed { IfOk result (λ _. IsTyped self.now) }
     {
         let len = out.len();
@@ -96,8 +97,10 @@ fn take_items<T: Fields + Drop>(
     input: &mut Reader,
     count: u64,
 ) -> Result<Items<T>, FieldFault>
-    ensures exact { Gives (λ values. (values, input.new)) result (items_at T.read_at count input.old) }
-    ensures first { (n : ℕ) (fault : FieldFault) → count ≡ suc n → T.comes_first input.old fault → result ≡ Err fault }
+    ensures exact { Gives (λ values. (values, input.new)) result
+        (items_at T.read_at count input.old) }
+    ensures first { (n : ℕ) (fault : FieldFault) → count ≡ suc n → T.comes_first input.old fault
+        → result ≡ Err fault }
 {
     let mut values = Items::new(alloc);
     for _ in 0..count {
@@ -108,7 +111,8 @@ fn take_items<T: Fields + Drop>(
 
 /// Appends the number of the values, and then each, in its one spelling. A call that finds no memory appends nothing.
 pub fn write_list<T: Fields>(values: &[T], out: &mut Writer) -> Result<(), AllocError>
-    ensures written { out.new ≡ (if is_ok result then out.old ++ list T.spelling values.now else out.old) }
+    ensures written { out.new ≡
+        (if is_ok result then out.old ++ list T.spelling values.now else out.old) }
     ensures typed { IfOk result (λ _. IsList T.IsTyped values.now) }
 {
     let len = out.len();

@@ -55,7 +55,11 @@ pub(crate) fn push_num(out: &mut Vec<u8>, n: u64)
 
 /// The number at the front of the bytes that stand at `place`, and how many bytes spell it.
 pub(crate) fn num_in(place: u64, bytes: &[u8]) -> Result<(u64, usize), FieldFault>
-    ensures exact { let input : Input = record { size = place + length bytes.now; left = bytes.now } in
+    ensures exact { let input : Input = record {
+      size = place
+          + length bytes.now;
+      left = bytes.now;
+    } in
         Answers (λ found. (found.0, past found.1 input)) result (num_at input) }
     ensures within { IfOk result (λ found. found.1 ≤ length bytes.now) }
 {

@@ -1,30 +1,16 @@
 //! The files of cases, and the topic of each.
-use crate::crashes::Crashes;
-use crate::ends::Ends;
-use crate::fields::Fields;
-use crate::frames::Streams;
-use crate::globs::Globs;
-use crate::lines::{File, run_lines};
-use crate::logs::Logs;
-use crate::messages::Messages;
-use crate::moves::Moves;
-use crate::names::Names;
-use crate::patterns::Patterns;
-use crate::peers::PeerLines;
-use crate::records::Records;
-use crate::references::References;
-use crate::replies::Replies;
-use crate::requests::Requests;
-use crate::rights::Rights;
 use crate::scripts::run_scripts;
-use crate::signing::Signing;
-use crate::tally::Tally;
-use crate::texts::Texts;
-use crate::tree::Trees;
 use std::hash::RandomState;
 use std::random::RandomSource;
 use std::rt::Files;
 use std::{fs, io};
+use up_case_lines::{File, Tally, run_lines};
+use up_case_logs::{Crashes, Fields, Logs, Moves, Records};
+use up_case_texts::{
+    Ends, Messages, Names, Patterns, PeerLines, References, Replies, Requests, Rights, Signing,
+    Streams, Texts,
+};
+use up_case_trees::{Globs, Trees};
 
 /// Runs each file of a folder, in order of their names.
 pub fn run_all<R: Files + RandomSource + AllocGlobal + Print + Clone + Drop>(

@@ -5,37 +5,12 @@
 //! the files is the first argument, and the one it is run in where there is none.
 #![tactic(auto)]
 
-mod answer;
-mod crashes;
-mod ends;
-mod fault;
-mod fields;
 mod files;
-mod frames;
-mod globs;
-mod lines;
-mod logs;
-mod messages;
-mod moves;
-mod names;
-mod patterns;
-mod peers;
-mod records;
-mod references;
-mod replies;
-mod requests;
-mod rights;
 mod scripts;
-mod signing;
-mod tally;
-mod texts;
-mod topic;
-mod tree;
-mod words;
 
 use std::rt::Env;
 use std::{env, io};
-use tally::Tally;
+use up_case_lines::Tally;
 
 fn main(rt: HostRuntime) -> io::Result<()> {
     let mut tally = Tally::new();

@@ -2,14 +2,11 @@
 //! and a line that prints has what it prints behind it. `end` runs what stands above it, and answers the status.
 mod script;
 
-use crate::answer::Answer;
-use crate::fault::Fault;
-use crate::lines::{Case, File, case_of, compare};
-use crate::tally::Tally;
 use script::{Script, run};
 use std::alloc::AllocError;
 use std::hash::RandomState;
 use std::io;
+use up_case_lines::{Answer, Case, Fault, File, Tally, case_of, compare};
 
 /// Runs all scripts of a file. Names are hashed with these keys.
 pub fn run_scripts<R: AllocGlobal + Print>(

@@ -148,7 +148,8 @@ pub fn read_endpoint(alloc: Global, input: &mut Reader) -> Result<Endpoint, Fiel
 /// Appends an endpoint, in its one spelling: the address as a text, which is empty for the host's own store. A call that
 /// finds no memory appends nothing.
 pub fn write_endpoint(endpoint: &Endpoint, out: &mut Writer) -> Result<(), AllocError>
-    ensures written { out.new ≡ (if is_ok result then out.old ++ text (endpoint_text endpoint.now) else out.old) }
+    ensures written { out.new ≡
+        (if is_ok result then out.old ++ text (endpoint_text endpoint.now) else out.old) }
     ensures typed { IfOk result (λ _. IsText (endpoint_text endpoint.now)) }
 {
     endpoint.write(out)
@@ -170,7 +171,8 @@ pub fn read_blocks(alloc: Global, input: &mut Reader) -> Result<Items<Block>, Fi
 
 /// Appends the number of blocks and the blocks, in their one spelling. A call that finds no memory appends nothing.
 pub fn write_blocks(blocks: &Items<Block>, out: &mut Writer) -> Result<(), AllocError>
-    ensures written { out.new ≡ (if is_ok result then out.old ++ list spelling.block blocks.now else out.old) }
+    ensures written { out.new ≡
+        (if is_ok result then out.old ++ list spelling.block blocks.now else out.old) }
 
     // With addresses as they have to be, they are blocks that are read again, by the law `parts_have_one_spelling`.
     ensures typed { IfOk result (λ _. IsList IsBlock blocks.now) }

@@ -23,9 +23,13 @@ impl Front<'_> {
     /// Appends the fields. A call that finds no memory appends nothing.
     pub(crate) fn write(&self, out: &mut Writer) -> Result<(), AllocError>
         ensures written { let f = self.now in
-            out.new ≡ (if is_ok result then out.old ++ heading f.name.now f.signed_name.now f.packing f.time f.writer.now f.attr else out.old) }
-        ensures texts { let f = self.now in IfOk result (λ _. IsText f.name.now × IsText f.signed_name.now × IsText f.writer.now) }
-        ensures numbers { let f = self.now in IfOk result (λ _. IsByte f.packing × IsI64 f.time × IsByte f.attr) }
+            out.new ≡ (if is_ok result then out.old
+            ++ heading f.name.now f.signed_name.now f.packing f.time f.writer.now f.attr
+            else out.old) }
+        ensures texts { let f = self.now in IfOk result
+            (λ _. IsText f.name.now × IsText f.signed_name.now × IsText f.writer.now) }
+        ensures numbers { let f = self.now in IfOk result
+            (λ _. IsByte f.packing × IsI64 f.time × IsByte f.attr) }
     {
         let len = out.len();
         let written = self.append(out);
@@ -38,10 +42,13 @@ impl Front<'_> {
     /// Appends the fields. A call that finds no memory may leave a part of them.
     fn append(&self, out: &mut Writer) -> Result<(), AllocError>
         ensures appended { let f = self.now in
-            OnOk result (out.new ≡ out.old ++ heading f.name.now f.signed_name.now f.packing f.time f.writer.now f.attr) }
+            OnOk result (out.new ≡ out.old
+            ++ heading f.name.now f.signed_name.now f.packing f.time f.writer.now f.attr) }
         ensures kept { take (length out.old) out.new ≡ out.old }
-        ensures texts { let f = self.now in IfOk result (λ _. IsText f.name.now × IsText f.signed_name.now × IsText f.writer.now) }
-        ensures numbers { let f = self.now in IfOk result (λ _. IsByte f.packing × IsI64 f.time × IsByte f.attr) }
+        ensures texts { let f = self.now in IfOk result
+            (λ _. IsText f.name.now × IsText f.signed_name.now × IsText f.writer.now) }
+        ensures numbers { let f = self.now in IfOk result
+            (λ _. IsByte f.packing × IsI64 f.time × IsByte f.attr) }
     {
         out.text(self.name)?;
         out.text(self.signed_name)?;

@@ -20,7 +20,8 @@ ghost use Rattle.up_entry.specs.Spelling.{endpoint_text, FitsBlocks, FitsEndpoin
 pub fn parts_have_one_spelling()
     ensures path { AreFields IsCanonical (λ path. text (canonical path)) path_at }
     ensures user { AreFields FitsUser text user_at }
-    ensures endpoint { AreFields FitsEndpoint (λ endpoint. text (endpoint_text endpoint)) endpoint_at }
+    ensures endpoint { AreFields FitsEndpoint
+        (λ endpoint. text (endpoint_text endpoint)) endpoint_at }
     ensures blocks { AreFields FitsBlocks (list spelling.block) blocks_at }
 {}
 
@@ -46,5 +47,6 @@ pub fn fixed_form_is_told_by_rules()
 /// An entry that keeps the rules of Put has the form of each entry of a tree. It is what was handed in, under the path that
 /// it was signed for, by this user, with no sequence of its own yet.
 pub fn checked_entries_keep_each_rule()
-    ensures { (put : PutEntry) (user : List ℕ) (checked : Checked) → checked_as put user ≡ Ok checked → IsChecked put user checked }
+    ensures { (put : PutEntry) (user : List ℕ) (checked : Checked) → checked_as put user
+        ≡ Ok checked → IsChecked put user checked }
 {}

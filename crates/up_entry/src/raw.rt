@@ -73,8 +73,10 @@ impl Fields for PutEntry {
 
 /// What stands in front of a raw entry's link.
 fn front_of(put: &PutEntry) -> Front<'_>
-    ensures texts { (result.name.now ≡ put.now.name) × (result.signed_name.now ≡ put.now.signed_name) × (result.writer.now ≡ put.now.writer) }
-    ensures others { (result.packing ≡ put.now.packing) × (result.time ≡ put.now.time) × (result.attr ≡ put.now.attr) }
+    ensures texts { (result.name.now ≡ put.now.name) ×
+        (result.signed_name.now ≡ put.now.signed_name) × (result.writer.now ≡ put.now.writer) }
+    ensures others { (result.packing ≡ put.now.packing) × (result.time ≡ put.now.time) ×
+        (result.attr ≡ put.now.attr) }
 {
     Front {
         name: put.name.as_slice(),

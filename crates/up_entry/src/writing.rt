@@ -17,7 +17,8 @@ use up_names::Path;
 
 /// Appends an entry, in its one spelling. A call that finds no memory appends nothing.
 pub fn write_entry(entry: &Entry, out: &mut Writer) -> Result<(), AllocError>
-    ensures written { out.new ≡ (if is_ok result then out.old ++ spelling.entry entry.now else out.old) }
+    ensures written { out.new ≡
+        (if is_ok result then out.old ++ spelling.entry entry.now else out.old) }
 
     // With a link and addresses as they have to be, it is an entry that is read again, by the law `entries_have_one_spelling`.
     ensures typed { IfOk result (λ _. IsEntry entry.now) }
@@ -54,9 +55,13 @@ pub(crate) fn append_entry(entry: &Entry, out: &mut Writer) -> Result<(), AllocE
 
 /// What stands in front of an entry's link.
 fn front_of(entry: &Entry) -> Front<'_>
-    ensures names { (result.name.now ≡ canonical entry.now.name) × (result.signed_name.now ≡ canonical entry.now.signed_name) × (result.writer.now ≡ entry.now.writer) }
-    ensures others { (result.packing ≡ entry.now.packing) × (result.time ≡ entry.now.time) × (result.attr ≡ attr_byte entry.now.attr) }
-    ensures typed { IsCanonical entry.now.name × IsCanonical entry.now.signed_name × (user_of entry.now.writer ≡ Ok entry.now.writer) }
+    ensures names { (result.name.now ≡ canonical entry.now.name) ×
+        (result.signed_name.now ≡ canonical entry.now.signed_name) ×
+        (result.writer.now ≡ entry.now.writer) }
+    ensures others { (result.packing ≡ entry.now.packing) × (result.time ≡ entry.now.time) ×
+        (result.attr ≡ attr_byte entry.now.attr) }
+    ensures typed { IsCanonical entry.now.name × IsCanonical entry.now.signed_name ×
+        (user_of entry.now.writer ≡ Ok entry.now.writer) }
 {
     Front {
         name: entry.name.as_str().as_bytes(),

@@ -35,7 +35,8 @@ impl Model for Frames {
       bad = held.bad;
     } };
 
-    ghost invariant = { λ held. (length held.rest.items ≤ held.fed) × ForSome held.bad (λ _. held.rest.items ≡ []) };
+    ghost invariant = { λ held. (length held.rest.items ≤ held.fed) × ForSome held.bad
+        (λ _. held.rest.items ≡ []) };
 }
 
 impl Frames {
@@ -43,7 +44,8 @@ impl Frames {
 
     /// The start of a stream whose frames carry payloads of 1 to `limit` bytes. It takes no memory.
     pub fn new(alloc: Global, limit: u64) -> Self
-        ensures start { result ≡ record { limit = limit; fed = 0; waiting = []; rest = []; bad = None } }
+        ensures start { result
+            ≡ record { limit = limit; fed = 0; waiting = []; rest = []; bad = None } }
         ensures stream { StandsFor result [] [] }
     {
         Frames {
@@ -61,9 +63,11 @@ impl Frames {
         requires { self.old.fed + length piece.now < 2 ^ 64 }
 
         // However the stream was cut: with the piece behind it, what is held stands for all of it.
-        ensures stream { result ≢ Err FrameFault.OutOfMemory → (stream : List ℕ) (given : List (List ℕ)) →
+        ensures stream { result ≢ Err FrameFault.OutOfMemory
+            → (stream : List ℕ) (given : List (List ℕ)) →
             StandsFor self.old stream given → StandsFor self.new (stream ++ piece.now) given }
-        ensures fed { result ≢ Err FrameFault.OutOfMemory → self.new.fed ≡ self.old.fed + length piece.now }
+        ensures fed { result ≢ Err FrameFault.OutOfMemory → self.new.fed
+            ≡ self.old.fed + length piece.now }
         ensures limit { self.new.limit ≡ self.old.limit }
 
         // Which answer it is.
@@ -103,7 +107,8 @@ impl Frames {
         ensures none { IsNone result ↔ (self.old.waiting ≡ []) }
         ensures others { self.new ≡ record self.old { waiting = drop 1 self.old.waiting } }
         ensures stream { (stream : List ℕ) (given : List (List ℕ)) →
-            StandsFor self.old stream given → StandsFor self.new stream (given ++ option_to_list result) }
+            StandsFor self.old stream given
+            → StandsFor self.new stream (given ++ option_to_list result) }
     {
         self.waiting.pop_front()
     }

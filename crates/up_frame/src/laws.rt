@@ -7,7 +7,8 @@ ghost use Rattle.up_frame.specs.Stream.{Reads};
 /// Each stream of bytes reads in one way: it has one list of whole frames, one rest, and one place of a bad
 /// frame or none.
 pub fn stream_has_one_reading()
-    ensures one { (limit : ℕ) (stream : List ℕ) (payloads others : List (List ℕ)) (rest left : List ℕ)
+    ensures one { (limit : ℕ) (stream : List ℕ) (payloads others : List (List ℕ))
+        (rest left : List ℕ)
         (bad worse : Option ℕ) →
         Reads limit stream payloads rest bad → Reads limit stream others left worse →
         (payloads ≡ others) × (rest ≡ left) × (bad ≡ worse) }

@@ -1,5 +1,5 @@
 -- Logs of records over a journal, whatever the records are.
-use Rattle.std.proofs.Common.{◌≡◌, ◌≢◌, ◌<◌, ◌≤◌, ◌^◌, IfSome, ℕ, Bool, true, false, cond, List, [], ◌∷◌, ◌++◌, length, map, Option, Some, None, is_some, IsSome, Result, Ok, Err, OnOk, OnErr, refl, sym, ap, ◌∙◌, subst, ◌⊎◌, inl, inr, ⊎_elim}
+use Rattle.std.proofs.Common.{◌≡◌, ◌≢◌, ◌<◌, ◌≤◌, ◌^◌, IfSome, ℕ, zero, suc, Bool, true, false, cond, List, [], ◌∷◌, ◌++◌, length, map, take, slice_get, Option, Some, None, is_some, IsSome, Result, Ok, Err, OnOk, OnErr, refl, sym, ap, ◌∙◌, subst, ◌⊎◌, inl, inr, ⊎_elim}
 use Rattle.std.proofs.lemmas.List.{length-map, map-append}
 use Rattle.std.specs.Option.{option_and_then}
 use Rattle.up_disk.specs.Disk.{LeavesOnly}
@@ -9,7 +9,7 @@ use Rattle.up_journal.specs.Crashes.{Leaves, LeavesNow}
 use Rattle.up_journal.specs.Damages.{Damage}
 use Rattle.up_journal.specs.Format2.{log_of}
 use Rattle.up_journal.specs.Journal.{HasLog, IsReadAs, IsSettled, MayHave, StandsFor, State, is_full, with_further}
-use Rattle.up_journal.specs.Logs.{AddsRecord, HasOneMore, IsFurther, IsSettledLog, KeepsLog, LogState, MayHaveLog, OpensLog, RefusesLog, ResolvesLog, StandsForLog, further_record, grown, log_in, log_state, log_step}
+use Rattle.up_journal.specs.Logs.{AddsRecord, EachFits, HasOneMore, IsFurther, IsSettledLog, KeepsLog, LogState, MayHaveLog, OpensLog, RefusesLog, ResolvesLog, StandsForLog, further_record, grown, log_in, log_state, log_step}
 use Rattle.up_journal.specs.Opened.{IsDamageOf, IsLogOf}
 use Rattle.up_journal.specs.declared.fault.OpenFault.{OpenFault}
 use Rattle.up_journal.specs.declared.fault.OpenWhy.{OpenWhy}
@@ -70,6 +70,35 @@ module _ {R : Type 0} (decode : List ℕ → Option R) (fits : List R → R → 
         (λ next. let a = adds log next.payload next.next next.fits in
         let same : a.rec ≡ rec = one_record a.rec rec (decode next.payload) a.decoded (ap decode (sym (same_payload payload next.payload next.held)) ∙ decoded) in
         inr (next.read ∙ ap Ok (a.is ∙ ap (λ r. log ++ r ∷ []) same))) may
+
+-- ---- each record fits those before it
+
+-- an item of a list with one more is of the list, or that one
+place_of : {X : Type 0} (xs : List X) (x found : X) (n : ℕ) → slice_get (xs ++ x ∷ []) n ≡ Some found
+    → ((slice_get xs n ≡ Some found) × (take n (xs ++ x ∷ []) ≡ take n xs)) ⊎ ((found ≡ x) × (take n (xs ++ x ∷ []) ≡ xs))
+place_of [] x found zero is = let same : found ≡ x = cc in inr (same, refl)
+place_of [] x found (suc n) is = absurd (cc)
+place_of (y ∷ xs) x found zero is = inl (is, refl)
+place_of (y ∷ xs) x found (suc n) is =
+    ⊎_elim (λ front. inl (front.0, ap (λ ys. y ∷ ys) front.1)) (λ end. inr (end.0, ap (λ ys. y ∷ ys) end.1)) (place_of xs x found n is)
+
+module _ {R : Type 0} (fits : List R → R → Bool) where
+  pub fits_none : EachFits fits []
+  fits_none = record { each = λ n rec is. absurd (cc) }
+
+  pub fits_more : (log : List R) (rec : R) → EachFits fits log → fits log rec ≡ true → EachFits fits (log ++ rec ∷ [])
+  fits_more log rec all last = record {
+    each = λ n found is. ⊎_elim
+        (λ front. subst (λ before. fits before found ≡ true) (sym front.1) (all.each n found front.0))
+        (λ end. subst (λ before. fits before found ≡ true) (sym end.1) (ap (fits log) end.0 ∙ last))
+        (place_of log rec found n is);
+  }
+
+  -- a payload more is read
+  pub fits_step : (decode : List ℕ → Option R) (log : List R) (payload : List ℕ) (next : List R) → EachFits fits log → log_step decode fits log payload ≡ Some next → EachFits fits next
+  fits_step decode log payload next all step =
+      let a = adds decode fits log payload next step in
+      subst (λ l. EachFits fits l) (sym a.is) (fits_more log a.rec all a.fitted)
 
 -- what may be doubtful now, as records
 pub which_record : {R : Type 0} (decode : List ℕ → Option R) (old new : Option (List ℕ)) (payload : List ℕ) (rec : R) → decode payload ≡ Some rec → (new ≡ None) ⊎ ((new ≡ old) ⊎ (new ≡ Some payload))
@@ -208,10 +237,11 @@ module _ {D R : Type 0} (disks : Ghosts D) (decode : List ℕ → Option R) (fit
   -- once its record is appended
   pub adds_ok : {E : Type 0} (old new : State D) (log : List R) (rec : R) (payload : List ℕ) (position : ℕ) → KeepsLog disks decode fits spelling old log → decode payload ≡ Some rec → fits log rec ≡ true → payload ≡ spelling rec
       → new.sizes ≡ old.sizes ++ length payload ∷ [] → new.log ≡ with_further old.log (Some payload) → IsSettled new → new.limits ≡ old.limits → position ≡ length new.sizes
+      → is_some (disks.content new.disk) ≡ is_some (disks.content old.disk)
       → Leaves disks old.disk new.disk (StandsFor new.limits.largest new.log new.further) (MayHave old.limits.largest old.log old.further payload)
       → KeepsLog disks decode fits spelling new (log ++ rec ∷ [])
       × AddsRecord {E = E} disks (log_in decode fits) rec (log_state decode old log) (log_state decode new (log ++ rec ∷ [])) (Ok position)
-  adds_ok old new log rec payload position keeps decoded fitted spelled sized longer settled same place crash =
+  adds_ok old new log rec payload position keeps decoded fitted spelled sized longer settled same place told crash =
       let after = keeps_more old new log rec payload keeps decoded fitted spelled sized longer settled.nothing (record { each = crash.safe }) in (
         after,
         record {
@@ -220,6 +250,7 @@ module _ {D R : Type 0} (disks : Ghosts D) (decode : List ℕ → Option R) (fit
           settled = settled_log new (log ++ rec ∷ []) settled;
           limits = same;
           further = tt;
+          told = told;
           acknowledged = keeps_settled new (log ++ rec ∷ []) after settled.nothing;
           crash = leaves_append old new log (log ++ rec ∷ []) rec payload keeps after decoded fitted crash;
         },
@@ -228,10 +259,11 @@ module _ {D R : Type 0} (disks : Ghosts D) (decode : List ℕ → Option R) (fit
   -- once it is refused by the journal
   pub adds_err : {E : Type 0} (old new : State D) (log : List R) (rec : R) (payload : List ℕ) (why : E) → KeepsLog disks decode fits spelling old log → decode payload ≡ Some rec → fits log rec ≡ true
       → new.sizes ≡ old.sizes → new.log ≡ old.log → new.limits ≡ old.limits → (new.further ≡ None) ⊎ ((new.further ≡ old.further) ⊎ (new.further ≡ Some payload))
+      → is_some (disks.content new.disk) ≡ is_some (disks.content old.disk)
       → Leaves disks old.disk new.disk (StandsFor new.limits.largest new.log new.further) (MayHave old.limits.largest old.log old.further payload)
       → KeepsLog disks decode fits spelling new log
       × AddsRecord disks (log_in decode fits) rec (log_state decode old log) (log_state decode new log) (Err why)
-  adds_err old new log rec payload why keeps decoded fitted sized same_log same which crash =
+  adds_err old new log rec payload why keeps decoded fitted sized same_log same which told crash =
       let after = keeps_same old new log rec payload keeps decoded fitted sized same_log which (record { each = crash.safe }) in (
         after,
         record {
@@ -240,6 +272,7 @@ module _ {D R : Type 0} (disks : Ghosts D) (decode : List ℕ → Option R) (fit
           settled = tt;
           limits = same;
           further = which_record decode old.further new.further payload rec decoded which;
+          told = told;
           acknowledged = tt;
           crash = leaves_append old new log log rec payload keeps after decoded fitted crash;
         },
@@ -254,6 +287,7 @@ module _ {D R : Type 0} (disks : Ghosts D) (decode : List ℕ → Option R) (fit
     settled = tt;
     limits = refl;
     further = inr (inl refl);
+    told = refl;
     acknowledged = tt;
     crash = leaves_still only_now journal log rec keeps;
   }
@@ -261,9 +295,10 @@ module _ {D R : Type 0} (disks : Ghosts D) (decode : List ℕ → Option R) (fit
   -- once a doubtful record is settled, or not
   pub resolves_log : {E : Type 0} (result : Result (Unit {0}) E) (old new : State D) (log : List R) → KeepsLog disks decode fits spelling old log → new.sizes ≡ old.sizes → new.log ≡ old.log → new.limits ≡ old.limits
       → OnOk result (IsSettled new) → OnErr result ((new.doubtful ≡ old.doubtful) × (new.further ≡ old.further))
+      → is_some (disks.content new.disk) ≡ is_some (disks.content old.disk)
       → Leaves disks old.disk new.disk (StandsFor new.limits.largest new.log new.further) (StandsFor old.limits.largest old.log old.further)
       → KeepsLog disks decode fits spelling new log × ResolvesLog disks (log_in decode fits) (log_state decode old log) (log_state decode new log) result
-  resolves_log {E} result old new log keeps sized same_log same settled refused crash =
+  resolves_log {E} result old new log keeps sized same_log same settled refused told crash =
       let after = keeps_resolved result old new log keeps sized same_log settled refused (record { each = crash.safe }) in (
         after,
         record {
@@ -271,6 +306,7 @@ module _ {D R : Type 0} (disks : Ghosts D) (decode : List ℕ → Option R) (fit
           settled = settled_at result settled;
           limits = same;
           refused = refused_at result refused;
+          told = told;
           acknowledged = settled_on_ok result new log after settled;
           crash = leaves_resolve old new log keeps after crash;
         },

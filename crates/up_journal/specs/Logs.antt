@@ -1,6 +1,6 @@
 -- What the records of a journal stand for where the state is the list of them, whatever they are: a reader above the journal says
 -- which record a payload decodes to, and which record fits behind others. This project's own.
-use Rattle.std.specs.Prelude.{◌≡◌, ◌≢◌, ◌⊎◌, ℕ, Bool, false, if◌then◌else◌, List, [], ◌∷◌, ◌++◌, length, map, is_ok, Option, Some, None, option_and_then, Result, Ok, IfOk, IfSome, OnErr, OnOk}
+use Rattle.std.specs.Prelude.{◌≡◌, ◌≢◌, ◌⊎◌, ℕ, Bool, true, false, if◌then◌else◌, List, [], ◌∷◌, ◌++◌, length, map, take, slice_get, is_ok, is_some, Option, Some, None, option_and_then, Result, Ok, IfOk, IfSome, OnErr, OnOk}
 use Rattle.up_disk.specs.declared.disk.Disk.{Ghosts}
 use Rattle.up_journal.specs.Crashes.{Leaves, LeavesNow}
 use Rattle.up_journal.specs.Damages.{Damage}
@@ -14,6 +14,10 @@ use Rattle.up_journal.specs.declared.limits.Limits.{Limits}
 -- the log with a record at its end, where it fits
 abbrev pub grown : {R : Type 0} → (List R → R → Bool) → List R → R → Option (List R)
 grown fits log rec = if fits log rec then Some (log ++ rec ∷ []) else None
+
+-- each record fits those before it
+pub record EachFits {R : Type 0} (fits : List R → R → Bool) (log : List R) : Type 0 where
+  pub each : (n : ℕ) (rec : R) → slice_get log n ≡ Some rec → fits (take n log) rec ≡ true
 
 -- the log with a payload's record at its end, where it decodes and fits
 abbrev pub log_step : {R : Type 0} → (List ℕ → Option R) → (List R → R → Bool) → List R → List ℕ → Option (List R)
@@ -75,22 +79,25 @@ pub record RefusesLog {D R : Type 0} (disks : Ghosts D) (read : ℕ → List ℕ
   pub synced : fault.why ≢ open_why.Fault → LeavesNow disks fault.disk (IsReadAs limits.largest (disks.content disk))
 
 -- A record was added, or was refused and the log is as before. Once it is acknowledged, each crash leaves the log with it. A crash
--- since the call began left the log, or the log with the doubtful record or with the one in hand.
+-- since the call began left the log, or the log with the doubtful record or with the one in hand. The disk tells its content after
+-- the call exactly where it did before.
 pub record AddsRecord {D R E : Type 0} (disks : Ghosts D) (read : ℕ → List ℕ → Result (List R) Damage) (rec : R) (old new : LogState D R) (result : Result ℕ E) : Type 0 where
   pub log : new.log ≡ (if is_ok result then old.log ++ rec ∷ [] else old.log)
   pub position : IfOk result (λ position. position ≡ length new.log)
   pub settled : OnOk result (IsSettledLog new)
   pub limits : new.limits ≡ old.limits
   pub further : OnErr result (IsFurther old.further rec new.further)
+  pub told : is_some (disks.content new.disk) ≡ is_some (disks.content old.disk)
   pub acknowledged : OnOk result (LeavesNow disks new.disk (λ image. read new.limits.largest image ≡ Ok new.log))
   pub crash : Leaves disks old.disk new.disk (StandsForLog (read new.limits.largest) new.log new.further) (MayHaveLog (read old.limits.largest) old.log old.further rec)
 
--- A doubtful record was settled, or is as before.
+-- A doubtful record was settled, or is as before. The disk tells its content after the call exactly where it did before.
 pub record ResolvesLog {D R E : Type 0} (disks : Ghosts D) (read : ℕ → List ℕ → Result (List R) Damage) (old new : LogState D R) (result : Result (Unit {0}) E) : Type 0 where
   pub log : new.log ≡ old.log
   pub settled : OnOk result (IsSettledLog new)
   pub limits : new.limits ≡ old.limits
   pub refused : OnErr result ((new.doubtful ≡ old.doubtful) × (new.further ≡ old.further))
+  pub told : is_some (disks.content new.disk) ≡ is_some (disks.content old.disk)
   pub acknowledged : OnOk result (LeavesNow disks new.disk (λ image. read new.limits.largest image ≡ Ok new.log))
   pub crash : Leaves disks old.disk new.disk (StandsForLog (read new.limits.largest) new.log new.further) (StandsForLog (read old.limits.largest) old.log old.further)
 

@@ -61,7 +61,8 @@ pub fn gathered<D: Disk>(
     ensures named { IfOk result (λ image. take first_gate image.items ≡ format2.name) }
     ensures long { IfOk result (λ image. length image.items ≡ size) }
     ensures read { OnlyRead D.Disk disk.old disk.new }
-    ensures counts { HasCause (D.faults disk.old) (D.faults disk.new) (IsErrOf result ReadWhy.Fault) }
+    ensures counts { HasCause (D.faults disk.old) (D.faults disk.new)
+        (IsErrOf result ReadWhy.Fault) }
 {
     let mut so_far = Gathering {
         image: Vec::with_capacity(alloc, size as usize)?,
@@ -89,7 +90,8 @@ fn gather<D: Disk>(disk: &mut D, so_far: &mut Gathering, span: Span) -> Result<(
     ensures long { OnOk result (length so_far.new.image.items
         ≡ length so_far.old.image.items + (span.size + head_size)) }
     ensures read { OnlyRead D.Disk disk.old disk.new }
-    ensures counts { HasCause (D.faults disk.old) (D.faults disk.new) (IsErrOf result ReadWhy.Fault) }
+    ensures counts { HasCause (D.faults disk.old) (D.faults disk.new)
+        (IsErrOf result ReadWhy.Fault) }
 {
     read_record(disk, &mut so_far.payload, span.at, span.size as usize)?;
     so_far.link = add_record(&mut so_far.image, so_far.link, &so_far.payload)?;

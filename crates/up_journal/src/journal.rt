@@ -181,11 +181,13 @@ impl<D: Disk> Journal<D> {
         requires last { n ≤ length self.old.sizes }
         ensures payload { IfOk result (λ bytes.
             IfSome self.old.log (λ log. slice_get log (n - 1) ≡ Some bytes)) }
-        ensures size { IfOk result (λ bytes. slice_get self.old.sizes (n - 1) ≡ Some (length bytes)) }
+        ensures size { IfOk result
+            (λ bytes. slice_get self.old.sizes (n - 1) ≡ Some (length bytes)) }
         ensures unchanged { self.new ≡ record self.old { disk = self.new.disk } }
         ensures content { D.content self.new.disk ≡ D.content self.old.disk }
         ensures fewer { LeavesNow D.Disk self.new.disk (D.may_leave self.old.disk) }
-        ensures counts { HasCause (D.faults self.old.disk) (D.faults self.new.disk) (IsErrOf result ReadWhy.Fault) }
+        ensures counts { HasCause (D.faults self.old.disk) (D.faults self.new.disk)
+            (IsErrOf result ReadWhy.Fault) }
         ensures memory { IsErrOf result ReadWhy.OutOfMemory → self.new ≡ self.old }
         ensures crash { Leaves D.Disk self.old.disk self.new.disk
             (StandsFor self.new.limits.largest self.new.log self.new.further)
@@ -203,11 +205,13 @@ impl<D: Disk> Journal<D> {
         ensures payload { IfOk result (λ bytes.
             IfSome self.old.log (λ log. option_map (drop 1) (slice_get log (n - 1)) ≡ Some bytes)) }
         ensures size { IfOk result (λ bytes.
-            option_map (λ size. size - 1) (slice_get self.old.sizes (n - 1)) ≡ Some (length bytes)) }
+            option_map (λ size. size - 1) (slice_get self.old.sizes (n - 1))
+            ≡ Some (length bytes)) }
         ensures unchanged { self.new ≡ record self.old { disk = self.new.disk } }
         ensures content { D.content self.new.disk ≡ D.content self.old.disk }
         ensures fewer { LeavesNow D.Disk self.new.disk (D.may_leave self.old.disk) }
-        ensures counts { HasCause (D.faults self.old.disk) (D.faults self.new.disk) (IsErrOf result ReadWhy.Fault) }
+        ensures counts { HasCause (D.faults self.old.disk) (D.faults self.new.disk)
+            (IsErrOf result ReadWhy.Fault) }
         ensures memory { IsErrOf result ReadWhy.OutOfMemory → self.new ≡ self.old }
         ensures crash { Leaves D.Disk self.old.disk self.new.disk
             (StandsFor self.new.limits.largest self.new.log self.new.further)
@@ -233,11 +237,13 @@ impl<D: Disk> Journal<D> {
     pub fn append(&mut self, payload: &[u8]) -> Result<u64, AppendWhy>
         requires { length payload.now ≤ self.old.limits.largest }
 
-        ensures appended { OnOk result (self.new.log ≡ with_further self.old.log (Some payload.now)) }
+        ensures appended { OnOk result
+            (self.new.log ≡ with_further self.old.log (Some payload.now)) }
         ensures sizes { self.new.sizes
             ≡ (if is_ok result then self.old.sizes ++ length payload.now ∷ [] else self.old.sizes) }
         ensures head { self.new.head
-            ≡ (if is_ok result then sha256 (record_bytes self.old.head payload.now) else self.old.head) }
+            ≡ (if is_ok result then sha256 (record_bytes self.old.head payload.now)
+            else self.old.head) }
         ensures position { IfOk result (λ position. position ≡ length self.new.sizes) }
         ensures settled { OnOk result (IsSettled self.new) }
         ensures limits { self.new.limits ≡ self.old.limits }
@@ -245,7 +251,8 @@ impl<D: Disk> Journal<D> {
         // Byte for byte: the device is as it was, but for an open gate in place of the closed one, and the record and a
         // closed gate behind it.
         ensures written { OnOk result (D.content self.new.disk
-            ≡ option_map (written (gate_behind self.old.sizes) (1 ∷ behind_gate self.old.head payload.now))
+            ≡ option_map (written (gate_behind self.old.sizes)
+            (1 ∷ behind_gate self.old.head payload.now))
             (D.content self.old.disk)) }
 
         // When it is refused, and what stays then.
@@ -258,7 +265,9 @@ impl<D: Disk> Journal<D> {
         ensures log { OnErr result (self.new.log ≡ self.old.log) }
         ensures further { OnErr result ((self.new.further ≡ None)
             ⊎ ((self.new.further ≡ self.old.further) ⊎ (self.new.further ≡ Some payload.now))) }
-        ensures counts { HasCause (D.faults self.old.disk) (D.faults self.new.disk) (IsErrOf result AppendWhy.Fault) }
+        ensures told { is_some (D.content self.new.disk) ≡ is_some (D.content self.old.disk) }
+        ensures counts { HasCause (D.faults self.old.disk) (D.faults self.new.disk)
+            (IsErrOf result AppendWhy.Fault) }
 
         // What a crash leaves now, and what it might have left since the call began.
         ensures crash { Leaves D.Disk self.old.disk self.new.disk
@@ -284,14 +293,17 @@ impl<D: Disk> Journal<D> {
     /// doubtful record calls no disk.
     pub fn resolve(&mut self) -> Result<(), Failed>
         ensures settled { OnOk result (IsSettled self.new) }
-        ensures refused { OnErr result ((self.new.doubtful ≡ self.old.doubtful) × (self.new.further ≡ self.old.further)) }
+        ensures refused { OnErr result
+            ((self.new.doubtful ≡ self.old.doubtful) × (self.new.further ≡ self.old.further)) }
         ensures untouched { self.old.doubtful ≡ false → IsOk result × (self.new ≡ self.old) }
         ensures closed { OnOk result (self.old.doubtful ≡ true → D.content self.new.disk
-            ≡ option_map (written (gate_behind self.old.sizes) (0 ∷ [])) (D.content self.old.disk)) }
+            ≡ option_map (written (gate_behind self.old.sizes) (0 ∷ []))
+            (D.content self.old.disk)) }
         ensures log { self.new.log ≡ self.old.log }
         ensures sizes { self.new.sizes ≡ self.old.sizes }
         ensures head { self.new.head ≡ self.old.head }
         ensures limits { self.new.limits ≡ self.old.limits }
+        ensures told { is_some (D.content self.new.disk) ≡ is_some (D.content self.old.disk) }
         ensures counts { HasCause (D.faults self.old.disk) (D.faults self.new.disk) (IsErr result) }
         ensures crash { Leaves D.Disk self.old.disk self.new.disk
             (StandsFor self.new.limits.largest self.new.log self.new.further)

@@ -8,7 +8,8 @@
 //! `Ok` of `append` each crash leaves the log with the new record (`safe`, `appended`). `open` gives exactly the log of the
 //! image, or the place of the first gate that is damaged, or at which a link is not the digest of the record before; `Full`
 //! comes exactly at the limits and before any call of the disk; a fault comes only where the disk's count rose. A disk over a
-//! real file tells nothing, and what these clauses say of images is then empty.
+//! real file tells nothing, and what these clauses say of images is then empty. A disk tells its content after a call, refused
+//! or not, exactly where it did before (`told` of `append` and `resolve`, `opened` of `open`, `content` of the reads).
 //!
 //! [`same_heads`] answers yes exactly where two journals have equally many records and the same head (`exact`); their logs
 //! are then equal, or two different byte strings among their records have one SHA-256 (`meaning`).

@@ -36,7 +36,8 @@ pub fn old_spans<D: Disk>(alloc: Global, disk: &mut D, largest: u64) -> Result<V
         (λ bytes. old_log_of largest bytes ≡ Err (Damaged place)) }
     ensures not_full { (n : ℕ) → result ≡ Err (MoveWhy.Full n) → ⊥ }
     ensures read { OnlyRead D.Disk disk.old disk.new }
-    ensures counts { HasCause (D.faults disk.old) (D.faults disk.new) (IsErrOf result MoveWhy.Fault) }
+    ensures counts { HasCause (D.faults disk.old) (D.faults disk.new)
+        (IsErrOf result MoveWhy.Fault) }
 {
     let device = disk.size();
     if device <= NEW.len() as u64 {
@@ -70,7 +71,8 @@ fn read_old_gates<D: Disk>(
         (λ bytes. old_log_of largest bytes ≡ Err (Damaged place)) }
     ensures not_full { (n : ℕ) → result ≡ Err (MoveWhy.Full n) → ⊥ }
     ensures read { OnlyRead D.Disk disk.old disk.new }
-    ensures counts { HasCause (D.faults disk.old) (D.faults disk.new) (IsErrOf result MoveWhy.Fault) }
+    ensures counts { HasCause (D.faults disk.old) (D.faults disk.new)
+        (IsErrOf result MoveWhy.Fault) }
 {
     let mut found = OldFound {
         spans: Vec::new(alloc),
@@ -101,7 +103,8 @@ fn next_old<D: Disk>(
         (λ bytes. old_log_of largest bytes ≡ Err (Damaged place)) }
     ensures not_full { (n : ℕ) → result ≡ Err (MoveWhy.Full n) → ⊥ }
     ensures read { OnlyRead D.Disk disk.old disk.new }
-    ensures counts { HasCause (D.faults disk.old) (D.faults disk.new) (IsErrOf result MoveWhy.Fault) }
+    ensures counts { HasCause (D.faults disk.old) (D.faults disk.new)
+        (IsErrOf result MoveWhy.Fault) }
 {
     let size = match read_gate(disk, found.gate, device, OLD_HEAD, largest)? {
         Gate::Closed => return Ok(false),

@@ -42,7 +42,8 @@ pub fn find<D: Disk>(alloc: Global, disk: &mut D, limits: Limits) -> Result<Foun
     ensures synced { IfErr result (λ why. why ≢ OpenWhy.Fault → (image : List ℕ)
         → D.may_leave disk.new image → IsReadAs limits.largest (D.content disk.old) image) }
     ensures opened { IsOpened D.Disk limits.largest disk.old disk.new }
-    ensures counts { HasCause (D.faults disk.old) (D.faults disk.new) (IsErrOf result OpenWhy.Fault) }
+    ensures counts { HasCause (D.faults disk.old) (D.faults disk.new)
+        (IsErrOf result OpenWhy.Fault) }
 {
     disk.sync()?;
     let device = disk.size();
@@ -64,10 +65,12 @@ fn start<D: Disk>(disk: &mut D) -> Result<(), Failed>
     ensures size { OnOk result (first_gate < D.size_of disk.new) }
     ensures told { is_some (D.content disk.new) ≡ is_some (D.content disk.old) }
     ensures cause { HasCause (D.faults disk.old) (D.faults disk.new) (IsErr result) }
-    ensures begun { OnOk result (IfSome (D.content disk.new) (λ bytes. bytes ≡ format2.name ++ 0 ∷ [])) }
+    ensures begun { OnOk result
+        (IfSome (D.content disk.new) (λ bytes. bytes ≡ format2.name ++ 0 ∷ [])) }
     ensures durable { OnOk result (Only (D.content disk.new) (D.may_leave disk.new)) }
     ensures any_moment { Only (D.content disk.old) (D.may_leave disk.old) → (largest : ℕ)
-        → LeavesOnly D.moment D.left_since disk.old disk.new (IsReadAs largest (D.content disk.old)) }
+        → LeavesOnly D.moment D.left_since disk.old disk.new
+        (IsReadAs largest (D.content disk.old)) }
 {
     disk.write_at(0, &NEW)?;
     disk.sync()
@@ -76,10 +79,13 @@ fn start<D: Disk>(disk: &mut D) -> Result<(), Failed>
 // Refuses a device of the first format, and one with another name.
 fn check_name<D: Disk>(disk: &mut D) -> Result<(), OpenWhy>
     requires { new_size < D.size_of disk.old }
-    ensures named { OnOk result (IfSome (D.content disk.old) (λ bytes. has_name format2 bytes ≡ true)) }
-    ensures damaged { (largest : ℕ) → IfErr result (IsDamageOf (log_of largest) (D.content disk.old)) }
+    ensures named { OnOk result
+        (IfSome (D.content disk.old) (λ bytes. has_name format2 bytes ≡ true)) }
+    ensures damaged { (largest : ℕ)
+        → IfErr result (IsDamageOf (log_of largest) (D.content disk.old)) }
     ensures read { OnlyRead D.Disk disk.old disk.new }
-    ensures counts { HasCause (D.faults disk.old) (D.faults disk.new) (IsErrOf result OpenWhy.Fault) }
+    ensures counts { HasCause (D.faults disk.old) (D.faults disk.new)
+        (IsErrOf result OpenWhy.Fault) }
 {
     let name = read_name(disk)?;
     if name.as_slice() == NAME.as_slice() {
@@ -108,7 +114,8 @@ fn read_gates<D: Disk>(
         IfSome (D.content disk.new) (λ bytes. is_open (drop found.gate bytes) ≡ false)) }
     ensures damaged { IfErr result (IsDamageOf (log_of largest) (D.content disk.old)) }
     ensures read { OnlyRead D.Disk disk.old disk.new }
-    ensures counts { HasCause (D.faults disk.old) (D.faults disk.new) (IsErrOf result OpenWhy.Fault) }
+    ensures counts { HasCause (D.faults disk.old) (D.faults disk.new)
+        (IsErrOf result OpenWhy.Fault) }
 {
     let mut buffer = Vec::new(alloc);
     let mut found = Found {
@@ -141,7 +148,8 @@ fn next_record<D: Disk>(
     ensures further { result ≡ Ok true → found.old.gate < found.new.gate }
     ensures damaged { IfErr result (IsDamageOf (log_of largest) (D.content disk.old)) }
     ensures read { OnlyRead D.Disk disk.old disk.new }
-    ensures counts { HasCause (D.faults disk.old) (D.faults disk.new) (IsErrOf result OpenWhy.Fault) }
+    ensures counts { HasCause (D.faults disk.old) (D.faults disk.new)
+        (IsErrOf result OpenWhy.Fault) }
 {
     let size = match read_gate(disk, found.gate, device, HEAD, largest)? {
         Gate::Closed => return Ok(false),
@@ -165,7 +173,8 @@ fn next_record<D: Disk>(
 fn other_link(bytes: &[u8], link: Reference) -> Option<Reference>
     requires { 36 ≤ length bytes.now }
     ensures same { result ≡ None → bytes_eq (part 4 32 bytes.now) link ≡ true }
-    ensures other { IfSome result (λ other. (other ≡ part 4 32 bytes.now) × (bytes_eq other link ≡ false)) }
+    ensures other { IfSome result
+        (λ other. (other ≡ part 4 32 bytes.now) × (bytes_eq other link ≡ false)) }
 {
     let carried = &bytes[4..36];
     if carried == link.bytes().as_slice() {

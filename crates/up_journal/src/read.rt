@@ -20,7 +20,8 @@ pub fn read_span<D: Disk>(alloc: Global, disk: &mut D, span: Span) -> Result<Byt
     ensures bytes { IfOk result (λ found. IfSome (D.content disk.old)
         (λ bytes. found ≡ part span.at span.size bytes)) }
     ensures read { OnlyRead D.Disk disk.old disk.new }
-    ensures counts { HasCause (D.faults disk.old) (D.faults disk.new) (IsErrOf result ReadWhy.Fault) }
+    ensures counts { HasCause (D.faults disk.old) (D.faults disk.new)
+        (IsErrOf result ReadWhy.Fault) }
     ensures memory { IsErrOf result ReadWhy.OutOfMemory → disk.new ≡ disk.old }
 {
     let mut bytes = vec![in alloc; 0u8; span.size as usize]?;
@@ -40,7 +41,8 @@ pub fn read_record<D: Disk>(
     ensures bytes { OnOk result (IfSome (D.content disk.old)
         (λ bytes. buffer.new.items ≡ part at length bytes)) }
     ensures read { OnlyRead D.Disk disk.old disk.new }
-    ensures counts { HasCause (D.faults disk.old) (D.faults disk.new) (IsErrOf result ReadWhy.Fault) }
+    ensures counts { HasCause (D.faults disk.old) (D.faults disk.new)
+        (IsErrOf result ReadWhy.Fault) }
 {
     buffer.resize(length, 0)?;
     disk.read(at, buffer.as_mut_slice())?;

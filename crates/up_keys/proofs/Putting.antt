@@ -1,5 +1,5 @@
 -- A record that is put, or refused.
-use Rattle.std.proofs.Common.{◌≡◌, ◌≢◌, ◌≤◌, ℕ, true, List, [], ◌∷◌, ◌++◌, length, Option, Some, None, Result, Ok, Err, IsErrAnd, refl, sym, ◌∙◌, ap, subst, ◌⊎◌, inl, inr, ⊎_elim, option_map, slice_get}
+use Rattle.std.proofs.Common.{◌≡◌, ◌≢◌, ◌≤◌, ℕ, true, List, [], ◌∷◌, ◌++◌, length, Option, Some, None, is_some, Result, Ok, Err, IsErrAnd, refl, sym, ◌∙◌, ap, subst, ◌⊎◌, inl, inr, ⊎_elim, option_map, slice_get}
 use Rattle.std.proofs.lemmas.List.Sums.{fold-append}
 use Rattle.std.specs.FinMap.Entries.{find, put}
 use Rattle.std.specs.Option.{option_and_then}
@@ -9,11 +9,11 @@ use Rattle.up_disk.specs.declared.disk.Disk.{Ghosts}
 use Rattle.up_disk.proofs.Moments.{started}
 use Rattle.up_journal.specs.Crashes.{Leaves, LeavesNow}
 use Rattle.up_journal.specs.Journal.{IsSettled, MayHave, StandsFor, State, is_full, with_further}
-use Rattle.up_journal.specs.Logs.{LogState, MayHaveLog, StandsForLog, log_state}
+use Rattle.up_journal.specs.Logs.{EachFits, LogState, MayHaveLog, StandsForLog, log_state}
 use Rattle.up_journal.specs.declared.fault.AppendWhy.{AppendWhy}
 use Rattle.up_journal.specs.declared.fault.AppendWhy.TheVariants as append
 use Rattle.up_journal.specs.declared.limits.Limits.{Limits}
-use Rattle.up_journal.proofs.Logs.{adds_err, adds_none, adds_ok, keeps_full, keeps_len}
+use Rattle.up_journal.proofs.Logs.{adds_err, adds_none, adds_ok, fits_more, fits_none, keeps_full, keeps_len}
 use Rattle.up_keys.specs.Keys.{AreLast, IsKeys, PutsRecord}
 use Rattle.up_keys.specs.Answers.{PutsAsked}
 use Rattle.up_keys.specs.Records.{decoded, fits, has_bounds, keys_of, largest_room, record_in, records_in, user_cmp, with_record}
@@ -35,6 +35,10 @@ pub last_more : (log : List KeyRecord) (known : KeyRecord) (last : List (UserNam
 last_more log known last are =
     subst (λ keys. AreNumbers Some (log ++ known ∷ []) (put user_cmp known.user (length log) last) keys) (sym (keys_more log known))
     (numbers_put Some user_cmp log known known.user known last (keys_of log) are refl)
+
+-- where there is no record yet, each fits
+pub none_fit : (log : List KeyRecord) → log ≡ [] → EachFits fits log
+none_fit log none = subst (λ l. EachFits fits l) (sym none) (fits_none fits)
 
 abbrev fails : AppendWhy → Result ℕ AppendWhy
 fails reason = Err reason
@@ -67,12 +71,18 @@ module _ {D : Type 0} (disks : Ghosts D) where
     -- once its record is appended
     pub entered : (position : ℕ) → IsKeys disks old log last → has_bounds known ≡ true → decoded (logged known) ≡ Some known → payload ≡ logged known
         → new.sizes ≡ old.sizes ++ length payload ∷ [] → new.log ≡ with_further old.log (Some payload) → IsSettled new → new.limits ≡ old.limits → position ≡ length new.sizes
+        → is_some (disks.content new.disk) ≡ is_some (disks.content old.disk)
         → Leaves disks old.disk new.disk (StandsFor new.limits.largest new.log new.further) (MayHave old.limits.largest old.log old.further payload)
         → (is_full old.limits old.sizes (length payload) ≡ true → ⊥) → HasCause (disks.faults old.disk) (disks.faults new.disk) ⊥
         → IsKeys disks new (log ++ known ∷ []) (put user_cmp known.user (length log) last) × PutsRecord disks known (log_state decoded old log) (log_state decoded new (log ++ known ∷ [])) (Ok position)
-    entered position kept bounds again spelled sized longer settled same place crash room cause =
-        let adds = adds_ok disks decoded fits logged old new log known payload position kept.keeps (read_again again spelled) bounds spelled sized longer settled same place crash in (
-          record { keeps = adds.0; last_are = last_more log known last kept.last_are; room = subst (λ (l : Limits). largest_room ≤ l.largest) (sym same) kept.room },
+    entered position kept bounds again spelled sized longer settled same place told crash room cause =
+        let adds = adds_ok disks decoded fits logged old new log known payload position kept.keeps (read_again again spelled) bounds spelled sized longer settled same place told crash in (
+          record {
+            keeps = adds.0;
+            fitting = fits_more fits log known kept.fitting bounds;
+            last_are = last_more log known last kept.last_are;
+            room = subst (λ (l : Limits). largest_room ≤ l.largest) (sym same) kept.room;
+          },
           record {
             added = adds.1;
             full = λ full _. absurd (room (keeps_full disks decoded fits logged old log known payload kept.keeps spelled ∙ full));
@@ -85,16 +95,17 @@ module _ {D : Type 0} (disks : Ghosts D) where
     -- once it is refused by the journal
     pub not_entered : (a : AppendWhy) → IsKeys disks old log last → has_bounds known ≡ true → decoded (logged known) ≡ Some known → payload ≡ logged known
         → new.sizes ≡ old.sizes → new.log ≡ old.log → new.limits ≡ old.limits → (new.further ≡ None) ⊎ ((new.further ≡ old.further) ⊎ (new.further ≡ Some payload))
+        → is_some (disks.content new.disk) ≡ is_some (disks.content old.disk)
         → Leaves disks old.disk new.disk (StandsFor new.limits.largest new.log new.further) (MayHave old.limits.largest old.log old.further payload)
         → (is_full old.limits old.sizes (length payload) ≡ true → a ≡ append.Full (length old.sizes))
         → ((n : ℕ) → a ≡ append.Full n → (is_full old.limits old.sizes (length payload) ≡ true) × (n ≡ length old.sizes))
         → (a ≢ append.Fault → new ≡ old) → HasCause (disks.faults old.disk) (disks.faults new.disk) (a ≡ append.Fault)
         → IsKeys disks new log last × PutsRecord disks known (log_state decoded old log) (log_state decoded new log) (Err a)
-    not_entered a kept bounds again spelled sized same_log same which crash full full_only untouched cause =
-        let adds = adds_err disks decoded fits logged old new log known payload a kept.keeps (read_again again spelled) bounds sized same_log same which crash in
+    not_entered a kept bounds again spelled sized same_log same which told crash full full_only untouched cause =
+        let adds = adds_err disks decoded fits logged old new log known payload a kept.keeps (read_again again spelled) bounds sized same_log same which told crash in
         let limit = keeps_full disks decoded fits logged old log known payload kept.keeps spelled in
         let count = keeps_len disks decoded fits logged old log kept.keeps in (
-          record { keeps = adds.0; last_are = kept.last_are; room = subst (λ (l : Limits). largest_room ≤ l.largest) (sym same) kept.room },
+          record { keeps = adds.0; fitting = kept.fitting; last_are = kept.last_are; room = subst (λ (l : Limits). largest_room ≤ l.largest) (sym same) kept.room },
           record {
             added = adds.1;
             full = λ is_full _. ap Err (full (limit ∙ is_full) ∙ ap append.Full count);
@@ -162,6 +173,7 @@ module _ {D : Type 0} (disks : Ghosts D) (only_now : (disk : D) (image : List �
       settled = tt;
       limits = refl;
       further = inr (inl refl);
+      told = refl;
       acknowledged = tt;
       crash = record {
         safe = safe.each;

@@ -3,7 +3,7 @@ use Rattle.std.specs.Prelude.{◌≡◌, ◌≢◌, ◌≤◌, ℕ, true, List, 
 use Rattle.up_disk.specs.declared.disk.Disk.{Ghosts}
 use Rattle.up_faults.specs.Counts.{HasCause}
 use Rattle.up_journal.specs.Journal.{State, is_full}
-use Rattle.up_journal.specs.Logs.{AddsRecord, KeepsLog, LogState}
+use Rattle.up_journal.specs.Logs.{AddsRecord, EachFits, KeepsLog, LogState}
 use Rattle.up_journal.specs.declared.fault.AppendWhy.{AppendWhy}
 use Rattle.up_journal.specs.declared.fault.AppendWhy.TheVariants as append
 use Rattle.up_journal.specs.declared.fault.OpenFault.{OpenFault}
@@ -42,8 +42,9 @@ pub record PutsRecord {D : Type 0} (disks : Ghosts D) (known : KeyRecord) (old n
 abbrev pub AreLast : List KeyRecord → List (UserName × ℕ) → Type 0
 AreLast records last = AreNumbers Some records last (keys_of records)
 
--- the journal has the records, the numbers are those of the last ones, and a record keeps the journal's limit
+-- the journal has the records, each of which fits, the numbers are those of the last ones, and a record keeps the journal's limit
 pub record IsKeys {D : Type 0} (disks : Ghosts D) (journal : State D) (records : List KeyRecord) (last : List (UserName × ℕ)) : Type 0 where
   pub keeps : KeepsLog disks decoded fits logged journal records
+  pub fitting : EachFits fits records
   pub last_are : AreLast records last
   pub room : largest_room ≤ journal.limits.largest

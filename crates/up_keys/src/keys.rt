@@ -6,9 +6,9 @@ ghost use Rattle.up_faults.specs.Counts.{HasCause};
 ghost use Rattle.up_journal.specs.Crashes.{IsOpened, LeavesNow};
 ghost use Rattle.up_journal.specs.Journal.{AreLimits};
 ghost use Rattle.up_journal.specs.Opened.{IsRefusedFor};
-ghost use Rattle.up_journal.specs.Logs.{OpensLog, RefusesLog, ResolvesLog, StandsForLog};
+ghost use Rattle.up_journal.specs.Logs.{EachFits, OpensLog, RefusesLog, ResolvesLog, StandsForLog};
 ghost use Rattle.up_keys.specs.Keys.{PutsRecord, disk_after, limits_of, log_of};
-ghost use Rattle.up_keys.specs.Records.{decoded, has_bounds, largest_room, record_in, records_in};
+ghost use Rattle.up_keys.specs.Records.{decoded, fits, has_bounds, largest_room, record_in, records_in};
 ghost use Rattle.up_wire.specs.Keys.{IsSpelledKeyRecord, logged};
 
 use crate::replay::{enter, replay};
@@ -117,6 +117,7 @@ impl<D: Disk> Keys<D> {
     /// The number of records. What it says besides holds of every key server's log at every moment.
     pub fn position(&self) -> u64
         ensures count { result ≡ length self.now.log }
+        ensures fitting { EachFits fits self.now.log }
         ensures limits { AreLimits self.now.limits }
         ensures room { largest_room ≤ self.now.limits.largest }
         ensures safe { LeavesNow D.Disk self.now.disk

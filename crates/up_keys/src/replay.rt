@@ -2,7 +2,7 @@
 ghost use Rattle.std.specs.Prelude.{◌≡◌, ◌<◌, ◌++◌, ◌∷◌, [], ℕ, List, Ok, Some, None, true, false, length, IfErr, IfOk, IfSome, IsErrOf, OnOk, vec_capacity, vec_len};
 ghost use Rattle.std.specs.FinMap.Entries.{put};
 ghost use Rattle.up_faults.specs.Counts.{HasCause};
-ghost use Rattle.up_journal.specs.Logs.{log_step};
+ghost use Rattle.up_journal.specs.Logs.{EachFits, log_step};
 ghost use Rattle.up_journal.specs.Opened.{IsDamageOf};
 ghost use Rattle.up_journal.specs.Records.{OnlyPayloads, replay};
 ghost use Rattle.up_keys.specs.Keys.{AreLast, sizes_of};
@@ -35,7 +35,8 @@ pub fn enter(
     requires room { vec_len records.old < vec_capacity records.old }
     requires ready { last.old.ready ≡ true }
     ensures records { records.new.items ≡ records.old.items ++ card ∷ [] }
-    ensures entries { last.new.entries ≡ put user_cmp user (length records.old.items) last.old.entries }
+    ensures entries { last.new.entries
+        ≡ put user_cmp user (length records.old.items) last.old.entries }
 {
     last.put_reserved(user, records.len() as u64);
     records.push_reserved(card);
@@ -72,9 +73,11 @@ fn take(alloc: Global, known: &mut Known, payload: &[u8]) -> Result<bool, AllocE
     ensures last { OnOk result (AreLast known.new.records.items known.new.last.entries) }
     ensures taken { result ≡ Ok true
         → log_step decoded fits known.old.records.items payload.now ≡ Some known.new.records.items }
-    ensures not_taken { result ≡ Ok false → log_step decoded fits known.old.records.items payload.now ≡ None }
+    ensures not_taken { result ≡ Ok false
+        → log_step decoded fits known.old.records.items payload.now ≡ None }
     ensures sizes { result ≡ Ok true
-        → sizes_of known.new.records.items ≡ sizes_of known.old.records.items ++ length payload.now ∷ [] }
+        → sizes_of known.new.records.items ≡ sizes_of known.old.records.items
+        ++ length payload.now ∷ [] }
 {
     let Some(card) = decoded(alloc, payload)? else {
         return Ok(false);
@@ -95,8 +98,10 @@ pub fn replay<D: Disk>(alloc: Global, journal: &mut Journal<D>) -> Result<Known,
     ensures last { IfOk result (λ known. AreLast known.records.items known.last.entries) }
     ensures log { IfOk result (λ known. (log : List (List ℕ)) → journal.old.log ≡ Some log
         → replay (log_step decoded fits) [] log ≡ Ok known.records.items) }
+    ensures fitting { IfOk result (λ known. EachFits fits known.records.items) }
     ensures sizes { IfOk result (λ known. journal.old.sizes ≡ sizes_of known.records.items) }
-    ensures damaged { IfErr result (IsDamageOf (replay (log_step decoded fits) []) journal.old.log) }
+    ensures damaged { IfErr result
+        (IsDamageOf (replay (log_step decoded fits) []) journal.old.log) }
     ensures read { OnlyPayloads D.Disk journal.old journal.new }
     ensures counts { HasCause (D.faults journal.old.disk) (D.faults journal.new.disk)
         (IsErrOf result OpenWhy.Fault) }

@@ -111,11 +111,12 @@ module _ {D : Type 0} (disks : Ghosts D) where
     -- once its record is appended
     pub entered : (position : ℕ) → IsLedger disks old log balance → applied balance entry ≡ Some now → entry_of (record_of entry) ≡ Some entry → payload ≡ record_of entry
         → new.sizes ≡ old.sizes ++ length payload ∷ [] → new.log ≡ with_further old.log (Some payload) → IsSettled new → new.limits ≡ old.limits → position ≡ length new.sizes
+        → is_some (disks.content new.disk) ≡ is_some (disks.content old.disk)
         → Leaves disks old.disk new.disk (StandsFor new.limits.largest new.log new.further) (MayHave old.limits.largest old.log old.further payload)
         → (is_full old.limits old.sizes (length payload) ≡ true → ⊥) → HasCause (disks.faults old.disk) (disks.faults new.disk) ⊥
         → IsLedger disks new (log ++ entry ∷ []) now × Enters disks entry (log_state entry_of old log) (log_state entry_of new (log ++ entry ∷ [])) (Ok position)
-    entered position kept some again spelled sized longer settled same place crash room cause =
-        let adds = adds_ok disks entry_of fits record_of old new log entry payload position kept.keeps (decoded again spelled) (fitting log balance now entry kept.run some) spelled sized longer settled same place crash in (
+    entered position kept some again spelled sized longer settled same place told crash room cause =
+        let adds = adds_ok disks entry_of fits record_of old new log entry payload position kept.keeps (decoded again spelled) (fitting log balance now entry kept.run some) spelled sized longer settled same place told crash in (
           record { keeps = adds.0; run = run_more log balance now entry kept.run some; room = subst (λ (l : Limits). largest_record ≤ l.largest) (sym same) kept.room },
           record {
             added = adds.1;
@@ -131,13 +132,14 @@ module _ {D : Type 0} (disks : Ghosts D) where
     -- once it is refused by the journal
     pub not_entered : (a : AppendWhy) → IsLedger disks old log balance → applied balance entry ≡ Some now → entry_of (record_of entry) ≡ Some entry → payload ≡ record_of entry
         → new.sizes ≡ old.sizes → new.log ≡ old.log → new.limits ≡ old.limits → (new.further ≡ None) ⊎ ((new.further ≡ old.further) ⊎ (new.further ≡ Some payload))
+        → is_some (disks.content new.disk) ≡ is_some (disks.content old.disk)
         → Leaves disks old.disk new.disk (StandsFor new.limits.largest new.log new.further) (MayHave old.limits.largest old.log old.further payload)
         → (is_full old.limits old.sizes (length payload) ≡ true → a ≡ append.Full (length old.sizes))
         → ((n : ℕ) → a ≡ append.Full n → (is_full old.limits old.sizes (length payload) ≡ true) × (n ≡ length old.sizes))
         → (a ≢ append.Fault → new ≡ old) → HasCause (disks.faults old.disk) (disks.faults new.disk) (a ≡ append.Fault)
         → IsLedger disks new log balance × Enters disks entry (log_state entry_of old log) (log_state entry_of new log) (Err (why_of a))
-    not_entered a kept some again spelled sized same_log same which crash full full_only untouched cause =
-        let adds = adds_err disks entry_of fits record_of old new log entry payload (why_of a) kept.keeps (decoded again spelled) (fitting log balance now entry kept.run some) sized same_log same which crash in
+    not_entered a kept some again spelled sized same_log same which told crash full full_only untouched cause =
+        let adds = adds_err disks entry_of fits record_of old new log entry payload (why_of a) kept.keeps (decoded again spelled) (fitting log balance now entry kept.run some) sized same_log same which told crash in
         let limit = keeps_full disks entry_of fits record_of old log entry payload kept.keeps spelled in
         let count = keeps_len disks entry_of fits record_of old log kept.keeps in (
           record { keeps = adds.0; run = kept.run; room = subst (λ (l : Limits). largest_record ≤ l.largest) (sym same) kept.room },

@@ -127,7 +127,8 @@ impl<D: Disk> Ledger<D> {
         ensures enters { Enters D.Disk (Deposit amount) self.old self.new result }
         ensures balance { balance_of self.new.log
             ≡ (if is_ok result then balance_of self.old.log + amount else balance_of self.old.log) }
-        ensures grows { OnlyGrows entries_of (λ ledger. D.faults ledger.disk) limits_of self.old self.new }
+        ensures grows { OnlyGrows entries_of
+            (λ ledger. D.faults ledger.disk) limits_of self.old self.new }
     {
         self.enter(Entry::Deposit(amount))
     }
@@ -139,7 +140,8 @@ impl<D: Disk> Ledger<D> {
         ensures enters { Enters D.Disk (Withdraw amount) self.old self.new result }
         ensures balance { balance_of self.new.log
             ≡ (if is_ok result then balance_of self.old.log - amount else balance_of self.old.log) }
-        ensures grows { OnlyGrows entries_of (λ ledger. D.faults ledger.disk) limits_of self.old self.new }
+        ensures grows { OnlyGrows entries_of
+            (λ ledger. D.faults ledger.disk) limits_of self.old self.new }
     {
         self.enter(Entry::Withdraw(amount))
     }
@@ -166,7 +168,8 @@ impl<D: Disk> Ledger<D> {
         ensures resolves { ResolvesLog D.Disk entries_in self.old self.new result }
         ensures untouched { self.old.doubtful ≡ false → IsOk result × (self.new ≡ self.old) }
         ensures cause { HasCause (D.faults self.old.disk) (D.faults self.new.disk) (IsErr result) }
-        ensures grows { OnlyGrows entries_of (λ ledger. D.faults ledger.disk) limits_of self.old self.new }
+        ensures grows { OnlyGrows entries_of
+            (λ ledger. D.faults ledger.disk) limits_of self.old self.new }
     {
         self.journal.resolve()
     }

@@ -26,9 +26,11 @@ fn take(run: &mut Run, payload: &[u8]) -> Result<bool, AllocFailed<Entry>>
     ensures run { OnOk result (IsRun run.new.entries.items run.new.balance) }
     ensures taken { result ≡ Ok true
         → log_step entry_of fits run.old.entries.items payload.now ≡ Some run.new.entries.items }
-    ensures not_taken { result ≡ Ok false → log_step entry_of fits run.old.entries.items payload.now ≡ None }
+    ensures not_taken { result ≡ Ok false → log_step entry_of fits run.old.entries.items payload.now
+        ≡ None }
     ensures sizes { result ≡ Ok true
-        → sizes_of run.new.entries.items ≡ sizes_of run.old.entries.items ++ length payload.now ∷ [] }
+        → sizes_of run.new.entries.items ≡ sizes_of run.old.entries.items
+        ++ length payload.now ∷ [] }
 {
     let Some(entry) = read_entry(payload) else {
         return Ok(false);
@@ -47,7 +49,8 @@ pub fn replay<D: Disk>(alloc: Global, journal: &mut Journal<D>) -> Result<Run, O
     ensures log { IfOk result (λ run. (log : List (List ℕ)) → journal.old.log ≡ Some log
         → replay (log_step entry_of fits) [] log ≡ Ok run.entries.items) }
     ensures sizes { IfOk result (λ run. journal.old.sizes ≡ sizes_of run.entries.items) }
-    ensures damaged { IfErr result (IsDamageOf (replay (log_step entry_of fits) []) journal.old.log) }
+    ensures damaged { IfErr result
+        (IsDamageOf (replay (log_step entry_of fits) []) journal.old.log) }
     ensures read { OnlyPayloads D.Disk journal.old journal.new }
     ensures counts { HasCause (D.faults journal.old.disk) (D.faults journal.new.disk)
         (IsErrOf result OpenWhy.Fault) }

@@ -102,7 +102,8 @@ impl<K: Ord + Drop, V: Drop> OrderedMap<K, V> {
 
     /// Takes out the entry at a key, where there is one, and answers whether there was. It takes no memory.
     pub fn remove(&mut self, key: &K) -> bool
-        ensures entries { self.new.entries ≡ where_key K.cmp (λ other. not (eq_by_cmp K.cmp key.now other)) self.old.entries }
+        ensures entries { self.new.entries
+            ≡ where_key K.cmp (λ other. not (eq_by_cmp K.cmp key.now other)) self.old.entries }
         ensures was { result ≡ is_some (find K.cmp key.now self.old.entries) }
         ensures ready { self.new.ready ≡ self.old.ready }
     {

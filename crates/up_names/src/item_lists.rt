@@ -12,7 +12,8 @@ use std::alloc::AllocError;
 /// names one. Where one names none, and after an `Err`, the list is as it was.
 pub fn push_items(owner: &User, line: &[u8], items: &mut Vec<Item>) -> Result<bool, AllocError>
     ensures found { IfOk result
-        (λ good. option_map (λ found. items.old.items ++ found) (items_in owner.now (words_in line.now))
+        (λ good. option_map (λ found. items.old.items ++ found)
+        (items_in owner.now (words_in line.now))
         ≡ (if good then Some items.new.items else None)) }
     ensures unchanged { result ≢ Ok true → items.new.items ≡ items.old.items }
 {
@@ -27,7 +28,8 @@ pub fn push_items(owner: &User, line: &[u8], items: &mut Vec<Item>) -> Result<bo
 /// The same, but that the items before a bad word, or before an `Err`, stay behind.
 fn push_each(owner: &User, line: &[u8], items: &mut Vec<Item>) -> Result<bool, AllocError>
     ensures found { IfOk result
-        (λ good. option_map (λ found. items.old.items ++ found) (items_in owner.now (words_in line.now))
+        (λ good. option_map (λ found. items.old.items ++ found)
+        (items_in owner.now (words_in line.now))
         ≡ (if good then Some items.new.items else None)) }
     ensures kept { take (vec_len items.old) items.new.items ≡ items.old.items }
 {

@@ -70,7 +70,8 @@ pub(crate) fn take_pieces(path: &mut Path, pieces: &[u8], mut place: usize) -> R
 fn take_piece(path: &mut Path, piece: &[u8], place: usize) -> Result<(), NameFault>
     requires { length (canonical (extended path.old piece.now)) ≤ 4096 }
     ensures taken { Gives (λ _. path.new) result
-        (if is_element piece.now then Ok (after_piece path.old piece.now) else Err (Element place)) }
+        (if is_element piece.now then Ok (after_piece path.old piece.now) else Err
+        (Element place)) }
     ensures owner { path.new.owner ≡ path.old.owner }
 {
     let Some(element) = element_text(piece) else {

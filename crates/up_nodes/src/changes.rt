@@ -54,9 +54,11 @@ pub(crate) fn changes_by_put(
     requires control { control_fits entry.now.attr.kind (control_of entry.now.name) ≡ true }
     requires text { TextFits owner.now (control_for entry.now.attr.kind entry.now.name) text.now }
     ensures access { IfOk result (λ changes. changes.0 ≡
-        access_change owner.now entry.now.name (Some (record { entry = entry.now; text = text.now })) position) }
+        access_change owner.now entry.now.name
+        (Some (record { entry = entry.now; text = text.now })) position) }
     ensures group { IfOk result (λ changes. changes.1 ≡
-        group_change owner.now entry.now.name (Some (record { entry = entry.now; text = text.now })) position) }
+        group_change owner.now entry.now.name
+        (Some (record { entry = entry.now; text = text.now })) position) }
 {
     match entry.name.control_kind() {
         Control::Ordinary => Ok((None, None)),
@@ -78,7 +80,8 @@ pub(crate) fn changes_by_put(
 /// The text of what is put at a Group path, where it is a file.
 fn group_text(owner: &User, kind: Kind, text: &Bytes) -> Result<Option<GroupText>, AllocError>
     requires { kind ≡ Kind.File → (items : List _) × (group_of owner.now text.now ≡ Ok items) }
-    ensures { IfOk result (λ found. found ≡ (if is_file kind then Some (said (group_of owner.now text.now)) else None)) }
+    ensures { IfOk result (λ found. found
+        ≡ (if is_file kind then Some (said (group_of owner.now text.now)) else None)) }
 {
     if kind != Kind::File {
         return Ok(None);

@@ -31,7 +31,8 @@ impl Kept {
         requires stands { Stands self.old }
         requires of { (rec : Record) × IsStepFor self.old rec step.now }
         ensures same { IsSameKept self.old self.new }
-        ensures can { OnOk result (MatchOption step.now (self.new.snaps.ready ≡ true) (CanStep self.new.slots)) }
+        ensures can { OnOk result
+            (MatchOption step.now (self.new.snaps.ready ≡ true) (CanStep self.new.slots)) }
         ensures log { OnOk result (vec_len self.new.log < vec_capacity self.new.log) }
         ensures before { OnOk result (vec_len self.new.before < vec_capacity self.new.before) }
     {

@@ -109,7 +109,8 @@ impl Kept {
     /// The slot of the directory of a path, where it has one.
     fn parent_slot(&self, path: &Path) -> Option<&Slot>
         requires { Stands self.now }
-        ensures { MatchOption (parent_of path.now) ⊤ (λ dir. IsOwnSlot self.now dir (option_copied result)) }
+        ensures { MatchOption (parent_of path.now) ⊤
+            (λ dir. IsOwnSlot self.now dir (option_copied result)) }
     {
         self.slot_with(self.ids_of(path).1)
     }
@@ -132,7 +133,8 @@ impl Kept {
     #[tactic(auto, unfolding(up_replay::specs::Fits::put_fits))]
     fn put_fits(&self, entry: &Entry, text: &Bytes) -> Result<bool, AllocError>
         requires { Stands self.now }
-        ensures { IfOk result (λ fitting. fitting ≡ put_fits self.now.owner self.now.log.items entry.now text.now) }
+        ensures { IfOk result (λ fitting. fitting
+            ≡ put_fits self.now.owner self.now.log.items entry.now text.now) }
     {
         let fits = has_fixed_form(entry)
             && entry.sequence == self.log.len() as u64 + 1
@@ -159,7 +161,8 @@ impl Kept {
     /// Whether there is a root.
     fn is_rooted(&self) -> Result<bool, AllocError>
         requires { Stands self.now }
-        ensures { IfOk result (λ rooted. rooted ≡ is_some (node_at (tree_of self.now.log.items) (root_of self.now.owner))) }
+        ensures { IfOk result (λ rooted. rooted
+            ≡ is_some (node_at (tree_of self.now.log.items) (root_of self.now.owner))) }
     {
         let root = Path::root(self.owner.clone()?)?;
         Ok(self.node(&root).is_some())
@@ -180,7 +183,8 @@ impl Kept {
     #[tactic(auto, unfolding(up_replay::specs::Fits::snap_fits))]
     fn snap_fits(&self, time: u64) -> Result<bool, AllocError>
         requires { Stands self.now }
-        ensures { IfOk result (λ fitting. fitting ≡ snap_fits self.now.owner self.now.log.items time) }
+        ensures { IfOk result (λ fitting. fitting
+            ≡ snap_fits self.now.owner self.now.log.items time) }
     {
         let rooted = self.is_rooted()?;
         Ok(has_snapshots(&self.owner) && rooted && time < CALENDAR_END && !self.has_snap(time))
@@ -189,7 +193,8 @@ impl Kept {
     /// Whether a record fits as the next one.
     pub(crate) fn fits(&self, rec: &Rec) -> Result<bool, AllocError>
         requires { Stands self.now }
-        ensures { IfOk result (λ fitting. fitting ≡ fits self.now.owner self.now.log.items rec.now) }
+        ensures { IfOk result (λ fitting. fitting
+            ≡ fits self.now.owner self.now.log.items rec.now) }
     {
         match rec {
             Rec::Put(entry, text) => self.put_fits(entry, text),

@@ -28,8 +28,10 @@ use up_replay::Node;
 
 /// A path becomes one of its siblings, or stays one.
 fn addition(slots: &[Slot], ids: &Pieces<usize>, path: &Path, id: usize) -> Edit
-    ensures { (dir : PathName) (paths : List PathName) → AreSiblings (known_all slots.now) dir ids.now.items paths
-        → parent_of path.now ≡ Some dir → IsEditTo result id path.now paths (with_path path.now paths) }
+    ensures { (dir : PathName) (paths : List PathName)
+        → AreSiblings (known_all slots.now) dir ids.now.items paths
+        → parent_of path.now ≡ Some dir
+        → IsEditTo result id path.now paths (with_path path.now paths) }
 {
     let (place, found) = find_among(slots, ids, last_element(path));
     if found.is_some() {
@@ -41,8 +43,10 @@ fn addition(slots: &[Slot], ids: &Pieces<usize>, path: &Path, id: usize) -> Edit
 
 /// A path is no longer one of its siblings.
 fn removal(slots: &[Slot], ids: &Pieces<usize>, path: &Path) -> Edit
-    ensures { (dir : PathName) (paths : List PathName) (id : ℕ) → AreSiblings (known_all slots.now) dir ids.now.items paths
-        → parent_of path.now ≡ Some dir → IsEditTo result id path.now paths (without_path path.now paths) }
+    ensures { (dir : PathName) (paths : List PathName) (id : ℕ)
+        → AreSiblings (known_all slots.now) dir ids.now.items paths
+        → parent_of path.now ≡ Some dir
+        → IsEditTo result id path.now paths (without_path path.now paths) }
 {
     let (place, found) = find_among(slots, ids, last_element(path));
     if found.is_some() {
@@ -84,7 +88,8 @@ fn own_of(
     parent: Option<usize>,
     group: &Option<Change<GroupText>>,
 ) -> Result<Own, AllocError>
-    ensures own { IfOk result (λ own. (paths : List PathName) (slots : List _) → IsIdOf paths slots path.now found → IsOwnOf paths slots path.now parent own) }
+    ensures own { IfOk result (λ own. (paths : List PathName) (slots : List _)
+        → IsIdOf paths slots path.now found → IsOwnOf paths slots path.now parent own) }
     ensures room { IfOk result (λ own. HasOwnRoom own group.now) }
 {
     match found {
@@ -168,8 +173,10 @@ impl Kept {
     fn put_step(&self, entry: &Entry, text: &Bytes) -> Result<Step, AllocError>
         requires stands { Stands self.now }
         requires fits { PutFits self.now.owner self.now.log.items entry.now text.now }
-        ensures step { IfOk result (IsStepOf self.now.owner self.now.log.items (Put entry.now text.now) entry.now.name
-            (Some (record { entry = entry.now; text = text.now })) (paths_of self.now) (slots_of self.now)) }
+        ensures step { IfOk result
+            (IsStepOf self.now.owner self.now.log.items (Put entry.now text.now) entry.now.name
+            (Some (record { entry = entry.now; text = text.now })) (paths_of self.now)
+            (slots_of self.now)) }
         ensures room { IfOk result (λ step. HasOwnRoom step.own step.group) }
     {
         let path = &entry.name;
@@ -192,7 +199,8 @@ impl Kept {
     fn delete_step(&self, path: &Path) -> Step
         requires stands { Stands self.now }
         requires there { IsSome (node_at (tree_of self.now.log.items) path.now) }
-        ensures step { IsStepOf self.now.owner self.now.log.items (Delete path.now) path.now None (paths_of self.now) (slots_of self.now) result }
+        ensures step { IsStepOf self.now.owner self.now.log.items (Delete path.now) path.now None
+            (paths_of self.now) (slots_of self.now) result }
         ensures room { HasOwnRoom result.own result.group }
     {
         let position = self.log.len() as u64 + 1;

@@ -21,7 +21,8 @@ impl Kept {
         requires within { n ≤ length self.now.log.items }
         requires there { (dir : PathName) × (path_in (slots_of self.now) id ≡ Some dir) }
         ensures { (dir : PathName) → path_in (slots_of self.now) id ≡ Some dir
-            → option_copied result ≡ (facts_of self.now.owner (tree_at self.now.log.items n)).access dir }
+            → option_copied result
+            ≡ (facts_of self.now.owner (tree_at self.now.log.items n)).access dir }
     {
         match self.slot_with(Some(id)) {
             Some(slot) => text_at(slot.access.as_slice(), n, self.log.len() as u64),
@@ -47,7 +48,8 @@ impl Kept {
         requires stands { Stands self.now }
         requires within { n ≤ length self.now.log.items }
         ensures text { option_map (λ found. found.1.now) result
-            ≡ first_text (facts_of self.now.owner (tree_at self.now.log.items n)).access (prefixes path.now) }
+            ≡ first_text (facts_of self.now.owner (tree_at self.now.log.items n)).access
+            (prefixes path.now) }
         ensures dir { option_map (λ found. cut found.0 path.now) result
             ≡ governing_prefix (tree_at self.now.log.items n) path.now }
     {

@@ -28,7 +28,8 @@ fn is_change_under(rec: &Rec, path: &Path) -> bool
 fn add_change(found: &mut Vec<u64>, n: u64, rec: &Rec, path: &Path) -> Result<(), AllocError>
     requires { n < 2 ^ 63 }
     ensures { OnOk result (found.new.items
-        ≡ (if changes_some (λ name. is_under name path.now) rec.now then found.old.items ++ (n + 1) ∷ [] else found.old.items)) }
+        ≡ (if changes_some (λ name. is_under name path.now) rec.now then found.old.items
+        ++ (n + 1) ∷ [] else found.old.items)) }
 {
     if is_change_under(rec, path) {
         found.push(n + 1)?;
@@ -44,7 +45,7 @@ fn number_at(numbers: &[u64], i: usize) -> Option<&u64>
 }
 
 /// A position, where it is any.
-fn if_any(position: u64) -> Option<u64>
+pub(crate) fn if_any(position: u64) -> Option<u64>
     ensures { result ≡ (if position == 0 then None else Some position) }
 {
     if position == 0 { None } else { Some(position) }

@@ -58,7 +58,8 @@ fn reserve_own(
     requires range { IsInRange slots.old.items own.now }
     requires room { HasOwnRoom own.now group.now }
     ensures same { known_all slots.new.items ≡ known_all slots.old.items }
-    ensures others { (id : ℕ) → IsApart own.now id → slice_get slots.new.items id ≡ slice_get slots.old.items id }
+    ensures others { (id : ℕ) → IsApart own.now id → slice_get slots.new.items id
+        ≡ slice_get slots.old.items id }
     ensures room { OnOk result (CanEnterOwn slots.new own.now group.now) }
 {
     match own {

@@ -94,7 +94,8 @@ fn ends_in(slots: &[Slot], id: usize, element: &str) -> bool
 
 /// The place of an element among the last ones of siblings, and the slot that has it.
 pub(crate) fn find_among(slots: &[Slot], ids: &Pieces<usize>, element: &str) -> (u64, Option<usize>)
-    ensures { (dir : PathName) (paths : List PathName) → AreSiblings (known_all slots.now) dir ids.now.items paths
+    ensures { (dir : PathName) (paths : List PathName)
+        → AreSiblings (known_all slots.now) dir ids.now.items paths
         → IsFoundAs (extended dir element.now) ids.now.items paths result.0 result.1 }
 {
     let place = ids.find(&Sought { slots, element });

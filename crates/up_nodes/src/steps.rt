@@ -41,7 +41,8 @@ pub(crate) struct Step {
 fn enter_above(slots: &mut Vec<Slot>, parent: Option<ParentStep>)
     requires { CanEnterAbove slots.old.items parent }
     ensures slots { known_all slots.new.items ≡ stepped_above parent (known_all slots.old.items) }
-    ensures others { (id : ℕ) → IfSome parent (λ p. p.id ≢ id) → slice_get slots.new.items id ≡ slice_get slots.old.items id }
+    ensures others { (id : ℕ) → IfSome parent (λ p. p.id ≢ id) → slice_get slots.new.items id
+        ≡ slice_get slots.old.items id }
     ensures len { vec_len slots.new ≡ vec_len slots.old }
     ensures room { vec_capacity slots.new ≡ vec_capacity slots.old }
 {
@@ -64,7 +65,8 @@ fn enter_at(
     group: Option<Change<GroupText>>,
 )
     requires { CanEnterOwn slots.old own group }
-    ensures { known_all slots.new.items ≡ stepped_own own node position group (known_all slots.old.items) }
+    ensures { known_all slots.new.items
+        ≡ stepped_own own node position group (known_all slots.old.items) }
 {
     match own {
         Own::There(id) => enter_own(&mut slots[id], node, position, group),

@@ -246,7 +246,9 @@ fn reaches_user<F: Facts>(
 ) -> Result<bool, AllocError>
     ensures { IfOk result (λ yes. yes
         ≡ list_any (has_user (text_of (F.tree facts.now) loaded.now) user.now)
-        (reached (text_of (F.tree facts.now) loaded.now) (F.group_paths facts.now ++ keys_of loaded.now) (groups_in (items_for right rules.now)))) }
+        (reached (text_of (F.tree facts.now) loaded.now)
+        (F.group_paths facts.now ++ keys_of loaded.now)
+        (groups_in (items_for right rules.now)))) }
 {
     let mut met = Met::new(alloc, loaded.random());
     met.add_granted(rules, right)?;

@@ -5,8 +5,8 @@ use Rattle.up_ends.specs.Writing.{Going, WritesPart}
 use Rattle.up_ends.proofs.Going.{Going-more, Going-all, WritesPart-so_far, WritesPart-step}
 use Rattle.up_text.specs.Lines.{script_lines}
 use Rattle.up_script.specs.declared.can_files.CanFiles.{CanFiles}
-use Rattle.up_script.specs.CanLines.{Tree, Turn, turn_of, reply_of, tree_after, asked}
-use Rattle.up_script.specs.CanRuns.{Run, run_from, ends_badly, says, bad_line}
+use Rattle.up_script.specs.CanLines.{Tree, Effect, effect_of, reply_of, tree_after, asked}
+use Rattle.up_script.specs.CanRuns.{Run, run_from, ends_badly, says}
 
 -- a line that asks prints its reply
 pub asked_says : (files : CanFiles) (reply : Option (List ℕ)) → reply_of (asked files reply) ≡ reply
@@ -29,29 +29,29 @@ unfolding script_lines
 script_lines-nil = refl
 
 -- the run of a first line and those behind it, by what the first line does
-abbrev on_turn : ℕ → Tree → List (List ℕ) → Option Turn → Run
-on_turn number tree lines turn = elim turn [
+abbrev on_effect : ℕ → Tree → List (List ℕ) → Option Effect → Run
+on_effect number tree lines turn = elim turn [
   | None ↦ ends_badly number tree
   | Some t ↦ says t.reply (run_from (number + 1) t.tree lines)
 ]
 
-on_reply : (number : ℕ) (tree after : Tree) (lines : List (List ℕ)) (turn : Option Turn) (reply : List ℕ) → Some reply ≡ reply_of turn → after ≡ tree_after tree turn → on_turn number tree lines turn ≡ says reply (run_from (number + 1) after lines)
+on_reply : (number : ℕ) (tree after : Tree) (lines : List (List ℕ)) (turn : Option Effect) (reply : List ℕ) → Some reply ≡ reply_of turn → after ≡ tree_after tree turn → on_effect number tree lines turn ≡ says reply (run_from (number + 1) after lines)
 on_reply number tree after lines None reply said same = absurd (cc)
 on_reply number tree after lines (Some turn) reply said same =
     let e : reply ≡ turn.reply = cc in
     ap (λ r. says r (run_from (number + 1) turn.tree lines)) (sym e) ∙ ap (λ t. says reply (run_from (number + 1) t lines)) (sym same)
 
-on_none : (number : ℕ) (tree : Tree) (lines : List (List ℕ)) (turn : Option Turn) → None ≡ reply_of turn → on_turn number tree lines turn ≡ ends_badly number tree
+on_none : (number : ℕ) (tree : Tree) (lines : List (List ℕ)) (turn : Option Effect) → None ≡ reply_of turn → on_effect number tree lines turn ≡ ends_badly number tree
 on_none number tree lines None said = refl
 on_none number tree lines (Some turn) said = absurd (cc)
 
 -- a line that says something
-pub run_from-says : (number : ℕ) (tree after : Tree) (line : List ℕ) (lines : List (List ℕ)) (reply : List ℕ) → Some reply ≡ reply_of (turn_of tree line) → after ≡ tree_after tree (turn_of tree line) → run_from number tree (line ∷ lines) ≡ says reply (run_from (number + 1) after lines)
-run_from-says number tree after line lines reply said same = on_reply number tree after lines (turn_of tree line) reply said same
+pub run_from-says : (number : ℕ) (tree after : Tree) (line : List ℕ) (lines : List (List ℕ)) (reply : List ℕ) → Some reply ≡ reply_of (effect_of tree line) → after ≡ tree_after tree (effect_of tree line) → run_from number tree (line ∷ lines) ≡ says reply (run_from (number + 1) after lines)
+run_from-says number tree after line lines reply said same = on_reply number tree after lines (effect_of tree line) reply said same
 
 -- a malformed line
-pub run_from-bad : (number : ℕ) (tree : Tree) (line : List ℕ) (lines : List (List ℕ)) → None ≡ reply_of (turn_of tree line) → run_from number tree (line ∷ lines) ≡ ends_badly number tree
-run_from-bad number tree line lines said = on_none number tree lines (turn_of tree line) said
+pub run_from-bad : (number : ℕ) (tree : Tree) (line : List ℕ) (lines : List (List ℕ)) → None ≡ reply_of (effect_of tree line) → run_from number tree (line ∷ lines) ≡ ends_badly number tree
+run_from-bad number tree line lines said = on_none number tree lines (effect_of tree line) said
 
 -- a reply was gathered, and perhaps all that is gathered was written
 pub Runs-more : (old mid now : Option (List ℕ)) (gathered kept reply : List ℕ) (more later all : Run) → Runs old mid gathered more all → more ≡ says reply later → Going mid now kept (gathered ++ reply) → Runs old now kept later all

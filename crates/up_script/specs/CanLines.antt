@@ -1,13 +1,12 @@
 -- What each line of a `can` script says. The script language is this project's own; the questions are those of the
 -- Upspin access control document.
-use Rattle.std.specs.Prelude.{ℕ, ◌-◌, Bool, true, false, List, [], ◌∷◌, ◌&&◌, length, codes, if◌then◌else◌, Option, Some, None, option_map}
+use Rattle.std.specs.Prelude.{◌-◌, Bool, true, false, List, [], ◌∷◌, ◌&&◌, length, codes, if◌then◌else◌, Option, Some, None, option_map}
 use Rattle.std.specs.Option.{option_and_then}
 use Rattle.std.specs.Result.{result_ok}
 use Rattle.std.specs.Str.{bytes_eq}
 use Rattle.up_names.specs.Texts.{Text, UserName}
 use Rattle.up_access.specs.AccessTexts.{access_of}
 use Rattle.up_group.specs.GroupTexts.{group_of}
-use Rattle.up_names.specs.declared.paths.Control.{Control}
 use Rattle.up_names.specs.declared.paths.Control.TheVariants as control
 use Rattle.up_names.specs.UserNames.{user_of}
 use Rattle.up_names.specs.PathNames.{PathName, path_of, control_of, cut}
@@ -30,25 +29,25 @@ abbrev pub Tree : Type 0
 Tree = Option CanFiles
 
 -- what a line does: the tree after it, and the text that it prints
-pub record Turn : Type 0 where
+pub record Effect : Type 0 where
   pub tree : Tree
   pub reply : Text
 
--- the text that a turn prints; none where the line is malformed
-abbrev pub reply_of : Option Turn → Option Text
-reply_of turn = option_map (λ t. t.reply) turn
+-- the text that a line prints; none where it is malformed
+abbrev pub reply_of : Option Effect → Option Text
+reply_of effect = option_map (λ e. e.reply) effect
 
--- the tree after a turn; a malformed line changes nothing
-abbrev pub tree_after : Tree → Option Turn → Tree
+-- the tree after a line; a malformed one changes nothing
+abbrev pub tree_after : Tree → Option Effect → Tree
 tree_after tree None = tree
-tree_after tree (Some turn) = turn.tree
+tree_after tree (Some effect) = effect.tree
 
 -- a line that names files prints nothing; none where it is malformed
-abbrev pub named : Option CanFiles → Option Turn
+abbrev pub named : Option CanFiles → Option Effect
 named files = option_map (λ f. record { tree = Some f; reply = [] }) files
 
 -- a line that asks leaves the files as they are; none where it is malformed
-abbrev pub asked : CanFiles → Option Text → Option Turn
+abbrev pub asked : CanFiles → Option Text → Option Effect
 asked files reply = option_map (λ text. record { tree = Some files; reply = text }) reply
 
 -- the user that a word names
@@ -109,13 +108,17 @@ group_line files [] = None
 group_line files (a ∷ []) = None
 group_line files (a ∷ b ∷ c ∷ more) = None
 
+-- the line that answers a question about a path of the tree's owner; one about another path is malformed
+abbrev pub answer_to : CanFiles → UserName → Right → PathName → Option Text
+answer_to files user right path = if bytes_eq path.owner files.tree.owner then Some (verdict_line (verdict files user right path)) else None
+
 -- `can USER RIGHT PATH`: whether the user has the right on the path, which is of the tree's owner
 unfoldable pub can_line : CanFiles → List Text → Option Text
 can_line files (user_word ∷ right_word ∷ path_word ∷ []) = do
   user ← user_named user_word
   right ← right_named right_word
   path ← path_named path_word
-  if bytes_eq path.owner files.tree.owner then Some (verdict_line (verdict files user right path)) else None
+  answer_to files user right path
 can_line files [] = None
 can_line files (a ∷ []) = None
 can_line files (a ∷ b ∷ []) = None
@@ -131,31 +134,31 @@ kind_of word =
     else None
 
 -- what a line of a kind does once the tree is named
-unfoldable pub files_turn : CanKind → CanFiles → List Text → Option Turn
-files_turn kinds.Tree files arguments = None
-files_turn kinds.Access files arguments = named (access_line files arguments)
-files_turn kinds.Group files arguments = named (group_line files arguments)
-files_turn kinds.Can files arguments = asked files (can_line files arguments)
+unfoldable pub files_effect : CanKind → CanFiles → List Text → Option Effect
+files_effect kinds.Tree files arguments = None
+files_effect kinds.Access files arguments = named (access_line files arguments)
+files_effect kinds.Group files arguments = named (group_line files arguments)
+files_effect kinds.Can files arguments = asked files (can_line files arguments)
 
 -- and before it is named
-unfoldable pub first_turn : CanKind → List Text → Option Turn
-first_turn kinds.Tree arguments = named (tree_line arguments)
-first_turn kinds.Access arguments = None
-first_turn kinds.Group arguments = None
-first_turn kinds.Can arguments = None
+unfoldable pub first_effect : CanKind → List Text → Option Effect
+first_effect kinds.Tree arguments = named (tree_line arguments)
+first_effect kinds.Access arguments = None
+first_effect kinds.Group arguments = None
+first_effect kinds.Can arguments = None
 
 -- what a line of a kind does with the words behind its keyword
-abbrev pub kind_turn : CanKind → Tree → List Text → Option Turn
-kind_turn kind None arguments = first_turn kind arguments
-kind_turn kind (Some files) arguments = files_turn kind files arguments
+abbrev pub kind_effect : CanKind → Tree → List Text → Option Effect
+kind_effect kind None arguments = first_effect kind arguments
+kind_effect kind (Some files) arguments = files_effect kind files arguments
 
 -- what words do, the first of which is the keyword
-unfoldable pub words_turn : Tree → List Text → Option Turn
-words_turn tree [] = None
-words_turn tree (keyword ∷ arguments) = do
+unfoldable pub words_effect : Tree → List Text → Option Effect
+words_effect tree [] = None
+words_effect tree (keyword ∷ arguments) = do
   kind ← kind_of keyword
-  kind_turn kind tree arguments
+  kind_effect kind tree arguments
 
 -- what a line does, or none where it is malformed; an empty line and a comment say nothing
-unfoldable pub turn_of : Tree → Text → Option Turn
-turn_of tree line = if is_silent line then Some (record { tree = tree; reply = [] }) else words_turn tree (line_words line)
+unfoldable pub effect_of : Tree → Text → Option Effect
+effect_of tree line = if is_silent line then Some (record { tree = tree; reply = [] }) else words_effect tree (line_words line)

@@ -2,7 +2,7 @@
 use Rattle.std.specs.Prelude.{ℕ, ◌+◌, List, [], ◌∷◌, ◌++◌, codes, Some, None, decimal}
 use Rattle.up_names.specs.Texts.{Text}
 use Rattle.up_text.specs.Lines.{script_lines}
-use Rattle.up_script.specs.CanLines.{Tree, Turn, turn_of}
+use Rattle.up_script.specs.CanLines.{Tree, effect_of}
 
 pub record Run : Type 0 where
   pub text : Text
@@ -24,9 +24,9 @@ says reply later = record { text = reply ++ later.text; status = later.status; t
 -- the run of lines, the first of which has this number
 abbrev pub run_from : ℕ → Tree → List Text → Run
 run_from number tree [] = record { text = []; status = 0; tree = tree }
-run_from number tree (line ∷ lines) = elim (turn_of tree line) [
+run_from number tree (line ∷ lines) = elim (effect_of tree line) [
   | None ↦ ends_badly number tree
-  | Some turn ↦ says turn.reply (run_from (number + 1) turn.tree lines)
+  | Some effect ↦ says effect.reply (run_from (number + 1) effect.tree lines)
 ]
 
 -- the run of a whole input, whose lines are numbered from 1

@@ -1,5 +1,5 @@
 -- What a program's top call leaves in its sink and answers. The statuses are this project's own.
-use Rattle.std.specs.Prelude.{◌≡◌, ◌≢◌, ℕ, Bool, ◌&&◌, not, ◌==◌, nat_lt, if◌then◌else◌, List, [], ◌∷◌, ◌++◌, length, codes, Option, IsTrue, false}
+use Rattle.std.specs.Prelude.{◌≡◌, ℕ, Bool, not, ◌==◌, nat_lt, if◌then◌else◌, List, [], ◌∷◌, length, codes, Option, IsTrue, false}
 use lib.Pointwise.{pointwise}
 use Rattle.std.specs.List.{list_any}
 use Rattle.std.specs.Io.KnownBytes.{Appends}
@@ -56,6 +56,6 @@ abbrev pub is_cut_short : ℕ → Bool
 is_cut_short status = list_any (λ s. s == status) (2 ∷ 3 ∷ 4 ∷ [])
 
 -- what a call answered and wrote, for what it should: all of it, and after a fault or want of memory a front of it
-pub record Answers (old new : Option Text) (answer : Answer) (status : ℕ) : Type 0 where
+pub record AnswersWith (old new : Option Text) (answer : Answer) (status : ℕ) : Type 0 where
   pub whole : is_cut_short status ≡ false → Appends old new answer.text × (status ≡ answer.status)
   pub part : WritesPart old new answer.text

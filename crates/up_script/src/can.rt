@@ -1,13 +1,13 @@
 //! `upspin can`: a script in, verdicts out.
-ghost use Rattle.std.specs.Prelude.{◌≡◌, ◌+◌, ◌-◌, ◌<◌, ◌≤◌, ◌^◌, ◌↔◌, ◌∷◌, [], ◌==◌, ◌++◌, map, false, OnOk, IfSome, IfOk, IsErrOf, IsTrue, string_bytes};
+ghost use Rattle.std.specs.Prelude.{◌≡◌, None, ◌+◌, ◌-◌, ◌<◌, ◌≤◌, ◌^◌, ◌↔◌, ◌∷◌, [], ◌==◌, ◌++◌, map, false, OnOk, IfSome, IfOk, IsErrOf, IsTrue, string_bytes};
 ghost use Rattle.std.specs.List.{list_any};
 ghost use Rattle.std.specs.Io.KnownBytes.{Appends, IsAtEnd};
 ghost use Rattle.up_faults.specs.Counts.{Rose};
 ghost use Rattle.up_ends.specs.Writing.{WritesPart};
 ghost use Rattle.up_script.specs.CanRuns.{bad_line, run_of};
-ghost use Rattle.up_script.specs.Statuses.{Answers, IsOneOf, answer_of, can_answer, code_of, input_limit, is_can, usage_line};
+ghost use Rattle.up_script.specs.Statuses.{AnswersWith, IsOneOf, answer_of, can_answer, code_of, input_limit, is_can, usage_line};
 
-use crate::can_lines::turn;
+use crate::can_script::CanScript;
 use crate::output::{Stop, finish, print};
 use crate::status::Status;
 use std::alloc::{AllocError, Global};
@@ -39,16 +39,20 @@ pub fn can_run<S: Source, K: Sink>(
 ) -> u8
     // Where the source tells its bytes and the sink what it holds, what is written is the meaning of these bytes.
     ensures meaning { IfSome (S.left source.old) (λ input.
-        Answers (K.held sink.old) (K.held sink.new) (can_answer (map string_bytes words.now) input) result) }
+        AnswersWith (K.held sink.old) (K.held sink.new)
+        (can_answer (map string_bytes words.now) input) result) }
 
     // For every source and sink: the statuses that come, and the cause of each.
     ensures statuses { IsOneOf (0 ∷ 1 ∷ 2 ∷ 3 ∷ 4 ∷ 7 ∷ 64 ∷ []) result }
-    ensures usage { is_can (map string_bytes words.now) ≡ false → IsOneOf (3 ∷ 64 ∷ []) result × (source.new ≡ source.old) }
+    ensures usage { is_can (map string_bytes words.now) ≡ false
+        → IsOneOf (3 ∷ 64 ∷ []) result × (source.new ≡ source.old) }
     ensures usage_only { result ≡ 64 → is_can (map string_bytes words.now) ≡ false }
     ensures read_fault { result ≡ 2 → Rose (S.faults source.old) (S.faults source.new) }
     ensures write_fault { result ≡ 3 → Rose (K.faults sink.old) (K.faults sink.new) }
-    ensures too_long { result ≡ 7 → S.given source.old + input_limit < 2 ^ 64 - 1 → S.given source.old + input_limit < S.given source.new }
-    ensures too_long_always { S.given source.old + input_limit < 2 ^ 64 - 1 → S.given source.old + input_limit < S.given source.new → result ≡ 7 }
+    ensures too_long { result ≡ 7 → S.given source.old + input_limit < 2 ^ 64 - 1
+        → S.given source.old + input_limit < S.given source.new }
+    ensures too_long_always { S.given source.old + input_limit < 2 ^ 64 - 1
+        → S.given source.old + input_limit < S.given source.new → result ≡ 7 }
     ensures unread { result ≡ 2 → K.held sink.new ≡ K.held sink.old }
     ensures unwritten { result ≡ 7 → K.held sink.new ≡ K.held sink.old }
     ensures source_counts { S.faults source.old ≤ S.faults source.new }
@@ -96,7 +100,7 @@ fn usage<K: Sink>(sink: &mut K) -> Status
 
 /// Runs a script that was read whole, and answers how that ended.
 fn run_script<K: Sink>(alloc: Global, random: RandomState, input: &[u8], sink: &mut K) -> Status
-    ensures answers { Answers (K.held sink.old) (K.held sink.new)
+    ensures answers { AnswersWith (K.held sink.old) (K.held sink.new)
         (answer_of (run_of input.now)) (code_of result) }
     ensures status { IsOneOf (0 ∷ 1 ∷ 3 ∷ 4 ∷ []) (code_of result) }
     ensures cause { code_of result ≡ 3 → Rose (K.faults sink.old) (K.faults sink.new) }
@@ -109,27 +113,49 @@ fn run_script<K: Sink>(alloc: Global, random: RandomState, input: &[u8], sink: &
     }
 }
 
-/// Runs a script's lines in turn, and prints what they say.
-#[tactic(auto, unfolding(crate::specs::CanRuns::run_of))]
+/// Runs a script's lines, and prints what they say.
 fn run_lines<K: Sink>(
     alloc: Global,
     random: RandomState,
     lines: &[u8],
     sink: &mut K,
 ) -> Result<Status, Stop>
-    ensures whole { OnOk result (Appends (K.held sink.old) (K.held sink.new) (run_of lines.now).text) }
+    ensures whole { OnOk result
+        (Appends (K.held sink.old) (K.held sink.new) (run_of lines.now).text) }
     ensures status { IfOk result (λ status. code_of status ≡ (run_of lines.now).status) }
     ensures kind { IfOk result (λ status. IsOneOf (0 ∷ 1 ∷ []) (code_of status)) }
     ensures part { WritesPart (K.held sink.old) (K.held sink.new) (run_of lines.now).text }
     ensures cause { IsErrOf result Stop.WriteFault → Rose (K.faults sink.old) (K.faults sink.new) }
     ensures later { K.faults sink.old ≤ K.faults sink.new }
 {
-    let mut tree = None;
+    let mut script = CanScript::new(alloc, random);
+    let result = run_each(alloc, &mut script, lines, sink);
+    drop(script);
+    result
+}
+
+/// Runs a script's lines in turn from its beginning, and prints what they say.
+#[tactic(auto, unfolding(crate::specs::CanRuns::run_of))]
+fn run_each<K: Sink>(
+    alloc: Global,
+    script: &mut CanScript,
+    lines: &[u8],
+    sink: &mut K,
+) -> Result<Status, Stop>
+    requires { script.old ≡ None }
+    ensures whole { OnOk result
+        (Appends (K.held sink.old) (K.held sink.new) (run_of lines.now).text) }
+    ensures status { IfOk result (λ status. code_of status ≡ (run_of lines.now).status) }
+    ensures kind { IfOk result (λ status. IsOneOf (0 ∷ 1 ∷ []) (code_of status)) }
+    ensures part { WritesPart (K.held sink.old) (K.held sink.new) (run_of lines.now).text }
+    ensures cause { IsErrOf result Stop.WriteFault → Rose (K.faults sink.old) (K.faults sink.new) }
+    ensures later { K.faults sink.old ≤ K.faults sink.new }
+{
     let mut gathered = Vec::new(alloc);
     let mut number: u64 = 1;
     let mut rest = lines;
     while let Some((line, after)) = next_line(rest) {
-        let Some(reply) = turn(alloc, random, &mut tree, line)? else {
+        let Some(reply) = script.run_line(line)? else {
             let last = bad_line(alloc, number)?;
             finish(sink, &mut gathered, &last)?;
             return Ok(Status::BadLine);

@@ -1,5 +1,5 @@
 //! The Access and Group files that a `can` script has named so far.
-ghost use Rattle.std.specs.Prelude.{◌≡◌, OnOk};
+ghost use Rattle.std.specs.Prelude.{◌≡◌, OnErr, OnOk};
 ghost use Rattle.up_script.specs.CanFiles.{bare_tree, with_text};
 
 use std::alloc::AllocError;
@@ -28,9 +28,11 @@ impl CanFiles {
         }
     }
 
-    /// Sets the text of a group: the tree's own, or that of another owner's group, as if it were loaded.
+    /// Sets the text of a group: the tree's own, or that of another owner's group, as if it were loaded. An `Err` changes
+    /// nothing.
     pub fn set_text(&mut self, path: Path, text: GroupText) -> Result<(), AllocError>
-        ensures { OnOk result (self.new ≡ with_text self.old path text) }
+        ensures set { OnOk result (self.new ≡ with_text self.old path text) }
+        ensures unchanged { OnErr result (self.new ≡ self.old) }
     {
         if path.owner() == self.tree.owner() {
             self.tree.set_group(path, text)

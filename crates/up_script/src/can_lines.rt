@@ -1,28 +1,27 @@
 //! The lines of a `can` script: how one is read, and what it does.
-ghost use Rattle.std.specs.Prelude.{◌≡◌, IfOk, OnOk};
+ghost use Rattle.std.specs.Prelude.{◌≡◌, None, Some, IfOk, OnOk, if◌then◌else◌};
 ghost use Rattle.std.specs.Option.{option_and_then, option_copied};
 ghost use Rattle.std.specs.Result.{result_ok};
+ghost use Rattle.std.specs.Str.{bytes_eq};
 ghost use Rattle.up_access.specs.AccessTexts.{access_of};
 ghost use Rattle.up_group.specs.GroupTexts.{group_of};
 ghost use Rattle.up_text.specs.Lines.{words_left};
 ghost use Rattle.up_text.specs.Words.{decoded};
-ghost use Rattle.up_script.specs.CanLines.{access_dir, access_line, can_line, files_turn, first_turn, group_line, is_group, kind_of, kind_turn, named, path_named, reply_of, tree_after, tree_line, turn_of, user_named, verdict_line};
+ghost use Rattle.up_script.specs.CanLines.{access_dir, access_line, group_line, is_group, kind_of, named, path_named, reply_of, tree_after, user_named, verdict_line};
 
 use crate::can_files::CanFiles;
 use std::alloc::{AllocError, Global};
-use std::hash::RandomState;
 use up_access::{AccessText, parse_access};
 use up_group::{GroupText, parse_group};
 use up_names::{Control, NameFault, Path, TextFault, User, parse_path, parse_user};
-use up_policy::{Facts, MapFacts, can};
-use up_rights::Right;
-use up_text::{cut_word, is_silent, one_word, three_words, two_words, word_text};
+use up_policy::{Facts, MapFacts};
+use up_text::{two_words, word_text};
 
 /// What a line prints where it is not malformed. It is no longer than a verdict.
 pub type Reply = Option<&'static [u8]>;
 
 /// What a line that prints nothing prints.
-const NOTHING: Reply = Some(b"");
+pub const NOTHING: Reply = Some(b"");
 
 /// A kind of line.
 #[derive(Clone, Copy, Debug, PartialEq, Eq)]
@@ -37,130 +36,44 @@ pub enum CanKind {
     Can,
 }
 
-/// What a line prints, or `None` where it is malformed and changes nothing. There is no tree before its `tree` line.
-#[tactic(auto, unfolding(crate::specs::CanLines::turn_of, crate::specs::CanLines::words_turn))]
-pub fn turn(
-    alloc: Global,
-    random: RandomState,
-    tree: &mut Option<CanFiles>,
-    line: &[u8],
-) -> Result<Reply, AllocError>
-    ensures reply { IfOk result (λ reply. option_copied reply ≡ reply_of (turn_of tree.old line.now)) }
-    ensures after { OnOk result (tree.new ≡ tree_after tree.old (turn_of tree.old line.now)) }
-{
-    if is_silent(line) {
-        return Ok(NOTHING);
-    }
-    let (keyword, arguments) = cut_word(line);
-    match kind_of(keyword) {
-        Some(kind) => kind_turn(alloc, random, tree, kind, arguments),
-        None => Ok(None),
-    }
-}
-
 /// The kind of line that a keyword begins.
 #[tactic(auto, unfolding(crate::specs::CanLines::kind_of))]
-fn kind_of(keyword: &[u8]) -> Option<CanKind>
+pub fn kind_of(keyword: &[u8]) -> Option<CanKind>
     ensures { result ≡ kind_of keyword.now }
 {
-    if keyword == b"can".as_slice() {
+    if is(keyword, b"can") {
         Some(CanKind::Can)
-    } else if keyword == b"access".as_slice() {
+    } else if is(keyword, b"access") {
         Some(CanKind::Access)
-    } else if keyword == b"group".as_slice() {
+    } else if is(keyword, b"group") {
         Some(CanKind::Group)
-    } else if keyword == b"tree".as_slice() {
+    } else if is(keyword, b"tree") {
         Some(CanKind::Tree)
     } else {
         None
     }
 }
 
-fn kind_turn(
-    alloc: Global,
-    random: RandomState,
-    tree: &mut Option<CanFiles>,
-    kind: CanKind,
-    arguments: Option<&[u8]>,
-) -> Result<Reply, AllocError>
-    ensures reply { IfOk result (λ reply. option_copied reply ≡ reply_of (kind_turn kind tree.old (words_left (option_copied arguments.entry)))) }
-    ensures after { OnOk result (tree.new ≡ tree_after tree.old (kind_turn kind tree.old (words_left (option_copied arguments.entry)))) }
+/// Whether a word is this one.
+fn is(word: &[u8], wanted: &[u8]) -> bool
+    ensures { result ≡ bytes_eq word.now wanted.now }
 {
-    match tree {
-        Some(files) => files_turn(alloc, files, kind, arguments),
-        None => first_turn(alloc, random, tree, kind, arguments),
-    }
-}
-
-/// A line before the tree is named: only one that names it fits.
-#[tactic(auto, unfolding(crate::specs::CanLines::first_turn))]
-fn first_turn(
-    alloc: Global,
-    random: RandomState,
-    tree: &mut Option<CanFiles>,
-    kind: CanKind,
-    arguments: Option<&[u8]>,
-) -> Result<Reply, AllocError>
-    requires { tree.old ≡ None }
-    ensures reply { IfOk result (λ reply. option_copied reply ≡ reply_of (first_turn kind (words_left (option_copied arguments.entry)))) }
-    ensures after { OnOk result (tree.new ≡ tree_after None (first_turn kind (words_left (option_copied arguments.entry)))) }
-{
-    if kind != CanKind::Tree {
-        return Ok(None);
-    }
-    let Some(files) = tree_line(alloc, random, arguments)? else {
-        return Ok(None);
-    };
-    *tree = Some(files);
-    Ok(NOTHING)
-}
-
-/// A line once the tree is named.
-#[tactic(auto, using(crate::proofs::CanFolds::asked_says, crate::proofs::CanFolds::asked_keeps), unfolding(crate::specs::CanLines::files_turn))]
-fn files_turn(
-    alloc: Global,
-    files: &mut CanFiles,
-    kind: CanKind,
-    arguments: Option<&[u8]>,
-) -> Result<Reply, AllocError>
-    ensures reply { IfOk result (λ reply. option_copied reply ≡ reply_of (files_turn kind files.old (words_left (option_copied arguments.entry)))) }
-    ensures after { OnOk result (Some files.new ≡ tree_after (Some files.old) (files_turn kind files.old (words_left (option_copied arguments.entry)))) }
-{
-    match kind {
-        CanKind::Tree => Ok(None),
-        CanKind::Access => access_line(alloc, files, arguments),
-        CanKind::Group => group_line(alloc, files, arguments),
-        CanKind::Can => can_line(alloc, files, arguments),
-    }
-}
-
-// `tree USER`
-#[tactic(auto, unfolding(crate::specs::CanLines::tree_line))]
-fn tree_line(
-    alloc: Global,
-    random: RandomState,
-    arguments: Option<&[u8]>,
-) -> Result<Option<CanFiles>, AllocError>
-    ensures { IfOk result (λ files. files ≡ tree_line (words_left (option_copied arguments.entry))) }
-{
-    let Some(word) = one_word(arguments) else {
-        return Ok(None);
-    };
-    let Some(owner) = user_named(alloc, word)? else {
-        return Ok(None);
-    };
-    Ok(Some(CanFiles::new(random, owner)))
+    word == wanted
 }
 
 // `access PATH TEXT`
 #[tactic(auto, unfolding(crate::specs::CanLines::access_line))]
-fn access_line(
+pub fn access_line(
     alloc: Global,
     files: &mut CanFiles,
     arguments: Option<&[u8]>,
 ) -> Result<Reply, AllocError>
-    ensures reply { IfOk result (λ reply. option_copied reply ≡ reply_of (named (access_line files.old (words_left (option_copied arguments.entry))))) }
-    ensures after { OnOk result (Some files.new ≡ tree_after (Some files.old) (named (access_line files.old (words_left (option_copied arguments.entry))))) }
+    ensures reply { IfOk result
+        (λ reply. option_copied reply
+        ≡ reply_of (named (access_line files.old (words_left (option_copied arguments.entry))))) }
+    ensures after { OnOk result
+        (Some files.new ≡ tree_after (Some files.old)
+        (named (access_line files.old (words_left (option_copied arguments.entry))))) }
 {
     let Some((path, text)) = two_words(arguments) else {
         return Ok(None);
@@ -196,7 +109,8 @@ fn access_dir(tree: &MapFacts, path: Path) -> Option<Path>
 
 /// The Access text that a word stands for, in this owner's tree.
 fn access_text(alloc: Global, owner: &User, word: &[u8]) -> Result<Option<AccessText>, AllocError>
-    ensures { IfOk result (λ found. found ≡ option_and_then (λ text. result_ok (access_of owner.now text)) (decoded word.now)) }
+    ensures { IfOk result (λ found. found
+        ≡ option_and_then (λ text. result_ok (access_of owner.now text)) (decoded word.now)) }
 {
     let Some(text) = word_text(alloc, word)? else {
         return Ok(None);
@@ -210,13 +124,17 @@ fn access_text(alloc: Global, owner: &User, word: &[u8]) -> Result<Option<Access
 
 // `group PATH TEXT`
 #[tactic(auto, unfolding(crate::specs::CanLines::group_line))]
-fn group_line(
+pub fn group_line(
     alloc: Global,
     files: &mut CanFiles,
     arguments: Option<&[u8]>,
 ) -> Result<Reply, AllocError>
-    ensures reply { IfOk result (λ reply. option_copied reply ≡ reply_of (named (group_line files.old (words_left (option_copied arguments.entry))))) }
-    ensures after { OnOk result (Some files.new ≡ tree_after (Some files.old) (named (group_line files.old (words_left (option_copied arguments.entry))))) }
+    ensures reply { IfOk result
+        (λ reply. option_copied reply
+        ≡ reply_of (named (group_line files.old (words_left (option_copied arguments.entry))))) }
+    ensures after { OnOk result
+        (Some files.new ≡ tree_after (Some files.old)
+        (named (group_line files.old (words_left (option_copied arguments.entry))))) }
 {
     let Some((path, text)) = two_words(arguments) else {
         return Ok(None);
@@ -236,7 +154,8 @@ fn group_line(
 
 /// The Group text that a word stands for, in this owner's tree.
 fn group_text(alloc: Global, owner: &User, word: &[u8]) -> Result<Option<GroupText>, AllocError>
-    ensures { IfOk result (λ found. found ≡ option_and_then (λ text. result_ok (group_of owner.now text)) (decoded word.now)) }
+    ensures { IfOk result (λ found. found
+        ≡ option_and_then (λ text. result_ok (group_of owner.now text)) (decoded word.now)) }
 {
     let Some(text) = word_text(alloc, word)? else {
         return Ok(None);
@@ -248,32 +167,8 @@ fn group_text(alloc: Global, owner: &User, word: &[u8]) -> Result<Option<GroupTe
     }
 }
 
-// `can USER RIGHT PATH`
-#[tactic(auto, unfolding(crate::specs::CanLines::can_line))]
-fn can_line(alloc: Global, files: &CanFiles, arguments: Option<&[u8]>) -> Result<Reply, AllocError>
-    ensures { IfOk result (λ reply. option_copied reply ≡ can_line files.now (words_left (option_copied arguments.entry))) }
-{
-    let Some((user, right, path)) = three_words(arguments) else {
-        return Ok(None);
-    };
-    let Some(user) = user_named(alloc, user)? else {
-        return Ok(None);
-    };
-    let Some(right) = Right::from_word(right) else {
-        return Ok(None);
-    };
-    let Some(path) = path_named(alloc, path)? else {
-        return Ok(None);
-    };
-    if path.owner() != files.tree.owner() {
-        return Ok(None);
-    }
-    let answer = can(alloc, &files.tree, &files.loaded, &user, right, &path)?;
-    Ok(Some(verdict_line(answer)))
-}
-
 /// The line that answers a question.
-fn verdict_line(answer: bool) -> &'static [u8]
+pub fn verdict_line(answer: bool) -> &'static [u8]
     ensures { result.now ≡ verdict_line answer }
 {
     if answer { b"yes\n" } else { b"no\n" }
@@ -281,7 +176,7 @@ fn verdict_line(answer: bool) -> &'static [u8]
 
 /// The user that a word names.
 #[tactic(auto, unfolding(crate::specs::CanLines::user_named))]
-fn user_named(alloc: Global, word: &[u8]) -> Result<Option<User>, AllocError>
+pub fn user_named(alloc: Global, word: &[u8]) -> Result<Option<User>, AllocError>
     ensures { IfOk result (λ found. found ≡ user_named word.now) }
 {
     let Some(text) = word_text(alloc, word)? else {
@@ -306,5 +201,35 @@ fn path_named(alloc: Global, word: &[u8]) -> Result<Option<Path>, AllocError>
         Ok(path) => Ok(Some(path)),
         Err(NameFault::OutOfMemory) => Err(AllocError),
         Err(_) => Ok(None),
+    }
+}
+
+/// Reads the user that a word names into one that is there, and answers whether it names one.
+#[tactic(auto, unfolding(crate::specs::CanLines::user_named))]
+pub fn read_user(alloc: Global, word: &[u8], user: &mut User) -> Result<bool, AllocError>
+    ensures { IfOk result (λ good. user_named word.now ≡ (if good then Some user.new else None)) }
+{
+    let Some(text) = word_text(alloc, word)? else {
+        return Ok(false);
+    };
+    match user.read(text.as_slice()) {
+        Ok(()) => Ok(true),
+        Err(NameFault::OutOfMemory) => Err(AllocError),
+        Err(_) => Ok(false),
+    }
+}
+
+/// Reads the path that a word names into one that is there, and answers whether it names one.
+#[tactic(auto, unfolding(crate::specs::CanLines::path_named))]
+pub fn read_path(alloc: Global, word: &[u8], path: &mut Path) -> Result<bool, AllocError>
+    ensures { IfOk result (λ good. path_named word.now ≡ (if good then Some path.new else None)) }
+{
+    let Some(text) = word_text(alloc, word)? else {
+        return Ok(false);
+    };
+    match path.read(text.as_slice()) {
+        Ok(()) => Ok(true),
+        Err(NameFault::OutOfMemory) => Err(AllocError),
+        Err(_) => Ok(false),
     }
 }

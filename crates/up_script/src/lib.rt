@@ -7,12 +7,14 @@
 //! nothing: no other status comes (`statuses`); 2 and 3 come only where that object's count of faults rose (`read_fault`,
 //! `write_fault`); 7 comes exactly where the source gave more than 67,108,864 bytes (`too_long`, `too_long_always`, for a source
 //! whose count has not come to its end); 64 comes only where the words do not fit, and then 64 or 3 comes and the source is not
-//! read (`usage`, `usage_only`); after 2 and 7 nothing was written (`unread`, `unwritten`).
+//! read (`usage`, `usage_only`), and the usage line was written where 64 came (`usage_written`); after 0 and 1 the source is at
+//! its end (`at_end`); after 2 and 7 the sink is as it was (`untouched`, `unread`, `unwritten`).
 #![tactic(auto)]
 
 mod can;
 mod can_files;
 mod can_lines;
+mod can_script;
 mod output;
 mod status;
 

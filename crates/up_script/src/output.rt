@@ -42,7 +42,8 @@ impl From<AllocError> for Stop {
 
 /// Adds a text to what is gathered, which goes to the sink once it is long.
 pub fn print<K: Sink>(sink: &mut K, gathered: &mut Vec<u8>, text: &[u8]) -> Result<(), Stop>
-    ensures ok { OnOk result (Going (K.held sink.old) (K.held sink.new) gathered.new.items (gathered.old.items ++ text.now)) }
+    ensures ok { OnOk result (Going (K.held sink.old) (K.held sink.new) gathered.new.items
+        (gathered.old.items ++ text.now)) }
     ensures part { WritesPart (K.held sink.old) (K.held sink.new) (gathered.old.items ++ text.now) }
     ensures cause { IsErrOf result Stop.WriteFault → Rose (K.faults sink.old) (K.faults sink.new) }
     ensures later { K.faults sink.old ≤ K.faults sink.new }
@@ -57,7 +58,8 @@ pub fn print<K: Sink>(sink: &mut K, gathered: &mut Vec<u8>, text: &[u8]) -> Resu
 
 /// Writes what is gathered, and a last text behind it.
 pub fn finish<K: Sink>(sink: &mut K, gathered: &mut Vec<u8>, last: &[u8]) -> Result<(), Stop>
-    ensures ok { OnOk result (Appends (K.held sink.old) (K.held sink.new) (gathered.old.items ++ last.now)) }
+    ensures ok { OnOk result (Appends (K.held sink.old) (K.held sink.new)
+        (gathered.old.items ++ last.now)) }
     ensures part { WritesPart (K.held sink.old) (K.held sink.new) (gathered.old.items ++ last.now) }
     ensures cause { IsErrOf result Stop.WriteFault → Rose (K.faults sink.old) (K.faults sink.new) }
     ensures later { K.faults sink.old ≤ K.faults sink.new }

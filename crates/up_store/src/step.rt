@@ -28,8 +28,10 @@ pub fn store_step<D: Disk>(
 ) -> Reply
     requires { IsAsked request.now }
     ensures steps { StoreSteps D.Disk operator.now user.now request.now blocks.old blocks.new result }
-    ensures cause { HasCause (D.faults blocks.old.disk) (D.faults blocks.new.disk) (result ≡ Reply.Io) }
-    ensures grows { OnlyGrows log_of (λ blocks. D.faults blocks.disk) limits_of blocks.old blocks.new }
+    ensures cause { HasCause (D.faults blocks.old.disk) (D.faults blocks.new.disk)
+        (result ≡ Reply.Io) }
+    ensures grows { OnlyGrows log_of
+        (λ blocks. D.faults blocks.disk) limits_of blocks.old blocks.new }
 {
     match request {
         Request::Get(text) => get(blocks, text.as_slice()),
@@ -50,8 +52,10 @@ pub fn store_step<D: Disk>(
 // The reply to a Get of the block of a reference text.
 fn get<D: Disk>(blocks: &mut Blocks<D>, text: &[u8]) -> Reply
     ensures gets { GetsAsked D.Disk text.now blocks.old blocks.new result }
-    ensures cause { HasCause (D.faults blocks.old.disk) (D.faults blocks.new.disk) (result ≡ Reply.Io) }
-    ensures grows { OnlyGrows log_of (λ blocks. D.faults blocks.disk) limits_of blocks.old blocks.new }
+    ensures cause { HasCause (D.faults blocks.old.disk) (D.faults blocks.new.disk)
+        (result ≡ Reply.Io) }
+    ensures grows { OnlyGrows log_of
+        (λ blocks. D.faults blocks.disk) limits_of blocks.old blocks.new }
 {
     match Reference::parse(text) {
         Some(reference) => given_reply(blocks.get(&reference)),
@@ -62,8 +66,10 @@ fn get<D: Disk>(blocks: &mut Blocks<D>, text: &[u8]) -> Reply
 // The reply to a Put of a block.
 fn put<D: Disk>(blocks: &mut Blocks<D>, bytes: &[u8]) -> Reply
     ensures puts { PutsAsked D.Disk bytes.now blocks.old blocks.new result }
-    ensures cause { HasCause (D.faults blocks.old.disk) (D.faults blocks.new.disk) (result ≡ Reply.Io) }
-    ensures grows { OnlyGrows log_of (λ blocks. D.faults blocks.disk) limits_of blocks.old blocks.new }
+    ensures cause { HasCause (D.faults blocks.old.disk) (D.faults blocks.new.disk)
+        (result ≡ Reply.Io) }
+    ensures grows { OnlyGrows log_of
+        (λ blocks. D.faults blocks.disk) limits_of blocks.old blocks.new }
 {
     if is_too_long(bytes) {
         return Reply::Invalid(What::Block);
@@ -74,8 +80,10 @@ fn put<D: Disk>(blocks: &mut Blocks<D>, bytes: &[u8]) -> Reply
 // The reply to a Delete, by a user, of the block of a reference text.
 fn delete<D: Disk>(blocks: &mut Blocks<D>, operator: &User, user: &User, text: &[u8]) -> Reply
     ensures deletes { DeletesAsked D.Disk operator.now user.now text.now blocks.old blocks.new result }
-    ensures cause { HasCause (D.faults blocks.old.disk) (D.faults blocks.new.disk) (result ≡ Reply.Io) }
-    ensures grows { OnlyGrows log_of (λ blocks. D.faults blocks.disk) limits_of blocks.old blocks.new }
+    ensures cause { HasCause (D.faults blocks.old.disk) (D.faults blocks.new.disk)
+        (result ≡ Reply.Io) }
+    ensures grows { OnlyGrows log_of
+        (λ blocks. D.faults blocks.disk) limits_of blocks.old blocks.new }
 {
     let Some(reference) = Reference::parse(text) else {
         return Reply::Invalid(What::Reference);

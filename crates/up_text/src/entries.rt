@@ -50,7 +50,8 @@ pub(crate) fn push_num(out: &mut Vec<u8>, number: u64) -> Result<(), AllocError>
 
 /// Adds a number that may be negative, behind a space.
 fn add_int(out: &mut Vec<u8>, number: i64) -> Result<(), AllocError>
-    ensures { OnOk result (out.new.items ≡ out.old.items ++ behind_spaces (signed_decimal number ∷ [])) }
+    ensures { OnOk result (out.new.items ≡ out.old.items
+        ++ behind_spaces (signed_decimal number ∷ [])) }
 {
     let digits = number.to_string(*out.allocator())?;
     add_plain(out, digits.as_bytes())
@@ -58,7 +59,8 @@ fn add_int(out: &mut Vec<u8>, number: i64) -> Result<(), AllocError>
 
 /// Adds the digits of a reference, behind a space.
 pub(crate) fn add_reference(out: &mut Vec<u8>, reference: &Reference) -> Result<(), AllocError>
-    ensures { OnOk result (out.new.items ≡ out.old.items ++ behind_spaces (text_of reference.now ∷ [])) }
+    ensures { OnOk result (out.new.items ≡ out.old.items
+        ++ behind_spaces (text_of reference.now ∷ [])) }
 {
     let digits = reference.text(*out.allocator())?;
     add_plain(out, digits.as_bytes())
@@ -75,7 +77,8 @@ pub(crate) fn add_entry(out: &mut Vec<u8>, entry: &Entry) -> Result<(), AllocErr
 
 /// Adds the first five words of an entry: its name, kind, sequence, time and writer.
 fn add_heading(out: &mut Vec<u8>, entry: &Entry) -> Result<(), AllocError>
-    ensures { OnOk result (out.new.items ≡ out.old.items ++ behind_spaces (coded (canonical entry.now.name)
+    ensures { OnOk result (out.new.items ≡ out.old.items
+        ++ behind_spaces (coded (canonical entry.now.name)
         ∷ kind_word entry.now.attr ∷ decimal entry.now.sequence ∷ signed_decimal entry.now.time
         ∷ coded entry.now.writer ∷ [])) }
 {
@@ -119,7 +122,8 @@ fn add_kind(out: &mut Vec<u8>, attr: Attr) -> Result<(), AllocError>
 
 /// Adds the target of a link, behind a space.
 fn add_link(out: &mut Vec<u8>, link: &Option<Path>) -> Result<(), AllocError>
-    ensures { OnOk result (out.new.items ≡ out.old.items ++ behind_spaces (coded (link_text link.now) ∷ [])) }
+    ensures { OnOk result (out.new.items ≡ out.old.items
+        ++ behind_spaces (coded (link_text link.now) ∷ [])) }
 {
     match link {
         Some(target) => add_text(out, target.as_str().as_bytes()),
@@ -130,7 +134,8 @@ fn add_link(out: &mut Vec<u8>, link: &Option<Path>) -> Result<(), AllocError>
 /// Adds the signed name, or `=` where it is the name, behind a space.
 #[tactic(auto, unfolding(crate::specs::Entries::signed_word))]
 fn add_signed(out: &mut Vec<u8>, entry: &Entry) -> Result<(), AllocError>
-    ensures { OnOk result (out.new.items ≡ out.old.items ++ behind_spaces (signed_word entry.now ∷ [])) }
+    ensures { OnOk result (out.new.items ≡ out.old.items
+        ++ behind_spaces (signed_word entry.now ∷ [])) }
 {
     if entry.signed_name == entry.name {
         add_plain(out, b"=")
@@ -142,7 +147,8 @@ fn add_signed(out: &mut Vec<u8>, entry: &Entry) -> Result<(), AllocError>
 /// Adds the word of some blocks, behind a space.
 #[tactic(auto, unfolding(crate::specs::Entries::blocks_word))]
 fn add_blocks(out: &mut Vec<u8>, blocks: &[Block]) -> Result<(), AllocError>
-    ensures { OnOk result (out.new.items ≡ out.old.items ++ behind_spaces (blocks_word blocks.now ∷ [])) }
+    ensures { OnOk result (out.new.items ≡ out.old.items
+        ++ behind_spaces (blocks_word blocks.now ∷ [])) }
 {
     let Some((first, more)) = blocks.split_first() else {
         return add_plain(out, b"-");
@@ -154,7 +160,8 @@ fn add_blocks(out: &mut Vec<u8>, blocks: &[Block]) -> Result<(), AllocError>
 
 /// Adds blocks, each behind a comma.
 fn push_further_blocks(out: &mut Vec<u8>, blocks: &[Block]) -> Result<(), AllocError>
-    ensures { OnOk result (out.new.items ≡ out.old.items ++ flat_map (λ b. codes "," ++ block_word b) blocks.now) }
+    ensures { OnOk result (out.new.items ≡ out.old.items
+        ++ flat_map (λ b. codes "," ++ block_word b) blocks.now) }
 {
     for block in blocks {
         push_further_block(out, block)?;
@@ -192,7 +199,8 @@ fn push_number_part(out: &mut Vec<u8>, number: u64) -> Result<(), AllocError>
 
 /// Adds where a block is kept, behind a colon: the address of its store, or `-` for the host's own.
 fn push_store_part(out: &mut Vec<u8>, endpoint: &Endpoint) -> Result<(), AllocError>
-    ensures { OnOk result (out.new.items ≡ out.old.items ++ (codes ":" ++ store_field endpoint.now)) }
+    ensures { OnOk result (out.new.items ≡ out.old.items
+        ++ (codes ":" ++ store_field endpoint.now)) }
 {
     match endpoint {
         Endpoint::Local => out.extend_from_slice(b":-"),
@@ -219,7 +227,8 @@ fn push_reference(out: &mut Vec<u8>, reference: &Reference) -> Result<(), AllocE
 /// Adds the word of some endpoints, behind a space.
 #[tactic(auto, unfolding(crate::specs::Entries::endpoints_word))]
 pub(crate) fn add_endpoints(out: &mut Vec<u8>, endpoints: &[Endpoint]) -> Result<(), AllocError>
-    ensures { OnOk result (out.new.items ≡ out.old.items ++ behind_spaces (endpoints_word endpoints.now ∷ [])) }
+    ensures { OnOk result (out.new.items ≡ out.old.items
+        ++ behind_spaces (endpoints_word endpoints.now ∷ [])) }
 {
     let Some((first, more)) = endpoints.split_first() else {
         return add_plain(out, b"-");
@@ -242,7 +251,8 @@ fn push_further_endpoints(out: &mut Vec<u8>, endpoints: &[Endpoint]) -> Result<(
 
 /// Adds an endpoint behind a comma.
 fn push_further_endpoint(out: &mut Vec<u8>, endpoint: &Endpoint) -> Result<(), AllocError>
-    ensures { OnOk result (out.new.items ≡ out.old.items ++ (codes "," ++ endpoint_word endpoint.now)) }
+    ensures { OnOk result (out.new.items ≡ out.old.items
+        ++ (codes "," ++ endpoint_word endpoint.now)) }
 {
     out.push(b',')?;
     push_endpoint(out, endpoint)

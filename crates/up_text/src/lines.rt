@@ -10,7 +10,8 @@ use memchr::memchr;
 pub fn next_line(text: &[u8]) -> Option<(&[u8], &[u8])>
     ensures none { IsNone result ↔ (text.now ≡ []) }
     ensures no_line { IfNone result (script_lines text.now ≡ []) }
-    ensures lines { IfSome result (λ cut. script_lines text.now ≡ cut.0.now ∷ script_lines cut.1.now) }
+    ensures lines { IfSome result
+        (λ cut. script_lines text.now ≡ cut.0.now ∷ script_lines cut.1.now) }
     ensures line { IfSome result (λ cut. cut.0.now ≡ before_first is_line_end text.now) }
     ensures rest { IfSome result (λ cut. cut.1.now ≡ after_first is_line_end text.now) }
     ensures shorter { IfSome result (λ cut. length cut.1.now < length text.now) }
@@ -18,9 +19,20 @@ pub fn next_line(text: &[u8]) -> Option<(&[u8], &[u8])>
     if text.is_empty() {
         return None;
     }
-    match place_of(b'\n', text) {
+    match line_end(text) {
         Some(end) => Some((&text[..end], &text[end + 1..])),
         None => Some((text, &text[text.len()..])),
+    }
+}
+
+/// The place of the first LF. Where a line has at most one byte, as an empty one and a bare `#` have, it is found at sight.
+fn line_end(text: &[u8]) -> Option<usize>
+    ensures { result ≡ position is_line_end text.now }
+{
+    match text {
+        [b'\n', ..] => Some(0),
+        [_, b'\n', ..] => Some(1),
+        _ => place_of(b'\n', text),
     }
 }
 
@@ -40,7 +52,8 @@ pub fn is_silent(line: &[u8]) -> bool
 /// is handed out like any other, and no reader of a word takes it.
 pub fn cut_word(line: &[u8]) -> (&[u8], Option<&[u8]>)
     ensures words { line_words line.now ≡ result.0.now ∷ words_left (option_copied result.1) }
-    ensures shorter { IfSome result.1 (λ rest. length result.0.now + length rest.now < length line.now) }
+    ensures shorter { IfSome result.1
+        (λ rest. length result.0.now + length rest.now < length line.now) }
 {
     match place_of(b' ', line) {
         Some(end) => (&line[..end], Some(&line[end + 1..])),
@@ -61,7 +74,8 @@ pub fn one_word(rest: Option<&[u8]>) -> Option<&[u8]>
 
 /// What is left of a line as two words. `None` where it has fewer or more.
 pub fn two_words(rest: Option<&[u8]>) -> Option<(&[u8], &[u8])>
-    ensures some { IfSome result (λ cut. words_left (option_copied rest.entry) ≡ cut.0.now ∷ cut.1.now ∷ []) }
+    ensures some { IfSome result
+        (λ cut. words_left (option_copied rest.entry) ≡ cut.0.now ∷ cut.1.now ∷ []) }
     ensures none { IfNone result (length (words_left (option_copied rest.entry)) ≢ 2) }
 {
     let (first, after) = cut_word(rest?);

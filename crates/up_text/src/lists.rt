@@ -39,7 +39,8 @@ pub(crate) fn blocks_of(alloc: Global, word: &[u8]) -> Result<Items<Block>, Line
 
 /// The blocks of a list, each where the one before it ends.
 fn some_blocks(alloc: Global, list: &[u8]) -> Result<Items<Block>, LineFault>
-    ensures { IsMeant (λ blocks. blocks) result (blocks_from (Some 0) (slice_split is_comma list.now)) }
+    ensures { IsMeant (λ blocks. blocks) result
+        (blocks_from (Some 0) (slice_split is_comma list.now)) }
 {
     let mut blocks = Items::new(alloc);
     let mut offset = Some(0);
@@ -155,7 +156,8 @@ pub(crate) fn endpoints_of(alloc: Global, word: &[u8]) -> Result<Items<Endpoint>
 
 /// The endpoints of a list.
 fn some_endpoints(alloc: Global, list: &[u8]) -> Result<Items<Endpoint>, LineFault>
-    ensures { IsMeant (λ endpoints. endpoints) result (all_endpoints (slice_split is_comma list.now)) }
+    ensures { IsMeant (λ endpoints. endpoints) result
+        (all_endpoints (slice_split is_comma list.now)) }
 {
     let mut endpoints = Items::new(alloc);
     for piece in list.split(|b| *b == b',') {

@@ -28,7 +28,8 @@ pub fn reply_lines(alloc: Global, reply: &Reply) -> Result<Items<Bytes>, AllocEr
 /// Adds the lines of a reply.
 #[tactic(auto, unfolding(crate::specs::Replies::reply_words))]
 fn add_lines(alloc: Global, lines: &mut Vec<Bytes>, reply: &Reply) -> Result<(), AllocError>
-    ensures { OnOk result (lines.new.items ≡ lines.old.items ++ map (λ words. spaced words) (reply_words reply.now)) }
+    ensures { OnOk result (lines.new.items ≡ lines.old.items
+        ++ map (λ words. spaced words) (reply_words reply.now)) }
 {
     match reply {
         Reply::Ok(done) => {
@@ -78,7 +79,8 @@ fn add_counted(
     word: &[u8],
     number: u64,
 ) -> Result<(), AllocError>
-    ensures { OnOk result (lines.new.items ≡ lines.old.items ++ spaced (word.now ∷ decimal number ∷ []) ∷ []) }
+    ensures { OnOk result (lines.new.items ≡ lines.old.items
+        ++ spaced (word.now ∷ decimal number ∷ []) ∷ []) }
 {
     let mut line = Vec::from_slice(alloc, word)?;
     add_num(&mut line, number)?;
@@ -92,7 +94,8 @@ fn add_named(
     word: &[u8],
     second: &[u8],
 ) -> Result<(), AllocError>
-    ensures { OnOk result (lines.new.items ≡ lines.old.items ++ spaced (word.now ∷ second.now ∷ []) ∷ []) }
+    ensures { OnOk result (lines.new.items ≡ lines.old.items
+        ++ spaced (word.now ∷ second.now ∷ []) ∷ []) }
 {
     let mut line = Vec::from_slice(alloc, word)?;
     add_plain(&mut line, second)?;
@@ -106,7 +109,8 @@ fn add_told(
     word: &[u8],
     text: &[u8],
 ) -> Result<(), AllocError>
-    ensures { OnOk result (lines.new.items ≡ lines.old.items ++ spaced (word.now ∷ coded text.now ∷ []) ∷ []) }
+    ensures { OnOk result (lines.new.items ≡ lines.old.items
+        ++ spaced (word.now ∷ coded text.now ∷ []) ∷ []) }
 {
     let mut line = Vec::from_slice(alloc, word)?;
     add_text(&mut line, text)?;
@@ -120,7 +124,8 @@ fn add_kept(
     word: &[u8],
     reference: &Reference,
 ) -> Result<(), AllocError>
-    ensures { OnOk result (lines.new.items ≡ lines.old.items ++ spaced (word.now ∷ text_of reference.now ∷ []) ∷ []) }
+    ensures { OnOk result (lines.new.items ≡ lines.old.items
+        ++ spaced (word.now ∷ text_of reference.now ∷ []) ∷ []) }
 {
     let mut line = Vec::from_slice(alloc, word)?;
     add_reference(&mut line, reference)?;
@@ -134,7 +139,8 @@ fn add_found(
     word: &[u8],
     entry: &Entry,
 ) -> Result<(), AllocError>
-    ensures { OnOk result (lines.new.items ≡ lines.old.items ++ spaced (word.now ∷ entry_words entry.now) ∷ []) }
+    ensures { OnOk result (lines.new.items ≡ lines.old.items
+        ++ spaced (word.now ∷ entry_words entry.now) ∷ []) }
 {
     let mut line = Vec::from_slice(alloc, word)?;
     add_entry(&mut line, entry)?;
@@ -153,7 +159,8 @@ fn add_invalid(alloc: Global, lines: &mut Vec<Bytes>, what: What) -> Result<(), 
 
 /// Adds what is malformed, and for a pattern the number of the element.
 fn add_what(out: &mut Vec<u8>, what: What) -> Result<(), AllocError>
-    ensures { OnOk result (out.new.items ≡ out.old.items ++ behind_spaces (what_word what ∷ element_words what)) }
+    ensures { OnOk result (out.new.items ≡ out.old.items
+        ++ behind_spaces (what_word what ∷ element_words what)) }
 {
     match what {
         What::Pattern(element) => {
@@ -217,7 +224,8 @@ fn add_watched(
 
 /// Adds the line of a key record.
 fn add_key(alloc: Global, lines: &mut Vec<Bytes>, known: &KeyRecord) -> Result<(), AllocError>
-    ensures { OnOk result (lines.new.items ≡ lines.old.items ++ spaced (codes "key" ∷ key_words known.now) ∷ []) }
+    ensures { OnOk result (lines.new.items ≡ lines.old.items
+        ++ spaced (codes "key" ∷ key_words known.now) ∷ []) }
 {
     let mut line = Vec::from_slice(alloc, b"key")?;
     add_text(&mut line, known.user.text().as_bytes())?;
@@ -230,7 +238,8 @@ fn add_key(alloc: Global, lines: &mut Vec<Bytes>, known: &KeyRecord) -> Result<(
 /// Adds the lines behind the first one of what was done.
 #[tactic(auto, unfolding(crate::specs::Replies::further_words))]
 fn add_further(alloc: Global, lines: &mut Vec<Bytes>, done: &Done) -> Result<(), AllocError>
-    ensures { OnOk result (lines.new.items ≡ lines.old.items ++ map (λ words. spaced words) (further_words done.now)) }
+    ensures { OnOk result (lines.new.items ≡ lines.old.items
+        ++ map (λ words. spaced words) (further_words done.now)) }
 {
     match done {
         Done::Rows(rows) => add_rows(alloc, lines, rows.as_slice()),
@@ -273,7 +282,8 @@ fn add_events(
     events: &[WatchEvent],
 ) -> Result<(), AllocError>
     ensures { OnOk result (lines.new.items
-        ≡ lines.old.items ++ map (λ words. spaced words) (map (λ event. event_words event) events.now)) }
+        ≡ lines.old.items
+        ++ map (λ words. spaced words) (map (λ event. event_words event) events.now)) }
 {
     for event in events {
         add_event(alloc, lines, event)?;
@@ -283,7 +293,8 @@ fn add_events(
 
 /// Adds the line of an event.
 fn add_event(alloc: Global, lines: &mut Vec<Bytes>, event: &WatchEvent) -> Result<(), AllocError>
-    ensures { OnOk result (lines.new.items ≡ lines.old.items ++ spaced (event_words event.now) ∷ []) }
+    ensures { OnOk result (lines.new.items ≡ lines.old.items
+        ++ spaced (event_words event.now) ∷ []) }
 {
     let mut line = Vec::from_slice(alloc, b"event")?;
     add_num(&mut line, event.position)?;

@@ -231,7 +231,8 @@ fn plain_entry(
     time: &Bytes,
     sequence: &Bytes,
 ) -> Result<PutEntry, LineFault>
-    ensures { IsMeant (λ put. put) result (plain_entry user.now attr path.now time.now sequence.now) }
+    ensures { IsMeant (λ put. put) result
+        (plain_entry user.now attr path.now time.now sequence.now) }
 {
     let name = text_named(alloc, path.as_slice())?;
     let time = int_named(time)?;

@@ -72,7 +72,8 @@ fn has_end(word: &[u8]) -> bool
 
 /// The bytes that a word without space and LF stands for.
 fn decode(alloc: Global, bytes: &[u8]) -> Result<Option<Vec<u8>>, AllocError>
-    ensures { IfOk result (λ found. option_map (λ text. text.items) found ≡ decoded_bytes bytes.now) }
+    ensures { IfOk result (λ found. option_map (λ text. text.items) found
+        ≡ decoded_bytes bytes.now) }
 {
     let mut text = Vec::with_capacity(alloc, bytes.len())?;
     let mut rest = bytes;
@@ -212,7 +213,8 @@ fn push_bytes(out: &mut Vec<u8>, text: &[u8]) -> Result<(), AllocError>
 
 /// Adds a byte as it is coded in output. An `Err` leaves `out` as it was.
 fn push_byte(out: &mut Vec<u8>, byte: u8) -> Result<(), AllocError>
-    ensures { out.new.items ≡ (if is_ok result then out.old.items ++ coded_byte byte else out.old.items) }
+    ensures { out.new.items ≡ (if is_ok result then out.old.items
+        ++ coded_byte byte else out.old.items) }
 {
     if byte <= b' ' || byte == b'%' || byte == 0x7F {
         push_escape(out, byte)
@@ -223,7 +225,8 @@ fn push_byte(out: &mut Vec<u8>, byte: u8) -> Result<(), AllocError>
 
 /// Adds `%` and the digits of a byte. An `Err` leaves `out` as it was.
 fn push_escape(out: &mut Vec<u8>, byte: u8) -> Result<(), AllocError>
-    ensures { out.new.items ≡ (if is_ok result then out.old.items ++ escape byte else out.old.items) }
+    ensures { out.new.items ≡ (if is_ok result then out.old.items
+        ++ escape byte else out.old.items) }
 {
     out.extend_from_slice(&[b'%', upper_digit(byte / 16), upper_digit(byte % 16)])
 }
@@ -255,7 +258,8 @@ fn push_field_bytes(out: &mut Vec<u8>, text: &[u8]) -> Result<(), AllocError>
 
 /// Adds a byte as it is coded in a field. An `Err` leaves `out` as it was.
 fn push_field_byte(out: &mut Vec<u8>, byte: u8) -> Result<(), AllocError>
-    ensures { out.new.items ≡ (if is_ok result then out.old.items ++ field_byte byte else out.old.items) }
+    ensures { out.new.items ≡ (if is_ok result then out.old.items
+        ++ field_byte byte else out.old.items) }
 {
     if byte == b':' || byte == b',' {
         push_escape(out, byte)

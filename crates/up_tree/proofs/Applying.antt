@@ -1,5 +1,5 @@
 -- A record that is added, or refused.
-use Rattle.std.proofs.Common.{◌≡◌, ◌≢◌, ◌≤◌, ℕ, Bool, true, false, not, List, [], ◌∷◌, ◌++◌, length, map, is_ok, if◌then◌else◌, IfSome, Option, Some, None, Result, Ok, Err, IsErrAnd, refl, sym, ◌∙◌, ap, subst, ◌⊎◌}
+use Rattle.std.proofs.Common.{◌≡◌, ◌≢◌, ℕ, Bool, true, false, not, List, [], ◌∷◌, ◌++◌, length, is_ok, if◌then◌else◌, IfSome, Option, Some, None, Result, Ok, Err, IsErrAnd, refl, sym, ◌∙◌, ap, subst, ◌⊎◌, is_some}
 use Rattle.std.specs.Result.{result_ok}
 use Rattle.std.proofs.lemmas.Bool.{false≢true}
 use Rattle.up_disk.specs.declared.disk.Disk.{Ghosts}
@@ -7,7 +7,6 @@ use Rattle.up_entry.specs.ControlFiles.{is_control_file, is_ordinary}
 use Rattle.up_entry.specs.Reading.{rec_of}
 use Rattle.up_entry.specs.Spelling as spelling
 use Rattle.up_entry.specs.Spelling.{IsSpelledRec}
-use Rattle.up_entry.specs.declared.entries.Entry.{Entry}
 use Rattle.up_entry.specs.declared.entries.Kind.{Kind}
 use Rattle.up_entry.specs.declared.entries.Kind.TheVariants.{File, Directory, Link}
 use Rattle.up_entry.specs.declared.records.Rec.{Rec}
@@ -29,7 +28,7 @@ use Rattle.up_names.specs.PathNames.{PathName, control_of}
 use Rattle.up_names.specs.declared.paths.Control.{Control}
 use Rattle.up_names.specs.declared.paths.Control.TheVariants.{Ordinary, Access, Group}
 use Rattle.up_nodes.proofs.Tested.{fits_test}
-use Rattle.up_replay.specs.Fits.{Fits, PutFits, TextFits, control_for, fits}
+use Rattle.up_replay.specs.Fits.{Fits, TextFits, control_for, fits}
 use Rattle.up_tree.specs.States.{Applies, State, entries_of, fixed_of, record_in, state_of}
 
 -- ---- a record that fits has a spelling
@@ -82,11 +81,12 @@ module _ {D : Type 0} (disks : Ghosts D) (owner : List ℕ) where
     -- once it is appended
     pub applied : (position : ℕ) → KeepsLog disks record_in (fits owner) spelling.rec old log → Fits owner log rec → record_in payload ≡ Some rec → payload ≡ spelling.rec rec
         → new.sizes ≡ old.sizes ++ length payload ∷ [] → new.log ≡ with_further old.log (Some payload) → IsSettled new → new.limits ≡ old.limits → position ≡ length new.sizes
+        → is_some (disks.content new.disk) ≡ is_some (disks.content old.disk)
         → Leaves disks old.disk new.disk (StandsFor new.limits.largest new.log new.further) (MayHave old.limits.largest old.log old.further payload)
         → (is_full old.limits old.sizes (length payload) ≡ true → ⊥) → HasCause (disks.faults old.disk) (disks.faults new.disk) ⊥
         → KeepsLog disks record_in (fits owner) spelling.rec new (log ++ rec ∷ []) × Applies disks rec (state_of owner old log) (state_of owner new (log ++ rec ∷ [])) (Ok position)
-    applied position keeps fitting decoded spelled sized longer settled same place crash room cause =
-        let adds = adds_ok disks record_in (fits owner) spelling.rec old new log rec payload position keeps decoded (fits_test owner log rec fitting) spelled sized longer settled same place crash in (
+    applied position keeps fitting decoded spelled sized longer settled same place told crash room cause =
+        let adds = adds_ok disks record_in (fits owner) spelling.rec old new log rec payload position keeps decoded (fits_test owner log rec fitting) spelled sized longer settled same place told crash in (
           adds.0,
           record {
             added = adds.1;
@@ -101,13 +101,14 @@ module _ {D : Type 0} (disks : Ghosts D) (owner : List ℕ) where
     -- once it is refused by the journal
     pub not_applied : (a : AppendWhy) → KeepsLog disks record_in (fits owner) spelling.rec old log → Fits owner log rec → record_in payload ≡ Some rec → payload ≡ spelling.rec rec
         → new.sizes ≡ old.sizes → new.log ≡ old.log → new.limits ≡ old.limits → (new.further ≡ None) ⊎ ((new.further ≡ old.further) ⊎ (new.further ≡ Some payload))
+        → is_some (disks.content new.disk) ≡ is_some (disks.content old.disk)
         → Leaves disks old.disk new.disk (StandsFor new.limits.largest new.log new.further) (MayHave old.limits.largest old.log old.further payload)
         → (is_full old.limits old.sizes (length payload) ≡ true → a ≡ append.Full (length old.sizes))
         → ((n : ℕ) → a ≡ append.Full n → (is_full old.limits old.sizes (length payload) ≡ true) × (n ≡ length old.sizes))
         → (a ≢ append.Fault → new ≡ old) → HasCause (disks.faults old.disk) (disks.faults new.disk) (a ≡ append.Fault)
         → KeepsLog disks record_in (fits owner) spelling.rec new log × Applies disks rec (state_of owner old log) (state_of owner new log) (Err a)
-    not_applied a keeps fitting decoded spelled sized same_log same which crash full full_only untouched cause =
-        let adds = adds_err disks record_in (fits owner) spelling.rec old new log rec payload a keeps decoded (fits_test owner log rec fitting) sized same_log same which crash in
+    not_applied a keeps fitting decoded spelled sized same_log same which told crash full full_only untouched cause =
+        let adds = adds_err disks record_in (fits owner) spelling.rec old new log rec payload a keeps decoded (fits_test owner log rec fitting) sized same_log same which told crash in
         let limit = keeps_full disks record_in (fits owner) spelling.rec old log rec payload keeps spelled in
         let count = keeps_len disks record_in (fits owner) spelling.rec old log keeps in (
           adds.0,

@@ -1,5 +1,5 @@
 -- How many bytes a log has, by the sizes of its records.
-use Rattle.std.proofs.Common.{◌≡◌, ◌+◌, ◌≤◌, ◌∙◌, ℕ, List, [], ◌∷◌, length, map, ap, sym, subst, Option, Some, None, IfSome, refl, arith, sum_by}
+use Rattle.std.proofs.Common.{◌≡◌, ◌+◌, ◌≤◌, ℕ, List, [], ◌∷◌, length, map, ap, Option, Some, None, IfSome, refl, arith, sum_by}
 use Rattle.std.proofs.lemmas.List.{length-map}
 use Rattle.std.proofs.lemmas.List.Sums.{sum_by-cons}
 use Rattle.up_entry.specs.declared.records.Rec.{Rec}

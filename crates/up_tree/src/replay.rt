@@ -48,7 +48,8 @@ fn take(alloc: Global, tree: &mut MemTree, payload: &[u8]) -> Result<bool, Alloc
         → log_step record_in (fits tree.old.owner) tree.old.log payload.now ≡ Some tree.new.log }
     ensures not_taken { result ≡ Ok false
         → log_step record_in (fits tree.old.owner) tree.old.log payload.now ≡ None }
-    ensures sizes { result ≡ Ok true → sizes_of tree.new.log ≡ sizes_of tree.old.log ++ length payload.now ∷ [] }
+    ensures sizes { result ≡ Ok true → sizes_of tree.new.log ≡ sizes_of tree.old.log
+        ++ length payload.now ∷ [] }
 {
     let Some(rec) = spelled(alloc, payload)? else {
         return Ok(false);
@@ -71,7 +72,8 @@ fn take_all<D: Disk>(
     ensures log { OnOk result ((log : List (List ℕ)) → journal.old.log ≡ Some log
         → replay (log_step record_in (fits tree.old.owner)) [] log ≡ Ok tree.new.log) }
     ensures sizes { OnOk result (journal.old.sizes ≡ sizes_of tree.new.log) }
-    ensures damaged { IfErr result (IsDamageOf (replay (log_step record_in (fits tree.old.owner)) []) journal.old.log) }
+    ensures damaged { IfErr result
+        (IsDamageOf (replay (log_step record_in (fits tree.old.owner)) []) journal.old.log) }
     ensures read { OnlyPayloads D.Disk journal.old journal.new }
     ensures counts { HasCause (D.faults journal.old.disk) (D.faults journal.new.disk)
         (IsErrOf result OpenWhy.Fault) }
@@ -96,7 +98,8 @@ pub fn replay<D: Disk>(
     ensures log { IfOk result (λ tree. (log : List (List ℕ)) → journal.old.log ≡ Some log
         → replay (log_step record_in (fits owner)) [] log ≡ Ok tree.log) }
     ensures sizes { IfOk result (λ tree. journal.old.sizes ≡ sizes_of tree.log) }
-    ensures damaged { IfErr result (IsDamageOf (replay (log_step record_in (fits owner)) []) journal.old.log) }
+    ensures damaged { IfErr result
+        (IsDamageOf (replay (log_step record_in (fits owner)) []) journal.old.log) }
     ensures read { OnlyPayloads D.Disk journal.old journal.new }
     ensures counts { HasCause (D.faults journal.old.disk) (D.faults journal.new.disk)
         (IsErrOf result OpenWhy.Fault) }

@@ -166,14 +166,16 @@ impl<D: Disk> TreeState<D> {
 
     /// The rules of the Access file in a directory. It takes no memory and parses nothing.
     pub fn access(&self, dir: &Path) -> Option<&AccessText>
-        ensures { option_copied result ≡ (facts_of self.now.owner (tree_of self.now.log)).access dir.now }
+        ensures { option_copied result
+            ≡ (facts_of self.now.owner (tree_of self.now.log)).access dir.now }
     {
         self.tree.access_at(dir, self.tree.position())
     }
 
     /// The items of the Group file at a path. It takes no memory and parses nothing.
     pub fn group(&self, path: &Path) -> Option<&GroupText>
-        ensures { option_copied result ≡ (facts_of self.now.owner (tree_of self.now.log)).group path.now }
+        ensures { option_copied result
+            ≡ (facts_of self.now.owner (tree_of self.now.log)).group path.now }
     {
         self.tree.group_at(path, self.tree.position())
     }
@@ -181,7 +183,8 @@ impl<D: Disk> TreeState<D> {
     /// The rules of the Access file in a directory after the first `n` records. It takes no memory and parses nothing.
     pub fn access_at(&self, dir: &Path, n: u64) -> Option<&AccessText>
         requires { n ≤ length self.now.log }
-        ensures { option_copied result ≡ (facts_of self.now.owner (tree_at self.now.log n)).access dir.now }
+        ensures { option_copied result
+            ≡ (facts_of self.now.owner (tree_at self.now.log n)).access dir.now }
     {
         self.tree.access_at(dir, n)
     }
@@ -189,7 +192,8 @@ impl<D: Disk> TreeState<D> {
     /// The items of the Group file at a path after the first `n` records. It takes no memory and parses nothing.
     pub fn group_at(&self, path: &Path, n: u64) -> Option<&GroupText>
         requires { n ≤ length self.now.log }
-        ensures { option_copied result ≡ (facts_of self.now.owner (tree_at self.now.log n)).group path.now }
+        ensures { option_copied result
+            ≡ (facts_of self.now.owner (tree_at self.now.log n)).group path.now }
     {
         self.tree.group_at(path, n)
     }
@@ -199,7 +203,8 @@ impl<D: Disk> TreeState<D> {
     pub fn nearest_at(&self, path: &Path, n: u64) -> Option<(u64, &AccessText)>
         requires { n ≤ length self.now.log }
         ensures text { option_map (λ found. found.1.now) result
-            ≡ first_text (facts_of self.now.owner (tree_at self.now.log n)).access (prefixes path.now) }
+            ≡ first_text (facts_of self.now.owner (tree_at self.now.log n)).access
+            (prefixes path.now) }
         ensures dir { option_map (λ found. cut found.0 path.now) result
             ≡ governing_prefix (tree_at self.now.log n) path.now }
     {
@@ -244,11 +249,13 @@ impl<D: Disk> TreeState<D> {
     /// Adds a record that fits, after a doubtful one is settled. `Ok` is its position, from 1: from then on each crash leaves the log
     /// with it. `Full` comes at the limits; then, and for want of memory, no call of the disk is made. After a `Fault` the tree and
     /// its log are as before, and one record may be doubtful.
+    #[tactic(auto, using(crate::proofs::Applying::applied_grows))]
     pub fn apply(&mut self, rec: Rec) -> Result<u64, AppendWhy>
         requires fits { Fits self.old.owner self.old.log rec }
         requires size { size_of rec ≤ self.old.limits.largest }
         ensures applies { Applies D.Disk rec self.old self.new result }
-        ensures grows { OnlyGrows entries_of (λ state. D.faults state.disk) fixed_of self.old self.new }
+        ensures grows { OnlyGrows entries_of
+            (λ state. D.faults state.disk) fixed_of self.old self.new }
     {
         self.add(rec)
     }
@@ -271,7 +278,8 @@ impl<D: Disk> TreeState<D> {
         ensures resolves { Resolves D.Disk self.old self.new result }
         ensures untouched { self.old.doubtful ≡ false → IsOk result × (self.new ≡ self.old) }
         ensures cause { HasCause (D.faults self.old.disk) (D.faults self.new.disk) (IsErr result) }
-        ensures grows { OnlyGrows entries_of (λ state. D.faults state.disk) fixed_of self.old self.new }
+        ensures grows { OnlyGrows entries_of
+            (λ state. D.faults state.disk) fixed_of self.old self.new }
     {
         self.journal.resolve()
     }

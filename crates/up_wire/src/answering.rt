@@ -66,7 +66,8 @@ pub(crate) fn take_reply(
     place: u64,
     input: &mut Reader,
 ) -> Result<Reply, FieldFault>
-    ensures { Gives (λ given. (Answer given, input.new)) result (row_at reply_table place number input.old) }
+    ensures { Gives (λ given. (Answer given, input.new)) result
+        (row_at reply_table place number input.old) }
 {
     match number {
         0x00 => Ok(Reply::Ok(Done::take(alloc, input)?)),
@@ -93,7 +94,8 @@ pub(crate) fn take_reply(
 
 /// Appends the number and the fields of a reply. A call that finds no memory may leave a part of them.
 pub(crate) fn append_reply(reply: &Reply, out: &mut Writer) -> Result<(), AllocError>
-    ensures appended { OnOk result (out.new ≡ out.old ++ (byte (reply_tag reply.now) ++ reply_fields reply.now)) }
+    ensures appended { OnOk result
+        (out.new ≡ out.old ++ (byte (reply_tag reply.now) ++ reply_fields reply.now)) }
     ensures kept { take (length out.old) out.new ≡ out.old }
     ensures typed { IfOk result (λ _. IsReply reply.now) }
 {

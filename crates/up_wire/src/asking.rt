@@ -21,7 +21,8 @@ pub(crate) fn take_request(
     place: u64,
     input: &mut Reader,
 ) -> Result<Request, FieldFault>
-    ensures { Gives (λ asked. (Ask asked, input.new)) result (row_at request_table place tag input.old) }
+    ensures { Gives (λ asked. (Ask asked, input.new)) result
+        (row_at request_table place tag input.old) }
 {
     match tag {
         0x10 => Ok(Request::Lookup(input.text(alloc)?)),
@@ -52,7 +53,8 @@ fn take_watch(alloc: Global, input: &mut Reader) -> Result<Request, FieldFault>
 
 /// Appends the tag and the fields of a request. A call that finds no memory may leave a part of them.
 pub(crate) fn append_request(asked: &Request, out: &mut Writer) -> Result<(), AllocError>
-    ensures appended { OnOk result (out.new ≡ out.old ++ (byte (request_tag asked.now) ++ request_fields asked.now)) }
+    ensures appended { OnOk result
+        (out.new ≡ out.old ++ (byte (request_tag asked.now) ++ request_fields asked.now)) }
     ensures kept { take (length out.old) out.new ≡ out.old }
     ensures typed { IfOk result (λ _. IsRequest asked.now) }
 {

@@ -124,7 +124,8 @@ pub fn write_key_record(alloc: Global, known: &KeyRecord) -> Result<Bytes, Alloc
     ensures written { IfOk result (λ bytes. bytes ≡ logged known.now) }
 
     // What is written of a record that has a spelling is read again.
-    ensures again { IfOk result (λ bytes. IsSpelledKeyRecord known.now → logged_of bytes ≡ Ok known.now) }
+    ensures again { IfOk result
+        (λ bytes. IsSpelledKeyRecord known.now → logged_of bytes ≡ Ok known.now) }
 {
     let mut out = Writer::with_capacity(alloc, key_record_size(known))?;
     out.byte(1)?;
@@ -175,14 +176,16 @@ fn take_logged(alloc: Global, bytes: &[u8]) -> Result<KeyRecord, FieldFault>
 
 /// The bytes that spell a record are read as this record.
 fn is_read_again(known: &KeyRecord, bytes: &[u8])
-    ensures { FitsKeyRecord known.now → bytes.now ≡ logged known.now → logged_of bytes.now ≡ Ok known.now }
+    ensures { FitsKeyRecord known.now → bytes.now ≡ logged known.now → logged_of bytes.now
+        ≡ Ok known.now }
 {
     key_records_have_one_spelling();
 }
 
 /// What is read as a record has a spelling, which is what was read.
 fn is_spelled(known: &KeyRecord, bytes: &[u8])
-    ensures { logged_of bytes.now ≡ Ok known.now → FitsKeyRecord known.now × (bytes.now ≡ logged known.now) }
+    ensures { logged_of bytes.now ≡ Ok known.now
+        → FitsKeyRecord known.now × (bytes.now ≡ logged known.now) }
 {
     key_records_have_one_spelling();
 }

@@ -134,7 +134,8 @@ pub fn write_client(alloc: Global, frame: &ClientFrame) -> Result<Bytes, AllocEr
     ensures written { IfOk result (λ bytes. bytes ≡ client frame.now) }
 
     // What is written of a message that has a spelling is read again.
-    ensures again { IfOk result (λ bytes. IsSpelledClient frame.now → client_of bytes ≡ Ok frame.now) }
+    ensures again { IfOk result
+        (λ bytes. IsSpelledClient frame.now → client_of bytes ≡ Ok frame.now) }
 {
     let bytes = write_whole(alloc, frame)?;
     is_client_again(frame, bytes.as_slice());
@@ -162,7 +163,8 @@ pub fn write_server(alloc: Global, frame: &ServerFrame) -> Result<Bytes, AllocEr
     ensures written { IfOk result (λ bytes. bytes ≡ server frame.now) }
 
     // What is written of a message that has a spelling is read again.
-    ensures again { IfOk result (λ bytes. IsSpelledServer frame.now → server_of bytes ≡ Ok frame.now) }
+    ensures again { IfOk result
+        (λ bytes. IsSpelledServer frame.now → server_of bytes ≡ Ok frame.now) }
 {
     let bytes = write_whole(alloc, frame)?;
     is_server_again(frame, bytes.as_slice());
@@ -187,28 +189,32 @@ pub fn read_server(alloc: Global, bytes: &[u8]) -> Result<ServerFrame, FieldFaul
 
 /// The bytes that spell a client's message are read as this message.
 fn is_client_again(frame: &ClientFrame, bytes: &[u8])
-    ensures { FitsClient frame.now → bytes.now ≡ client frame.now → client_of bytes.now ≡ Ok frame.now }
+    ensures { FitsClient frame.now → bytes.now ≡ client frame.now → client_of bytes.now
+        ≡ Ok frame.now }
 {
     messages_have_one_spelling();
 }
 
 /// What is read as a client's message has a spelling, which is what was read.
 fn is_client_spelled(frame: &ClientFrame, bytes: &[u8])
-    ensures { client_of bytes.now ≡ Ok frame.now → FitsClient frame.now × (bytes.now ≡ client frame.now) }
+    ensures { client_of bytes.now ≡ Ok frame.now
+        → FitsClient frame.now × (bytes.now ≡ client frame.now) }
 {
     messages_have_one_spelling();
 }
 
 /// The bytes that spell a server's message are read as this message.
 fn is_server_again(frame: &ServerFrame, bytes: &[u8])
-    ensures { FitsServer frame.now → bytes.now ≡ server frame.now → server_of bytes.now ≡ Ok frame.now }
+    ensures { FitsServer frame.now → bytes.now ≡ server frame.now → server_of bytes.now
+        ≡ Ok frame.now }
 {
     messages_have_one_spelling();
 }
 
 /// What is read as a server's message has a spelling, which is what was read.
 fn is_server_spelled(frame: &ServerFrame, bytes: &[u8])
-    ensures { server_of bytes.now ≡ Ok frame.now → FitsServer frame.now × (bytes.now ≡ server frame.now) }
+    ensures { server_of bytes.now ≡ Ok frame.now
+        → FitsServer frame.now × (bytes.now ≡ server frame.now) }
 {
     messages_have_one_spelling();
 }

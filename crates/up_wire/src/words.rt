@@ -39,7 +39,8 @@ pub(crate) fn what_number(what: What) -> u8
 
 /// The number of the element that is malformed, where what is malformed is one of a pattern.
 pub(crate) fn element_of(what: What) -> Option<u64>
-    ensures fields { MatchOption result (what_fields what ≡ []) (λ element. what_fields what ≡ num element) }
+    ensures fields { MatchOption result (what_fields what ≡ [])
+        (λ element. what_fields what ≡ num element) }
     ensures typed { IsWhat what }
 {
     match what {

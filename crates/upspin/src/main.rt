@@ -1,6 +1,7 @@
 //! The program `upspin`: it makes the real source and sink, and hands them to a command's top call.
 #![tactic(auto)]
 
+use std::alloc::AllocError;
 use std::hash::RandomState;
 use std::process::ExitCode;
 use std::rt::Env;
@@ -14,11 +15,20 @@ const READ_FAULT: u8 = 2;
 /// The status for want of memory before a command runs.
 const OUT_OF_MEMORY: u8 = 4;
 
-/// The words behind the program's name.
-fn words(rt: &(impl Env + AllocGlobal)) -> io::Result<Vec<String>> {
+/// The words behind the program's name. One that is not UTF-8 is no word of a command, and then there is none at all.
+fn words(rt: &(impl Env + AllocGlobal)) -> Result<Vec<String>, AllocError> {
     let mut words = Vec::new(rt.alloc());
-    for word in env::args(rt)?.skip(1) {
-        words.push(word)?;
+    match env::args(rt) {
+        Ok(all) => {
+            for word in all.skip(1) {
+                words.push(word)?;
+            }
+        }
+        Err(error) => {
+            if error.kind() == io::ErrorKind::OutOfMemory {
+                return Err(AllocError);
+            }
+        }
     }
     Ok(words)
 }
@@ -36,6 +46,25 @@ fn status(rt: &HostRuntime) -> u8 {
     can_run(rt.alloc(), random, &words, &mut source, &mut sink)
 }
 
+/// What a status means for people, and where to read on; nothing after 0, and after 64, whose usage line was printed.
+fn meaning(status: u8) -> Option<&'static str> {
+    match status {
+        1 => Some("upspin: a line of the script is malformed (docs/MISTAKES.md)"),
+        2 => Some(
+            "upspin: no input or no random keys, and nothing was printed (README.md, Statuses)",
+        ),
+        3 => Some("upspin: standard output failed, and not all was printed (README.md, Statuses)"),
+        4 => Some("upspin: there was no memory, and not all was printed (README.md, Statuses)"),
+        7 => Some("upspin: the script is too long, and nothing was printed (README.md, Statuses)"),
+        _ => None,
+    }
+}
+
 fn main(rt: HostRuntime) -> ExitCode {
-    ExitCode::from(status(&rt))
+    let status = status(&rt);
+    if let Some(line) = meaning(status) {
+        // Where even this line cannot be written, the status says it.
+        let _ = rt.eprintln(line);
+    }
+    ExitCode::from(status)
 }

@@ -1,9 +1,7 @@
 //! A script, how its source and its sink behave, and what comes of it.
-use crate::fault::Fault;
-use crate::lines::Case;
-use crate::words::{Words, bytes_of};
 use std::alloc::{AllocError, Global};
 use std::hash::RandomState;
+use up_case_lines::{Case, Fault, Words, bytes_of};
 use up_ends::{MemSink, MemSource};
 use up_lists::Items;
 use up_script::can_run;

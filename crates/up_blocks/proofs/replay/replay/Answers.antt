@@ -1,7 +1,7 @@
 use Rattle.std.proofs.Common.{◌≡◌, None, Ok, true, IsErrOf, ℕ, List, [], ◌∷◌, ◌++◌, ◌∙◌, ap, sym, subst, length, map}
 use Rattle.up_blocks.specs.Kept.{IsTaken, record_of, size_kept}
 use Rattle.up_blocks.specs.Records.{decoded, fits}
-use Rattle.up_blocks.proofs.Replayed.{index_next, memory_damage, read_damage, read_next, up_to}
+use Rattle.up_blocks.proofs.Replayed.{fits_next, index_next, memory_damage, read_damage, read_next, up_to}
 use Rattle.up_faults.proofs.Causes.{HasCause-then, HasCause-weaker}
 use Rattle.up_journal.specs.Journal.{State}
 use Rattle.up_journal.specs.declared.fault.ReadWhy.TheVariants as read_why
@@ -44,6 +44,7 @@ loop-n-preserved g c =
       so_far = read_next old.log n _ payload before after seen
           (next_read g.D.Disk (log_step decoded fits) [] old mid n log (log ++ record_of payload ∷ []) payload i.so_far i.read c.in_ok-payload.ensures.payload c.in_ok-payload.ensures.size taken.step);
       index = index_next old.log n payload before after c.take.new.index.numbers.entries seen taken;
+      fitting = fits_next old.log n payload before after c.take.new.index.numbers.entries seen taken i.fitting;
       read = payload_read g.D.Disk old mid c.payload.new.self i.read e.unchanged e.content e.fewer e.crash;
       counts = HasCause-then (g.D.Disk.faults old.disk) (g.D.Disk.faults mid.disk) (g.D.Disk.faults c.payload.new.self.disk) ⊥ ⊥ i.counts
           (HasCause-weaker (g.D.Disk.faults mid.disk) (g.D.Disk.faults c.payload.new.self.disk) (IsErrOf c.payload.result read_why.Fault) ⊥ e.counts (λ none. absurd none));

@@ -4,6 +4,7 @@ use Rattle.up_journal.specs.declared.fault.ReadWhy.TheVariants as read_why
 use Rattle.up_journal.specs.Logs.{log_step}
 use Rattle.up_journal.specs.Records.{replay}
 use Rattle.up_keys.proofs.Damages.{memory_damage, read_damage}
+use Rattle.up_journal.proofs.Logs.{fits_step}
 use Rattle.up_journal.proofs.Records.{next_damaged, next_read, payload_read, size_seen, take_next}
 use Rattle.up_faults.proofs.Causes.{HasCause-then, HasCause-weaker}
 use Rattle.up_keys.specs.Records.{decoded, fits}
@@ -38,6 +39,7 @@ loop-n-preserved g c =
       read = payload_read g.D.Disk old mid c.payload.new.self i.read e.unchanged e.content e.fewer e.crash;
       counts = HasCause-then (g.D.Disk.faults old.disk) (g.D.Disk.faults mid.disk) (g.D.Disk.faults c.payload.new.self.disk) ⊥ ⊥ i.counts
           (HasCause-weaker (g.D.Disk.faults mid.disk) (g.D.Disk.faults c.payload.new.self.disk) (IsErrOf c.payload.result read_why.Fault) ⊥ e.counts (λ none. absurd none));
+      fitting = fits_step fits decoded c.loop-n.known.records.items payload c.take.new.known.records.items i.fitting fit;
       last = c.in_ok-take.ensures.last;
       sizes = c.take.ensures.sizes taken ∙ ap (λ (l : List ℕ). sizes_of c.loop-n.known.records.items ++ length l ∷ []) c.as_slice.ensures
           ∙ ap (λ (l : List ℕ). l ++ length payload ∷ []) i.sizes ∙ sym (take_next old.sizes c.loop-n.n (length payload) size);

@@ -27,7 +27,7 @@ returns-in_err-position g c =
     let was : c.append.result ≡ Err a = c.in_err-position.was in
     rw (err_is g.D.Disk c.from_residual-in_err-position.result _ c.from_residual-in_err-position.ensures.1, c.make_room.ensures.records, ← c.self.view_is)
     (not_entered g.D.Disk i.journal c.append.new.self i.index.records.items i.index.numbers.entries c.args.change c.args.payload.now _ c.self.invariant (sym c.len-position.ensures.told)
-    c.requires.decoded (ap (λ s. fits s.log (untold c.args.change)) c.self.view_is ∙ c.requires.fits) a e.sizes e.log e.limits e.further e.crash
+    c.requires.decoded (ap (λ s. fits s.log (untold c.args.change)) c.self.view_is ∙ c.requires.fits) a e.sizes e.log e.limits e.further e.told e.crash
     (λ full. err_inj a (append.Full (length i.journal.sizes)) (sym was ∙ c.append.ensures.full full)) (λ n is. c.append.ensures.full_only n (was ∙ ap Err is)) e.untouched
     (HasCause-weaker (g.D.Disk.faults i.journal.disk) (g.D.Disk.faults c.append.new.self.disk) (IsErrOf c.append.result append.Fault) (a ≡ append.Fault) c.append.ensures.counts (λ is. was ∙ ap Err is))).1
 
@@ -38,7 +38,7 @@ invariant_of-self-2 g c =
     let was : c.append.result ≡ Ok c.in_ok-position.position = c.in_ok-position.was in
     rw (c.enter.ensures.records, c.enter.ensures.entries, c.make_room.ensures.records, c.make_room.ensures.entries)
     (entered g.D.Disk i.journal c.append.new.self i.index.records.items i.index.numbers.entries c.args.change c.args.payload.now _ c.self.invariant (sym c.len-position.ensures.told)
-    c.requires.decoded (ap (λ s. fits s.log (untold c.args.change)) c.self.view_is ∙ c.requires.fits) c.in_ok-position.position e.sizes e.appended e.settled e.limits e.position e.crash
+    c.requires.decoded (ap (λ s. fits s.log (untold c.args.change)) c.self.view_is ∙ c.requires.fits) c.in_ok-position.position e.sizes e.appended e.settled e.limits e.position e.told e.crash
     (λ full. absurd (let both = sym was ∙ c.append.ensures.full full in cc))
     (HasCause-weaker (g.D.Disk.faults i.journal.disk) (g.D.Disk.faults c.append.new.self.disk) (IsErrOf c.append.result append.Fault) ⊥ c.append.ensures.counts (λ none. absurd none))).0
 
@@ -49,6 +49,6 @@ returns g c =
     let was : c.append.result ≡ Ok c.in_ok-position.position = c.in_ok-position.was in
     rw (c.enter.ensures.records, c.make_room.ensures.records, ← c.self.view_is)
     (entered g.D.Disk i.journal c.append.new.self i.index.records.items i.index.numbers.entries c.args.change c.args.payload.now _ c.self.invariant (sym c.len-position.ensures.told)
-    c.requires.decoded (ap (λ s. fits s.log (untold c.args.change)) c.self.view_is ∙ c.requires.fits) c.in_ok-position.position e.sizes e.appended e.settled e.limits e.position e.crash
+    c.requires.decoded (ap (λ s. fits s.log (untold c.args.change)) c.self.view_is ∙ c.requires.fits) c.in_ok-position.position e.sizes e.appended e.settled e.limits e.position e.told e.crash
     (λ full. absurd (let both = sym was ∙ c.append.ensures.full full in cc))
     (HasCause-weaker (g.D.Disk.faults i.journal.disk) (g.D.Disk.faults c.append.new.self.disk) (IsErrOf c.append.result append.Fault) ⊥ c.append.ensures.counts (λ none. absurd none))).1

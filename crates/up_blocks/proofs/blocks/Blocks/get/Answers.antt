@@ -47,5 +47,5 @@ returns-clause-gives g c =
     let was : c.payload_tail.result ≡ Ok c.in_ok-bytes.bytes = c.in_ok-bytes.was in
     rw (← c.self.view_is)
     (gives_bytes g.D.Disk i.journal c.payload_tail.new.self i.index.records.items i.index.numbers.entries c.args.reference.now c.in-Some.number.now c.self.invariant (sym c.get.ensures ∙ ap option_copied c.in-Some.is)
-    e.unchanged e.content e.crash c.in_ok-bytes.bytes c.len-position.ensures.told c.in_ok-bytes.ensures.payload
+    e.unchanged e.content e.crash c.in_ok-bytes.bytes c.len-position.ensures.told c.in_ok-bytes.ensures.payload c.in_ok-bytes.ensures.size
     (HasCause-weaker (g.D.Disk.faults i.journal.disk) (g.D.Disk.faults c.payload_tail.new.self.disk) (IsErrOf c.payload_tail.result read_why.Fault) ⊥ e.counts (λ none. absurd none)))

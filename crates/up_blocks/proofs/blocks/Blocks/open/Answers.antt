@@ -13,14 +13,14 @@ invariant_of-result g c =
     let e = c.in-Ok.ensures in
     let r = c.in-Ok-replay.ensures in
     (opens_store g.D.Disk c.args.disk c.args.limits c.in-Ok.journal c.replay.new.journal c.in-Ok-replay.index.records.items c.in-Ok-replay.index.numbers.entries c.requires.room
-    e.log e.settled e.limits e.safe r.sizes r.index r.log c.replay.ensures.read).0
+    e.log e.settled e.limits e.safe r.sizes r.index r.fitting r.log c.replay.ensures.read).0
 
 pub returns-in-Ok-replay-clause-opens : goal.returns-in-Ok-replay-clause-opens
 returns-in-Ok-replay-clause-opens g c =
     let e = c.in-Ok.ensures in
     let r = c.in-Ok-replay.ensures in
     (opens_store g.D.Disk c.args.disk c.args.limits c.in-Ok.journal c.replay.new.journal c.in-Ok-replay.index.records.items c.in-Ok-replay.index.numbers.entries c.requires.room
-    e.log e.settled e.limits e.safe r.sizes r.index r.log c.replay.ensures.read).1
+    e.log e.settled e.limits e.safe r.sizes r.index r.fitting r.log c.replay.ensures.read).1
 
 pub returns-in-Err-replay-clause-refuses : goal.returns-in-Err-replay-clause-refuses
 returns-in-Err-replay-clause-refuses g c =

@@ -28,7 +28,7 @@ returns-in_err-position g c =
     let was : c.append.result ≡ Err a = c.in_err-position.was in
     rw (err_is c.from_residual-in_err-position.result _ c.from_residual-in_err-position.ensures.1, c.made_ready.ensures.records, ← c.self.view_is)
     (not_entered g.D.Disk i.journal c.append.new.self i.records.items i.last.entries c.args.card c.as_slice.result.now a c.self.invariant c.requires m.again (c.as_slice.ensures ∙ m.bytes)
-    e.sizes e.log e.limits e.further e.crash
+    e.sizes e.log e.limits e.further e.told e.crash
     (λ full. err_inj a (append.Full (length i.journal.sizes)) (sym was ∙ c.append.ensures.full full)) (λ n is. c.append.ensures.full_only n (was ∙ ap Err is)) e.untouched
     (HasCause-weaker (g.D.Disk.faults i.journal.disk) (g.D.Disk.faults c.append.new.self.disk) (IsErrOf c.append.result append.Fault) (a ≡ append.Fault) c.append.ensures.counts (λ is. was ∙ ap Err is))).1
 
@@ -43,7 +43,7 @@ invariant_of-self-2 g c =
     ∙ ap (λ rs. put user_cmp c.args.card.user (length rs) c.made_ready.new.last.entries) c.made_ready.ensures.records ∙ ap (put user_cmp c.args.card.user (length i.records.items)) c.made_ready.ensures.entries in
     rw (entries, c.enter.ensures.records, c.made_ready.ensures.records)
     (entered g.D.Disk i.journal c.append.new.self i.records.items i.last.entries c.args.card c.as_slice.result.now c.in_ok-position.position c.self.invariant c.requires m.again (c.as_slice.ensures ∙ m.bytes)
-    e.sizes e.appended e.settled e.limits e.position e.crash
+    e.sizes e.appended e.settled e.limits e.position e.told e.crash
     (λ full. absurd (let both = sym was ∙ c.append.ensures.full full in cc))
     (HasCause-weaker (g.D.Disk.faults i.journal.disk) (g.D.Disk.faults c.append.new.self.disk) (IsErrOf c.append.result append.Fault) ⊥ c.append.ensures.counts (λ none. absurd none))).0
 
@@ -55,6 +55,6 @@ returns g c =
     let was : c.append.result ≡ Ok c.in_ok-position.position = c.in_ok-position.was in
     rw (c.enter.ensures.records, c.made_ready.ensures.records, ← c.self.view_is)
     (entered g.D.Disk i.journal c.append.new.self i.records.items i.last.entries c.args.card c.as_slice.result.now c.in_ok-position.position c.self.invariant c.requires m.again (c.as_slice.ensures ∙ m.bytes)
-    e.sizes e.appended e.settled e.limits e.position e.crash
+    e.sizes e.appended e.settled e.limits e.position e.told e.crash
     (λ full. absurd (let both = sym was ∙ c.append.ensures.full full in cc))
     (HasCause-weaker (g.D.Disk.faults i.journal.disk) (g.D.Disk.faults c.append.new.self.disk) (IsErrOf c.append.result append.Fault) ⊥ c.append.ensures.counts (λ none. absurd none))).1

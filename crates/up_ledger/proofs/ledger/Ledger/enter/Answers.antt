@@ -42,7 +42,7 @@ after_refusal g c =
     let e = c.in_err-position.ensures in
     let was : c.append.result ≡ Err a = c.in_err-position.was in
     not_entered g.D.Disk i.journal c.append.new.self i.entries.items i.balance c.in-Some.balance c.args.entry c.as_slice.result.now a c.self.invariant
-    (sym c.applied.ensures ∙ c.in-Some.is) c.record_of.ensures.again (c.as_slice.ensures ∙ c.in_ok-payload.ensures.bytes) e.sizes e.log e.limits e.further e.crash
+    (sym c.applied.ensures ∙ c.in-Some.is) c.record_of.ensures.again (c.as_slice.ensures ∙ c.in_ok-payload.ensures.bytes) e.sizes e.log e.limits e.further e.told e.crash
     (λ full. err_inj a (append.Full (length i.journal.sizes)) (sym was ∙ c.append.ensures.full full)) (λ n is. c.append.ensures.full_only n (was ∙ ap Err is)) e.untouched
     (HasCause-weaker (g.D.Disk.faults i.journal.disk) (g.D.Disk.faults c.append.new.self.disk) (IsErrOf c.append.result append.Fault) (a ≡ append.Fault) c.append.ensures.counts (λ is. was ∙ ap Err is))
 
@@ -61,7 +61,7 @@ after_append g c =
     let e = c.in_ok-position.ensures in
     let was : c.append.result ≡ Ok c.in_ok-position.position = c.in_ok-position.was in
     entered g.D.Disk i.journal c.append.new.self i.entries.items i.balance c.in-Some.balance c.args.entry c.as_slice.result.now c.in_ok-position.position c.self.invariant
-    (sym c.applied.ensures ∙ c.in-Some.is) c.record_of.ensures.again (c.as_slice.ensures ∙ c.in_ok-payload.ensures.bytes) e.sizes e.appended e.settled e.limits e.position e.crash
+    (sym c.applied.ensures ∙ c.in-Some.is) c.record_of.ensures.again (c.as_slice.ensures ∙ c.in_ok-payload.ensures.bytes) e.sizes e.appended e.settled e.limits e.position e.told e.crash
     (λ full. absurd (let both = sym was ∙ c.append.ensures.full full in cc))
     (HasCause-weaker (g.D.Disk.faults i.journal.disk) (g.D.Disk.faults c.append.new.self.disk) (IsErrOf c.append.result append.Fault) ⊥ c.append.ensures.counts (λ none. absurd none))
 

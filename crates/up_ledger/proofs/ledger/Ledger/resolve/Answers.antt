@@ -10,7 +10,7 @@ after : (g : Over) (c : goal.After-resolve g) → KeepsLog g.D.Disk entry_of fit
     × ResolvesLog g.D.Disk entries_in (log_state entry_of c.self.inside.journal c.self.inside.entries.items) (log_state entry_of c.resolve.new.self c.self.inside.entries.items) c.resolve.result
 after g c =
     let e = c.resolve.ensures in
-    resolves_log g.D.Disk entry_of fits record_of c.resolve.result c.self.inside.journal c.resolve.new.self c.self.inside.entries.items c.self.invariant.keeps e.sizes e.log e.limits e.settled e.refused e.crash
+    resolves_log g.D.Disk entry_of fits record_of c.resolve.result c.self.inside.journal c.resolve.new.self c.self.inside.entries.items c.self.invariant.keeps e.sizes e.log e.limits e.settled e.refused e.told e.crash
 
 pub returns-clause-resolves : goal.returns-clause-resolves
 returns-clause-resolves g c = rw (← c.self.view_is) (after g c).1

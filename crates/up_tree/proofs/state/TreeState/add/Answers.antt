@@ -1,4 +1,4 @@
-use Rattle.std.proofs.Common.{◌≡◌, ◌++◌, ◌∷◌, [], ℕ, List, Some, length, Result, Ok, Err, IsErrOf, IfSome, sym, ap, subst, ◌∙◌}
+use Rattle.std.proofs.Common.{◌≡◌, ◌++◌, ◌∷◌, [], ℕ, List, length, Result, Ok, Err, IsErrOf, sym, ap, subst, ◌∙◌}
 use Rattle.up_entry.specs.Reading.{rec_of}
 use Rattle.up_entry.specs.Spelling as spelling
 use Rattle.up_entry.specs.declared.records.Rec.{Rec}
@@ -42,7 +42,7 @@ after_refusal g c =
     let fitting : Fits i.tree.owner i.tree.log c.args.rec = subst (λ (v : State g.row.D.Denot). Fits v.owner v.log c.args.rec) (sym c.self.view_is) c.requires.fits in
     not_applied g.D.Disk i.tree.owner i.journal c.append.new.self i.tree.log c.args.rec c.as_slice.result.now a c.self.invariant.keeps fitting
     (read_again c.args.rec c.as_slice.result.now (ap rec_of c.as_slice.ensures ∙ c.in_ok-payload.ensures.again (spelled_rec i.tree.owner i.tree.log c.args.rec fitting)))
-    (c.as_slice.ensures ∙ c.in_ok-payload.ensures.written) e.sizes e.log e.limits e.further e.crash
+    (c.as_slice.ensures ∙ c.in_ok-payload.ensures.written) e.sizes e.log e.limits e.further e.told e.crash
     (λ full. err_inj a (append.Full (length i.journal.sizes)) (sym was ∙ c.append.ensures.full full)) (λ n is. c.append.ensures.full_only n (was ∙ ap Err is)) e.untouched
     (HasCause-weaker (g.D.Disk.faults i.journal.disk) (g.D.Disk.faults c.append.new.self.disk) (IsErrOf c.append.result append.Fault) (a ≡ append.Fault) c.append.ensures.counts (λ is. was ∙ ap Err is))
 
@@ -66,7 +66,7 @@ after_append g c =
     let fitting : Fits i.tree.owner i.tree.log c.args.rec = subst (λ (v : State g.row.D.Denot). Fits v.owner v.log c.args.rec) (sym c.self.view_is) c.requires.fits in
     applied g.D.Disk i.tree.owner i.journal c.append.new.self i.tree.log c.args.rec c.as_slice.result.now c.in_ok-position.position c.self.invariant.keeps fitting
     (read_again c.args.rec c.as_slice.result.now (ap rec_of c.as_slice.ensures ∙ c.in_ok-payload.ensures.again (spelled_rec i.tree.owner i.tree.log c.args.rec fitting)))
-    (c.as_slice.ensures ∙ c.in_ok-payload.ensures.written) e.sizes e.appended e.settled e.limits e.position e.crash
+    (c.as_slice.ensures ∙ c.in_ok-payload.ensures.written) e.sizes e.appended e.settled e.limits e.position e.told e.crash
     (λ full. absurd (let both = sym was ∙ c.append.ensures.full full in cc))
     (HasCause-weaker (g.D.Disk.faults i.journal.disk) (g.D.Disk.faults c.append.new.self.disk) (IsErrOf c.append.result append.Fault) ⊥ c.append.ensures.counts (λ none. absurd none))
 

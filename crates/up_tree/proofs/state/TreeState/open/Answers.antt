@@ -1,4 +1,4 @@
-use Rattle.std.proofs.Common.{refl, sym, ap, ◌∙◌, subst}
+use Rattle.std.proofs.Common.{sym, ap, ◌∙◌}
 use Rattle.up_entry.specs.Spelling as spelling
 use Rattle.up_journal.proofs.Logs.{opens_log, refuses_opened, refuses_read}
 use Rattle.up_journal.proofs.Records.{opened_and_read}

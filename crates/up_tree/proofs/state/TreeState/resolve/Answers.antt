@@ -12,7 +12,7 @@ after : (g : Over) (c : goal.After-resolve g) → KeepsLog g.D.Disk record_in (f
 after g c =
     let e = c.resolve.ensures in
     let i = c.self.inside in
-    resolves_log g.D.Disk record_in (fits i.tree.owner) spelling.rec c.resolve.result i.journal c.resolve.new.self i.tree.log c.self.invariant.keeps e.sizes e.log e.limits e.settled e.refused e.crash
+    resolves_log g.D.Disk record_in (fits i.tree.owner) spelling.rec c.resolve.result i.journal c.resolve.new.self i.tree.log c.self.invariant.keeps e.sizes e.log e.limits e.settled e.refused e.told e.crash
 
 pub returns-clause-resolves : goal.returns-clause-resolves
 returns-clause-resolves g c = rw (← c.self.view_is) (record { resolved = (after g c).1; owner = refl })

@@ -1,0 +1,178 @@
+//! Lines that ask what a user who looks at a tree is answered.
+ghost use Rattle.std.specs.Prelude.{◌≡◌, IfOk};
+
+use std::alloc::Global;
+use up_case_lines::{Answer, Fault, Words, path_of, text_of, user_of};
+use up_disk::MemDisk;
+use up_entry::Entry;
+use up_list::{Onlooker, TreeLook, first_link, glob, lookup, which_access};
+use up_names::{Path, User};
+use up_pattern::{Pattern, parse_pattern};
+use up_policy::Loaded;
+use up_rights::Right;
+use up_tree::TreeState;
+use up_wire::{Done, Reply};
+
+/// Does a line that asks, or answers `false` where it is none.
+pub fn turn(
+    alloc: Global,
+    tree: &TreeState<MemDisk>,
+    loaded: &Loaded,
+    mut words: Words<'_>,
+    answer: &mut Answer,
+) -> Result<bool, Fault> {
+    match words.word()? {
+        "glob" => glob_line(alloc, tree, loaded, words, answer)?,
+        "lookup" => look_line(alloc, tree, loaded, true, words, answer)?,
+        "which" => look_line(alloc, tree, loaded, false, words, answer)?,
+        "met" => met_line(alloc, tree, true, words, answer)?,
+        "above" => met_line(alloc, tree, false, words, answer)?,
+        _ => return Ok(false),
+    }
+    Ok(true)
+}
+
+// `glob USER PATTERN`: the reply to Glob.
+fn glob_line(
+    alloc: Global,
+    tree: &TreeState<MemDisk>,
+    loaded: &Loaded,
+    mut words: Words<'_>,
+    answer: &mut Answer,
+) -> Result<(), Fault> {
+    let (user, asked) = words.two()?;
+    let user = user_of(alloc, user)?;
+    let pattern = pattern_in(alloc, tree.owner(), asked)?;
+    add_seen(&glob(alloc, tree, loaded, &user, &pattern), answer);
+    Ok(())
+}
+
+// `lookup USER PATH`, `which USER PATH`: the reply to Lookup, or else to WhichAccess.
+fn look_line(
+    alloc: Global,
+    tree: &TreeState<MemDisk>,
+    loaded: &Loaded,
+    is_lookup: bool,
+    mut words: Words<'_>,
+    answer: &mut Answer,
+) -> Result<(), Fault> {
+    let (user, asked) = words.two()?;
+    let user = user_of(alloc, user)?;
+    let look = TreeLook::new(tree.memory(), loaded, &user);
+    let reply = reply_to(alloc, &look, is_lookup, asked)?;
+    add_seen(&reply, answer);
+    Ok(())
+}
+
+fn reply_to(
+    alloc: Global,
+    look: &TreeLook<'_>,
+    is_lookup: bool,
+    asked: &str,
+) -> Result<Reply, Fault> {
+    let path = path_in(alloc, look.owner(), asked)?;
+    let reply = if is_lookup {
+        lookup(alloc, look, &path)
+    } else {
+        which_access(alloc, look, &path)
+    };
+    Ok(reply?)
+}
+
+// `met PATH`, `above PATH`: the link on the way to a path, the path itself included, or else not.
+fn met_line(
+    alloc: Global,
+    tree: &TreeState<MemDisk>,
+    itself: bool,
+    mut words: Words<'_>,
+    answer: &mut Answer,
+) -> Result<(), Fault> {
+    let path = path_of(alloc, words.one()?)?;
+    match first_link(tree, &path, itself)? {
+        Some(link) => answer.coded(link.as_str().as_bytes()),
+        None => answer.word("none"),
+    }
+    Ok(())
+}
+
+// The path that a word names in the tree of this owner.
+fn path_in(alloc: Global, owner: &User, word: &str) -> Result<Path, Fault>
+    ensures { IfOk result (λ path. path.owner ≡ owner.now) }
+{
+    let path = path_of(alloc, word)?;
+    if path.owner() != owner {
+        return Err(Fault::BadLine);
+    }
+    Ok(path)
+}
+
+// The pattern that a word spells, of paths in the tree of this owner.
+fn pattern_in(alloc: Global, owner: &User, word: &str) -> Result<Pattern, Fault>
+    ensures { IfOk result (λ pattern. pattern.owner ≡ owner.now) }
+{
+    let text = text_of(alloc, word)?;
+    let Ok(pattern) = parse_pattern(alloc, text.as_slice()) else {
+        return Err(Fault::BadLine);
+    };
+    if pattern.owner() != owner {
+        return Err(Fault::BadLine);
+    }
+    Ok(pattern)
+}
+
+// A reply: an entry as its path, with a `~` behind it where it came incomplete; behind a row `+N` where N elements remain.
+fn add_seen(reply: &Reply, answer: &mut Answer) {
+    match reply {
+        Reply::Ok(done) => add_done(done, answer),
+        Reply::FollowLink(entry) => {
+            answer.word("followlink");
+            add_entry(entry, answer);
+        }
+        Reply::Permission(right) => {
+            answer.word("permission");
+            answer.word(Right::word(*right));
+        }
+        Reply::Private => answer.word("private"),
+        Reply::NotExist => answer.word("notexist"),
+        Reply::NotDir => answer.word("notdir"),
+        _ => answer.word("other"),
+    }
+}
+
+fn add_done(done: &Done, answer: &mut Answer) {
+    match done {
+        Done::Entry(entry) => {
+            answer.word("entry");
+            add_entry(entry, answer);
+        }
+        Done::Access(found) => {
+            answer.word("access");
+            match found {
+                Some(entry) => add_entry(entry, answer),
+                None => answer.word("none"),
+            }
+        }
+        Done::Rows(rows) => {
+            answer.word("rows");
+            for row in rows.as_slice() {
+                add_entry(&row.entry, answer);
+                add_rest(row.rest, answer);
+            }
+        }
+        _ => answer.word("other"),
+    }
+}
+
+fn add_rest(rest: u64, answer: &mut Answer) {
+    if rest > 0 {
+        answer.word("+");
+        answer.number(rest);
+    }
+}
+
+fn add_entry(entry: &Entry, answer: &mut Answer) {
+    answer.coded(entry.name.as_str().as_bytes());
+    if entry.attr.incomplete {
+        answer.push("~");
+    }
+}

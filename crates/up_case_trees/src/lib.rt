@@ -1,0 +1,10 @@
+//! Topics of stored cases about trees over their logs, and what is answered of them.
+//!
+//! This crate promises nothing: the program `up_cases` runs on it.
+#![tactic(auto)]
+
+mod globs;
+mod tree;
+
+pub use globs::Globs;
+pub use tree::Trees;
