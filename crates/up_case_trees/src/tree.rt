@@ -24,6 +24,7 @@ impl Topic for Trees {
             answer.part();
             stage = stage_turn(alloc, stage, Words::new(command), answer)?;
         }
+        drop(stage);
         Ok(())
     }
 }
@@ -54,10 +55,14 @@ fn tree_turn(
     words: Words<'_>,
     answer: &mut Answer,
 ) -> Result<Stage, Fault> {
-    if done(alloc, &mut tree, words, answer)? {
-        return Ok(Stage::Tree(tree));
+    match done(alloc, &mut tree, words, answer) {
+        Ok(true) => Ok(Stage::Tree(tree)),
+        Ok(false) => disk::turn(alloc, tree.into_disk(), words, answer),
+        Err(fault) => {
+            drop(tree);
+            Err(fault)
+        }
     }
-    disk::turn(alloc, tree.into_disk(), words, answer)
 }
 
 // Does a command of a tree, or answers `false` where it is none.

@@ -96,7 +96,10 @@ pub fn empty_tree(alloc: Global, owner: &str) -> Result<TreeState<MemDisk>, Faul
     let disk = MemDisk::new(alloc, Items::new(alloc));
     match TreeState::open(alloc, disk, owner, WIDE) {
         Ok(tree) => Ok(tree),
-        Err(_) => Err(Fault::OutOfMemory),
+        Err(fault) => {
+            drop(fault);
+            Err(Fault::OutOfMemory)
+        }
     }
 }
 
@@ -171,8 +174,14 @@ fn add_image(
     let owner = owner_of(alloc, owner)?;
     let image = disk.image(choice)?;
     match TreeState::open(alloc, image, owner, WIDE) {
-        Ok(tree) => answer.number(tree.position()),
-        Err(fault) => add_open_fault(fault.why, answer),
+        Ok(tree) => {
+            answer.number(tree.position());
+            drop(tree);
+        }
+        Err(fault) => {
+            add_open_fault(fault.why, answer);
+            drop(fault.disk);
+        }
     }
     Ok(())
 }
@@ -184,11 +193,26 @@ fn digest_line(
     words: Words<'_>,
     answer: &mut Answer,
 ) -> Result<Stage, Fault> {
+    match add_digest(alloc, &mut disk, words, answer) {
+        Ok(()) => Ok(Stage::Disk(disk)),
+        Err(fault) => {
+            drop(disk);
+            Err(fault)
+        }
+    }
+}
+
+fn add_digest(
+    alloc: Global,
+    disk: &mut MemDisk,
+    words: Words<'_>,
+    answer: &mut Answer,
+) -> Result<(), Fault> {
     words.end()?;
     let mut bytes = vec![in alloc; 0u8; disk.size() as usize]?;
     match disk.read(0, bytes.as_mut_slice()) {
         Ok(()) => answer.digits(Reference::of(&bytes).bytes()),
         Err(_) => answer.word("fault"),
     }
-    Ok(Stage::Disk(disk))
+    Ok(())
 }
