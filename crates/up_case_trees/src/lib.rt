@@ -5,6 +5,8 @@
 
 mod globs;
 mod tree;
+mod watches;
 
 pub use globs::Globs;
 pub use tree::Trees;
+pub use watches::Watches;

@@ -1,0 +1,3 @@
+pub mod Watching
+pub mod Batches
+pub mod Items
