@@ -1,5 +1,5 @@
 -- What a call that wrote nothing answers.
-use Rattle.std.proofs.Common.{◌≡◌, ℕ, List, Option, true, false, sym, ◌∙◌}
+use Rattle.std.proofs.Common.{◌≡◌, ℕ, List, Option, true, sym, ◌∙◌}
 use Rattle.std.proofs.lemmas.Bool.{false≢true}
 use Rattle.up_ends.proofs.Going.{WritesPart-none}
 use Rattle.up_script.specs.Statuses.{Answer, AnswersWith, is_cut_short}

@@ -6,7 +6,7 @@ use Rattle.up_ends.proofs.Going.{Going-more, Going-all, WritesPart-so_far, Write
 use Rattle.up_text.specs.Lines.{script_lines}
 use Rattle.up_script.specs.declared.can_files.CanFiles.{CanFiles}
 use Rattle.up_script.specs.CanLines.{Tree, Effect, effect_of, reply_of, tree_after, asked}
-use Rattle.up_script.specs.CanRuns.{Run, run_from, ends_badly, says, bad_line}
+use Rattle.up_script.specs.CanRuns.{Run, run_from, ends_badly, says}
 
 -- a line that asks prints its reply
 pub asked_says : (files : CanFiles) (reply : Option (List ℕ)) → reply_of (asked files reply) ≡ reply

@@ -1,5 +1,5 @@
 -- The Access and Group files that a `can` script has named so far (this project's own), and what they say of rights.
-use Rattle.std.specs.Prelude.{ℕ, Bool, List, [], if◌then◌else◌}
+use Rattle.std.specs.Prelude.{Bool, List, [], if◌then◌else◌}
 use Rattle.std.specs.Map.{keys_of}
 use Rattle.std.specs.Str.{bytes_eq}
 use Rattle.up_names.specs.Texts.{UserName}

@@ -1,13 +1,12 @@
 -- What each line of a `can` script says. The script language is this project's own; the questions are those of the
 -- Upspin access control document.
-use Rattle.std.specs.Prelude.{ℕ, ◌-◌, Bool, true, false, List, [], ◌∷◌, ◌&&◌, length, codes, if◌then◌else◌, Option, Some, None, option_map}
+use Rattle.std.specs.Prelude.{◌-◌, Bool, true, false, List, [], ◌∷◌, ◌&&◌, length, codes, if◌then◌else◌, Option, Some, None, option_map}
 use Rattle.std.specs.Option.{option_and_then}
 use Rattle.std.specs.Result.{result_ok}
 use Rattle.std.specs.Str.{bytes_eq}
 use Rattle.up_names.specs.Texts.{Text, UserName}
 use Rattle.up_access.specs.AccessTexts.{access_of}
 use Rattle.up_group.specs.GroupTexts.{group_of}
-use Rattle.up_names.specs.declared.paths.Control.{Control}
 use Rattle.up_names.specs.declared.paths.Control.TheVariants as control
 use Rattle.up_names.specs.UserNames.{user_of}
 use Rattle.up_names.specs.PathNames.{PathName, path_of, control_of, cut}

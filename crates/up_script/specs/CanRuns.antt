@@ -2,7 +2,7 @@
 use Rattle.std.specs.Prelude.{ℕ, ◌+◌, List, [], ◌∷◌, ◌++◌, codes, Some, None, decimal}
 use Rattle.up_names.specs.Texts.{Text}
 use Rattle.up_text.specs.Lines.{script_lines}
-use Rattle.up_script.specs.CanLines.{Tree, Effect, effect_of}
+use Rattle.up_script.specs.CanLines.{Tree, effect_of}
 
 pub record Run : Type 0 where
   pub text : Text

@@ -162,7 +162,7 @@ parts_again b is =
     rw (named, begin, bytes, store, decoded-field b.packdata) refl
 
 parts_free : (p : ℕ → Bool) → ((b : ℕ) → is_upper_digit b ≡ true → p b ≡ false) → ((b : ℕ) → 48 ≤ b → b ≤ 57 → p b ≡ false) → ((endpoint : Endpoint) → list_any p (store_field endpoint) ≡ false) → ((text : List ℕ) → list_any p (field text) ≡ false) → (b : Block) → IsBlock b → AllByRecursion IsByte b.location.reference → AllByRecursion (λ part. list_any p part ≡ false) (block_parts b)
-parts_free p upper digit store text b is bytes = 
+parts_free p upper digit store text b is bytes =
     (reference_free p upper b.location.reference is.reference bytes, (decimal_free p digit b.offset is.offset, (decimal_free p digit b.size is.size, (store b.location.endpoint, (text b.packdata, tt)))))
 
 parts_split : (b : Block) → IsTaken b → slice_split is_colon (block_word b) ≡ block_parts b
@@ -354,5 +354,5 @@ signed_is_word e = by_kind (path_eq e.signed_name e.name) where
 pub entry_is_words : (e : Entry) → IsEntry e → AreOfBytes e → AllByRecursion IsWord (entry_words e)
 unfolding entry_words
 entry_is_words e is bytes =
-    let packing : e.packing < 2 ^ 64 = omega (arith, is.packing) in 
+    let packing : e.packing < 2 ^ 64 = omega (arith, is.packing) in
     (coded_word (canonical e.name), (attr_is_word e.attr, (decimal_word e.sequence is.sequence, (int_word e.time is.time, (coded_word e.writer, (decimal_word e.packing packing, (coded_word e.packdata, (coded_word (link_text e.link), (signed_is_word e, (blocks_are_word e.blocks (all_both _ _ e.blocks is.blocks.1 bytes), tt))))))))))

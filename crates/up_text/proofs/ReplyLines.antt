@@ -102,7 +102,7 @@ event_line : (e : WatchEvent) → IsEvent e × AreOfBytes e.entry → AreWords (
 event_line e is = (omega arith, (literal_word (codes "event") refl refl, (decimal_word e.position is.0.0, (event_is_word e.delete, entry_is_words e.entry is.0.1 is.1))))
 
 key_line : (known : KeyRecord) → AreWords (codes "key" ∷ key_words known)
-key_line known = 
+key_line known =
     (omega arith, (literal_word (codes "key") refl refl, (coded_word known.user, (endpoints_are_word known.dirs, (endpoints_are_word known.stores, (coded_word known.key, tt))))))
 
 access_line : (found : Option Entry) → IsOption found → IsOfBytes found → AreWords (codes "access" ∷ access_words found)

@@ -1,9 +1,9 @@
 -- Each exit of the loop, by the invariant and what the last call wrote.
-use Rattle.std.proofs.Common.{◌≡◌, ℕ, ◌+◌, ◌≤◌, List, [], ◌∷◌, ◌++◌, Option, Some, None, ap, sym, ◌∙◌, refl, arith}
+use Rattle.std.proofs.Common.{◌≡◌, ℕ, ◌+◌, List, [], Some, None, ap, sym, ◌∙◌, refl, arith}
 use Rattle.up_text.specs.Lines.{script_lines}
-use Rattle.up_script.specs.CanLines.{reply_of, effect_of, tree_after}
+use Rattle.up_script.specs.CanLines.{reply_of, effect_of}
 use Rattle.up_script.specs.CanRuns.{Run, run_from, run_of, ends_badly, bad_line, says}
-use Rattle.up_script.proofs.CanFolds.{Runs, Runs-more, Runs-part, Runs-all, Runs-last, Runs-so_far, run_from-says, run_from-bad, script_lines-nil}
+use Rattle.up_script.proofs.CanFolds.{Runs-more, Runs-part, Runs-all, Runs-last, run_from-says, run_from-bad, script_lines-nil}
 use Rattle.up_script.proofs.can.run_each.Goals as goal
 
 pub returns-in_err-finish-clause-part : goal.returns-in_err-finish-clause-part
