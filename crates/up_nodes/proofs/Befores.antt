@@ -58,7 +58,7 @@ nothing_yet : (path : PathName) → last_change [] path ≢ Some 0
 unfolding last_change
 nothing_yet path is = some_none 0 (sym is)
 
-not_zero : (records : List Rec) (path : PathName) → last_change records path ≢ Some 0
+pub not_zero : (records : List Rec) (path : PathName) → last_change records path ≢ Some 0
 not_zero records path = whole_front (λ rs. last_change rs path ≢ Some 0) records (nothing_yet path) (λ n rec at so_far. some_more path (take n records) rec so_far)
 
 before_not_zero : (records : List Rec) (n : ℕ) → change_before records n ≢ Some 0

@@ -27,3 +27,4 @@ pub mod Placed
 pub mod SnapUsers
 pub mod SnapTimes
 pub mod Within
+pub mod Nameds

@@ -1,15 +1,16 @@
 //! A tree in memory.
-ghost use Rattle.std.specs.Prelude.{◌≡◌, ◌≤◌, [], ◌∷◌, ◌++◌, false, None, Some, length, option_map, slice_get, IfOk, IfSome, IsSome, OnOk};
+ghost use Rattle.std.specs.Prelude.{◌≡◌, ◌≤◌, [], ◌∷◌, ◌++◌, false, None, Some, filter, length, option_map, slice_get, IfOk, IfSome, IsSome, OnOk};
 ghost use Rattle.std.specs.Option.{option_copied};
 ghost use Rattle.up_policy.specs.Trees.{owns_snapshots};
 ghost use Rattle.std.specs.Map.{keys_of};
 ghost use Rattle.up_names.specs.PathNames.{cut};
 ghost use Rattle.up_policy.specs.Governors.{first_text, prefixes};
-ghost use Rattle.up_replay.specs.Changes.{change_before, changes_under, record_at};
+ghost use Rattle.up_nodes.specs.Slots.{named_paths};
+ghost use Rattle.up_replay.specs.Changes.{change_before, changes_under, last_change, record_at};
 ghost use Rattle.up_replay.specs.Fits.{Fits, IsLog, fits};
 ghost use Rattle.up_replay.specs.Rights.{facts_of, governing_prefix};
 ghost use Rattle.up_replay.specs.Snapshots.{snap_at, snapshots_of};
-ghost use Rattle.up_replay.specs.Trees.{children, node_at, tree_at, tree_of};
+ghost use Rattle.up_replay.specs.Trees.{children, is_parent, node_at, tree_at, tree_of};
 
 use crate::kept::Kept;
 use crate::steps::Step;
@@ -134,6 +135,22 @@ impl MemTree {
             ≡ governing_prefix (tree_at self.now.log n) path.now }
     {
         self.kept.nearest_at(path, n)
+    }
+
+    /// The path `i`, from 0, in the order of paths, of those in a directory that some record changes: what stands there now, and what
+    /// stood there once.
+    pub fn named(&self, dir: &Path, i: u64) -> Option<&Path>
+        ensures { option_copied result
+            ≡ slice_get (filter (is_parent dir.now) (named_paths self.now.log)) i }
+    {
+        self.kept.named(dir, i)
+    }
+
+    /// The position of the last record that changes a path.
+    pub fn last_change(&self, path: &Path) -> Option<u64>
+        ensures { result ≡ last_change self.now.log path.now }
+    {
+        self.kept.last_change(path)
     }
 
     /// The position of the last record before record `n`, from 1, that changes the path which that one changes.

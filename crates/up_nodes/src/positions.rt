@@ -44,7 +44,7 @@ fn number_at(numbers: &[u64], i: usize) -> Option<&u64>
 }
 
 /// A position, where it is any.
-fn if_any(position: u64) -> Option<u64>
+pub(crate) fn if_any(position: u64) -> Option<u64>
     ensures { result ≡ (if position == 0 then None else Some position) }
 {
     if position == 0 { None } else { Some(position) }

@@ -1,14 +1,16 @@
 //! What stands at each path, and what stood there.
-ghost use Rattle.std.specs.Prelude.{◌≡◌, ◌≤◌, length, slice_get};
+ghost use Rattle.std.specs.Prelude.{◌≡◌, ◌≤◌, filter, length, slice_get};
 ghost use Rattle.std.specs.Option.{option_copied};
 ghost use Rattle.up_nodes.specs.Kept.{IsOwnSlot, Stands, paths_of, slots_of};
 ghost use Rattle.up_names.specs.PathNames.{PathName};
-ghost use Rattle.up_nodes.specs.Slots.{IsIdOf};
+ghost use Rattle.up_nodes.specs.Slots.{IsIdOf, named_paths};
+ghost use Rattle.up_replay.specs.Changes.{last_change};
 ghost use Rattle.up_replay.specs.Rights.{facts_of};
-ghost use Rattle.up_replay.specs.Trees.{children, node_at, tree_at, tree_of};
+ghost use Rattle.up_replay.specs.Trees.{children, is_parent, node_at, tree_at, tree_of};
 
 use crate::history::text_at;
 use crate::kept::Kept;
+use crate::positions::if_any;
 use crate::slots::{Slot, path_in, slot_at};
 use up_access::AccessText;
 use up_group::GroupText;
@@ -56,6 +58,35 @@ impl Kept {
                 Some(id) => path_in(self.slots.as_slice(), *id),
                 None => None,
             },
+            None => None,
+        }
+    }
+
+    /// The path at place `i`, from 0, of those in a directory that some record changes.
+    pub(crate) fn named(&self, dir: &Path, i: u64) -> Option<&Path>
+        requires { Stands self.now }
+        ensures { option_copied result
+            ≡ slice_get (filter (is_parent dir.now) (named_paths self.now.log.items)) i }
+    {
+        let Some(id) = self.id_of(dir) else {
+            return None;
+        };
+        let Some(slot) = slot_at(self.slots.as_slice(), id) else {
+            return None;
+        };
+        match slot.named.get(i) {
+            Some(id) => path_in(self.slots.as_slice(), *id),
+            None => None,
+        }
+    }
+
+    /// The position of the last record that changes a path.
+    pub(crate) fn last_change(&self, path: &Path) -> Option<u64>
+        requires { Stands self.now }
+        ensures { result ≡ last_change self.now.log.items path.now }
+    {
+        match self.own_slot(path) {
+            Some(slot) => if_any(slot.last),
             None => None,
         }
     }
