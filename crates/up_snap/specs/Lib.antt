@@ -1,1 +1,6 @@
 pub mod Shown
+pub mod Laws
+pub mod Standing
+pub mod Firsts
+pub mod Listed
+pub mod Looked

@@ -1,6 +1,12 @@
 //! Snapshot trees: under the moment of each snapshot, the tree as it was.
 #![tactic(auto)]
 
+mod laws;
 mod moments;
+mod old;
+mod shown;
+mod standing;
 
+pub use laws::{first_snapshots_show, snapshot_trees_are_rooted};
 pub use moments::root_at;
+pub use shown::Shown;

@@ -26,7 +26,8 @@ fn civil_date(time: u64) -> Date
 fn push_digit(text: &mut Vec<u8>, number: u64) -> Result<(), AllocError>
     ensures { OnOk result (text.new.items ≡ text.old.items ++ (48 + number % 10) ∷ []) }
 {
-    text.push(b'0' + (number % 10) as u8)
+    text.push(b'0' + (number % 10) as u8)?;
+    Ok(())
 }
 
 /// Adds a number's last two decimal digits to a text.
