@@ -6,3 +6,5 @@ pub mod ShownLemmas
 pub mod OldLemmas
 pub mod FirstLemmas
 pub mod PlacedLemmas
+pub mod ShortLemmas
+pub mod StandingLemmas

@@ -11,7 +11,8 @@ use Rattle.up_entry.specs.declared.records.Rec.{Rec}
 use Rattle.up_entry.specs.declared.records.Rec.TheVariants.{Put, Delete, Snap}
 use Rattle.up_nodes.proofs.Named.{last_change-none, last_change-push}
 use Rattle.up_replay.specs.Changes.{change_before, changes_some, last_change, path_of_change, record_at}
-use Rattle.up_replay.specs.Trees.{Node, after_record, node_at, tree_at, tree_of}
+use Rattle.up_replay.specs.Trees.{after_record, node_at, tree_at, tree_of}
+use Rattle.up_replay.specs.declared.node.Node.{Node}
 use Rattle.up_snap.specs.Standing.{put_by}
 use Rattle.up_replay.proofs.Fronts.{take_next, take_past}
 use Rattle.up_replay.proofs.Paths.{path_eq_turned, path_same, some_none, some_same}
@@ -128,7 +129,7 @@ module _ (records : List Rec) (path : PathName) where
 
   -- ---- what the last change has left
 
-  abbrev left : Option ℕ → Option Node
+  abbrev pub left : Option ℕ → Option Node
   left last = option_and_then (λ at. put_by (record_at records at)) last
 
   pub left_is : (n : ℕ) → node_at (tree_at records n) path ≡ left (Last n)

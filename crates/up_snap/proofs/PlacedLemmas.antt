@@ -177,7 +177,7 @@ module _ (owner : List ℕ) (records : List Rec) (is : IsLog owner records) wher
   shown_named q node there =
       let st = stands_by q node there in
       elim (shown_cases q st.shown node st.is_shown) [
-        | inl kept ↦ let k = kept_some q (st.shown.position - 1) node kept.1 in ap (λ (n : Node). n.entry.name) (sym k.3)
+        | inl kept ↦ let k = kept_some q (st.shown.position - 1) node kept.1 in ap (λ (n : Node). n.entry.name) (sym k.1.2)
         | inr made ↦ ap (λ (n : Node). n.entry.name) (sym made.1)
       ]
 
@@ -201,18 +201,20 @@ module _ (owner : List ℕ) (records : List Rec) (is : IsLog owner records) wher
       (made_stands (cut n q) place time within takes (above_bears (cut n q) n time (omega (arith, few)) (cut_root q time n (suc n) (omega arith) same))
       (let e = length_cut n q (omega (arith, size)) in omega (arith, e, few)))
 
+  none_taken : (k : ℕ) → ◌≡◌ {A = List (List ℕ)} (take k []) []
+  none_taken zero = refl
+  none_taken (suc k) = refl
+
   old_cut : (q : PathName) (k : ℕ) → cut k (old_path owner q) ≡ old_path owner (cut (4 + k) q)
-  old_cut q k = ap (λ es. record { owner = owner; elements = es }) (go q.elements k)
+  old_cut q k =
+      ap (λ es. record { owner = owner; elements = es }) (go q.elements k)
+      ∙ ap (λ n. record { owner = owner; elements = drop 4 (take n q.elements) }) (let e : suc (suc (suc (suc k))) ≡ 4 + k = omega arith in e)
     where
-      go : (xs : List (List ℕ)) (k : ℕ) → take k (drop 4 xs) ≡ drop 4 (take (4 + k) xs)
-      go [] zero = refl
-      go [] (suc k) = refl
-      go (a ∷ []) zero = refl
-      go (a ∷ []) (suc k) = refl
-      go (a ∷ b ∷ []) zero = refl
-      go (a ∷ b ∷ []) (suc k) = refl
-      go (a ∷ b ∷ c ∷ []) zero = refl
-      go (a ∷ b ∷ c ∷ []) (suc k) = refl
+      go : (xs : List (List ℕ)) (k : ℕ) → take k (drop 4 xs) ≡ drop 4 (take (suc (suc (suc (suc k)))) xs)
+      go [] k = none_taken k
+      go (a ∷ []) k = none_taken k
+      go (a ∷ b ∷ []) k = none_taken k
+      go (a ∷ b ∷ c ∷ []) k = none_taken k
       go (a ∷ b ∷ c ∷ d ∷ xs) k = refl
 
   old_length : (q : PathName) → 4 ≤ length q.elements → length q.elements ≡ 4 + length (old_path owner q).elements
@@ -242,7 +244,7 @@ module _ (owner : List ℕ) (records : List Rec) (is : IsLog owner records) wher
       let whole = old_length q below.size in
       let some = kept_some q place node kept in
       let old_dir : HasDirectory (tree_at records place) (cut k (old_path owner q)) =
-      subst (λ o. MatchOption o ((old_path owner q).owner ≡ owner) (HasDirectory (tree_at records place))) (parent_is (old_path owner q) k size) ((rooted_then owner records is q place).placed (old_path owner q) some.1 some.2) in
+      subst (λ o. MatchOption o ((old_path owner q).owner ≡ owner) (HasDirectory (tree_at records place))) (parent_is (old_path owner q) k size) ((rooted_then owner records is q place).placed (old_path owner q) some.1.0 some.1.1) in
       let up : PathName = cut (4 + k) q in
       let there : node_at (tree_at records place) (old_path owner up) ≡ Some old_dir.0 = ap (node_at (tree_at records place)) (sym (old_cut q k)) ∙ old_dir.1 in
       let few : 4 + k ≤ length q.elements = omega (arith, whole, size) in

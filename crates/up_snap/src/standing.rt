@@ -1,5 +1,7 @@
 //! What stands at a path of a snapshot tree.
 ghost use Rattle.std.specs.Prelude.{◌≡◌, ◌<◌, ◌≤◌, ◌||◌, Some, length, option_map, IfOk, IfSome};
+ghost use Rattle.up_list.specs.Entries.{entry_at};
+ghost use Rattle.up_list.specs.Founds.{entry_found};
 ghost use Rattle.up_list.specs.Reads.{file_text};
 ghost use Rattle.up_replay.specs.Fits.{snapshot_user};
 ghost use Rattle.up_replay.specs.Trees.{node_at};
@@ -17,6 +19,7 @@ use std::alloc::{AllocError, Global};
 use std::mem;
 use up_bytes::Bytes;
 use up_entry::{Attr, Entry, Kind};
+use up_list::Found;
 use up_lists::Items;
 use up_names::{Path, User};
 use up_nodes::MemTree;
@@ -103,6 +106,7 @@ pub(crate) fn standing_by<'a>(
         ≡ shown_node tree.now.owner tree.now.log path.now shown) }
     ensures timed { IfOk result (λ found. IfSome found IsTimed) }
 {
+    let _text = path.as_str();
     let root = root_at(alloc, path.owner(), shown.time)?;
     if !path.is_under(&root) {
         return Ok(Some(Standing::MadeUp(shown)));
@@ -115,7 +119,7 @@ pub(crate) fn standing_by<'a>(
 }
 
 /// What stands at a path of the snapshot tree.
-pub(crate) fn standing<'a>(
+pub(crate) fn standing_at<'a>(
     alloc: Global,
     tree: &'a MemTree,
     shower: &User,
@@ -133,8 +137,25 @@ pub(crate) fn standing<'a>(
     }
 }
 
+/// The item at a path of the snapshot tree.
+pub(crate) fn item_at<'a>(
+    alloc: Global,
+    tree: &MemTree,
+    shower: &User,
+    path: &Path,
+) -> Result<Option<Found<'a>>, AllocError>
+    requires { shower.now ≡ snapshot_user tree.now.owner }
+    ensures { IfOk result (λ found. option_map entry_found found
+        ≡ entry_at (snapshots_to tree.now.owner tree.now.log (length tree.now.log)) path.now) }
+{
+    match standing_at(alloc, tree, shower, path)? {
+        Some(found) => Ok(Some(Found::Made(found.entry(alloc, tree.owner(), path)?))),
+        None => Ok(None),
+    }
+}
+
 /// The entry of an item under another name.
-fn renamed(entry: &Entry, name: &Path) -> Result<Entry, AllocError>
+pub(crate) fn renamed(entry: &Entry, name: &Path) -> Result<Entry, AllocError>
     ensures { IfOk result (λ copy. copy ≡ record entry.now { name = name.now }) }
 {
     let mut copy = entry.clone()?;
