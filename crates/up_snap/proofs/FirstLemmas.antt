@@ -108,12 +108,12 @@ module _ (shower : List ℕ) (records : List Rec) (q : PathName) where
       ]
       go None e ih = elim (cases_order m n) [
         | inl same ↦ record {
-            found = record { position = suc n; time = time };
-            is =
-                ap (bearing shower q (suc n)) (ap (slice_get records) (sym same) ∙ taken)
-                ∙ ap (λ b. if b then Some (record { position = suc n; time = time }) else None) bears;
-            low = omega (arith, same);
-          }
+          found = record { position = suc n; time = time };
+          is =
+              ap (bearing shower q (suc n)) (ap (slice_get records) (sym same) ∙ taken)
+              ∙ ap (λ b. if b then Some (record { position = suc n; time = time }) else None) bears;
+          low = omega (arith, same);
+        }
         | inr apart ↦ elim apart [
           | inl less ↦ absurd (let was = ih less in some_none was.found (sym was.is ∙ e))
           | inr more ↦ absurd (omega (arith, more, lt))

@@ -8,3 +8,7 @@ pub mod FirstLemmas
 pub mod PlacedLemmas
 pub mod ShortLemmas
 pub mod StandingLemmas
+pub mod ListedLemmas
+pub mod KeptLemmas
+pub mod MadeLemmas
+pub mod LookLemmas

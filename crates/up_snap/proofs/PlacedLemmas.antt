@@ -118,11 +118,10 @@ module _ (owner : List ℕ) (records : List Rec) (is : IsLog owner records) wher
   -- a made-up directory stands at each path above a root
   made_stands : (q : PathName) (place time : ℕ) → place < length records → slice_get records place ≡ Some (Snap time) → bears_on Shower q time ≡ true → length q.elements < 4 → HasDirectory All q
   made_stands q place time within takes bears low =
-      let found = first_there q place time within takes bears in
-      (
+      let found = first_there q place time within takes bears in (
         made_up owner found.0.time found.0.position q,
         told owner records is q (length records) ∙ ap (option_and_then (shown_node owner records q)) found.1
-        ∙ made_above owner records is q found.0 (bears_owner q time bears) (not_below q found.0.time low),
+            ∙ made_above owner records is q found.0 (bears_owner q time bears) (not_below q found.0.time low),
         refl,
       )
 

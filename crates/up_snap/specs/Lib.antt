@@ -2,4 +2,5 @@ pub mod Shown
 pub mod Laws
 pub mod Standing
 pub mod Firsts
+pub mod Listed
 pub mod Looked

@@ -2,11 +2,14 @@
 #![tactic(auto)]
 
 mod laws;
+mod listing;
+mod look;
 mod moments;
 mod old;
 mod shown;
 mod standing;
 
 pub use laws::{first_snapshots_show, snapshot_trees_are_rooted};
+pub use look::SnapLook;
 pub use moments::root_at;
 pub use shown::Shown;
