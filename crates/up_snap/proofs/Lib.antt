@@ -8,7 +8,3 @@ pub mod FirstLemmas
 pub mod PlacedLemmas
 pub mod ShortLemmas
 pub mod StandingLemmas
-pub mod ListedLemmas
-pub mod KeptLemmas
-pub mod MadeLemmas
-pub mod LookLemmas

@@ -138,7 +138,7 @@ pub(crate) fn standing_at<'a>(
 }
 
 /// The item at a path of the snapshot tree.
-pub(crate) fn item_at<'a>(
+pub fn item_at<'a>(
     alloc: Global,
     tree: &MemTree,
     shower: &User,
