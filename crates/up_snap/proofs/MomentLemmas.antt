@@ -1,7 +1,7 @@
 -- A moment is told by how it is written in a path.
-use Rattle.std.proofs.Common.{◌≡◌, ℕ, zero, suc, ◌+◌, ◌*◌, ◌/◌, ◌%◌, ◌<◌, ◌≤◌, List, [], ◌∷◌, get_or, refl, sym, ap, ◌∙◌, arith, pos}
+use Rattle.std.proofs.Common.{◌≡◌, ℕ, ◌+◌, ◌/◌, ◌%◌, ◌<◌, ◌≤◌, List, [], get_or, ap, ◌∙◌, arith, pos}
 use Rattle.jiff_core.specs.Calendar.{day_count}
-use Rattle.up_answers.specs.Calendar.{Date, clock_text, date_of, digits, moment_elements}
+use Rattle.up_answers.specs.Calendar.{clock_text, date_of, digits, moment_elements}
 use Rattle.up_snap.proofs.DateLemmas.{date_counts}
 
 digit_same : (m n : ℕ) → 48 + m ≡ 48 + n → m ≡ n

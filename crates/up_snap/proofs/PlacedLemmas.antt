@@ -1,19 +1,17 @@
 -- The items of a snapshot tree stand at their names, each but the root in a directory.
-use Rattle.std.proofs.Common.{◌≡◌, ℕ, zero, suc, ◌+◌, ◌-◌, ◌<◌, ◌≤◌, Bool, true, false, ◌||◌, List, [], ◌∷◌, ◌++◌, fold, map, filter, length, take, drop, T, refl, sym, ap, subst, ◌∙◌, ◌⊎◌, inl, inr, arith, Option, Some, None}
-use Rattle.std.specs.Prelude.{MatchOption, if◌then◌else◌, nat_le, slice_get}
+use Rattle.std.proofs.Common.{◌≡◌, ℕ, zero, suc, ◌+◌, ◌-◌, ◌<◌, ◌≤◌, Bool, true, false, ◌||◌, List, [], ◌∷◌, fold, map, length, take, drop, T, refl, sym, ap, subst, ◌∙◌, ◌⊎◌, inl, inr, arith, Option, Some, None}
+use Rattle.std.specs.Prelude.{MatchOption, if◌then◌else◌, slice_get}
 use Rattle.std.specs.FinMap.Entries.{is_sorted, is_sorted-put}
 use Rattle.std.specs.Option.{option_and_then, option_map}
 use Rattle.std.proofs.lemmas.Bool.{cases_lt, false≢true, leb-true, le-leb}
-use Rattle.std.proofs.lemmas.List.{length-take-le}
-use Rattle.up_names.specs.PathNames.{PathName, canonical, cut, is_under, parent_of}
+use Rattle.up_names.specs.PathNames.{PathName, canonical, cut, is_under}
 use Rattle.up_names.specs.PathOrder.{path_cmp}
 use Rattle.up_names.specs.PathOrderLaws.{path_cmp_total}
 use Rattle.up_names.proofs.PathEdits.{length-canonical-cut}
-use Rattle.up_entry.specs.declared.entries.Kind.TheVariants.{Directory}
 use Rattle.up_entry.specs.declared.records.Rec.{Rec}
 use Rattle.up_entry.specs.declared.records.Rec.TheVariants.{Put, Delete, Snap}
-use Rattle.up_replay.specs.Fits.{HasDirectory, HasPlace, IsLog, root_of, snapshot_user}
-use Rattle.up_replay.specs.Trees.{Tree, kind_of, node_at, tree_at, tree_of}
+use Rattle.up_replay.specs.Fits.{HasDirectory, HasPlace, IsLog, snapshot_user}
+use Rattle.up_replay.specs.Trees.{Tree, node_at, tree_at}
 use Rattle.up_replay.specs.declared.node.Node.{Node}
 use Rattle.up_replay.proofs.Paths.{cut_cut, cut_whole, length_cut, parent_is, parent_none, some_none, some_same}
 use Rattle.up_list.specs.Rooted.{IsRooted}
@@ -22,7 +20,7 @@ use Rattle.up_snap.specs.Shown.{bears_on, first_to, is_short, kept_node, old_pat
 use Rattle.up_snap.specs.declared.shown.Shown.{Shown}
 use Rattle.up_snap.proofs.FirstLemmas.{first_low, one_place}
 use Rattle.up_snap.proofs.ShownLemmas.{IsFirst, calendar, first_is, kept_below, made_above, rooted_then, told}
-use Rattle.up_snap.proofs.UnderLemmas.{IsBelow, above_few, above_is, above_of, above_whole, below_is, below_of, one_moment, root_below}
+use Rattle.up_snap.proofs.UnderLemmas.{IsBelow, above_is, above_of, above_whole, below_is, below_of, one_moment, root_below}
 
 -- ---- in order
 

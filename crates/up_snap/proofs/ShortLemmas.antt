@@ -1,5 +1,5 @@
 -- A canonical path is short.
-use Rattle.std.proofs.Common.{◌≡◌, ◌≤◌, true, length, arith, Ok}
+use Rattle.std.proofs.Common.{◌≡◌, true, length, Ok}
 use Rattle.std.proofs.lemmas.Bool.{le-leb}
 use Rattle.up_names.specs.PathNames.{PathName, canonical, path_of}
 use Rattle.up_names.proofs.PathLaws.{canonical-proper}

@@ -1,23 +1,23 @@
 -- What stands at each path of a snapshot tree.
-use Rattle.std.proofs.Common.{◌≡◌, ℕ, zero, suc, ◌+◌, ◌-◌, ◌<◌, ◌≤◌, Bool, true, false, ◌||◌, List, [], ◌∷◌, fold, map, length, take, refl, sym, ap, subst, ◌∙◌, ◌⊎◌, inl, inr, arith, Option, Some, None}
+use Rattle.std.proofs.Common.{◌≡◌, ℕ, zero, suc, ◌-◌, ◌<◌, ◌≤◌, Bool, true, false, ◌||◌, List, [], ◌∷◌, fold, map, length, take, refl, sym, ap, subst, ◌∙◌, arith, Option, Some, None}
 use Rattle.std.specs.Prelude.{Contains, if◌then◌else◌, slice_get}
 use Rattle.std.specs.Option.{option_and_then, option_map, option_or}
-use Rattle.std.proofs.lemmas.Bool.{false≢true, or_parts}
+use Rattle.std.proofs.lemmas.Bool.{false≢true}
 use Rattle.std.proofs.lemmas.List.{length-take-le}
 use Rattle.std.proofs.lemmas.Option.{get_or_from_slice_get, slice_get_within}
 use Rattle.up_names.specs.PathNames.{PathName, cut, is_under}
 use Rattle.up_names.specs.PathOrder.{path_eq}
 use Rattle.up_entry.specs.declared.records.Rec.{Rec}
 use Rattle.up_entry.specs.declared.records.Rec.TheVariants.{Put, Delete, Snap}
-use Rattle.up_replay.specs.Fits.{Fits, IsLog, root_of, snapshot_user}
+use Rattle.up_replay.specs.Fits.{IsLog, snapshot_user}
 use Rattle.up_replay.specs.Orders.{has_path as has}
-use Rattle.up_replay.specs.Trees.{Tree, node_at, tree_at, tree_of}
+use Rattle.up_replay.specs.Trees.{Tree, node_at, tree_at}
 use Rattle.up_replay.specs.declared.node.Node.{Node}
 use Rattle.up_replay.proofs.Paths.{path_eq_itself, path_same, some_none, some_same}
 use Rattle.up_replay.proofs.Rooted.{rooted_at}
 use Rattle.up_replay.proofs.Trees.{tree_sorted}
 use Rattle.up_list.specs.Rooted.{IsRooted}
-use Rattle.up_answers.specs.SnapshotTrees.{directories_above, made_up, moved, moved_nodes, snapshots_to, with_new, with_node, with_snapshot, with_snapshot_of}
+use Rattle.up_answers.specs.SnapshotTrees.{directories_above, made_up, moved_nodes, snapshots_to, with_new, with_snapshot, with_snapshot_of}
 use Rattle.up_snap.specs.Shown.{bearing, bears_on, first_to, is_short, kept_node, old_path, renamed, shown_node, shown_root}
 use Rattle.up_snap.specs.declared.shown.Shown.{Shown}
 use Rattle.up_snap.proofs.NodeLemmas.{fold_new, fold_nodes, named_in, or_none, shown_below, shown_nowhere}

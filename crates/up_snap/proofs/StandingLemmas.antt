@@ -1,15 +1,14 @@
 -- What is found at a path is what is shown there.
-use Rattle.std.proofs.Common.{◌≡◌, ℕ, ◌-◌, ◌<◌, ◌≤◌, Bool, true, false, List, length, refl, sym, ap, ◌∙◌, arith, Option, Some, None}
+use Rattle.std.proofs.Common.{◌≡◌, ℕ, ◌-◌, ◌<◌, ◌≤◌, true, false, List, length, sym, ap, ◌∙◌, arith, Some, None}
 use Rattle.std.specs.Prelude.{if◌then◌else◌}
 use Rattle.std.specs.Option.{option_and_then, option_map}
 use Rattle.up_names.specs.PathNames.{PathName, is_under}
 use Rattle.up_entry.specs.declared.records.Rec.{Rec}
 use Rattle.up_replay.specs.Fits.{IsLog, snapshot_user}
 use Rattle.up_replay.specs.Trees.{node_at, tree_at}
-use Rattle.up_replay.specs.declared.node.Node.{Node}
 use Rattle.up_answers.specs.SnapshotTrees.{made_up, snapshots_to}
 use Rattle.up_snap.specs.Shown.{first_to, is_short, kept_node, old_path, renamed, shown_node, shown_root}
-use Rattle.up_snap.specs.Standing.{node_of, standing_node}
+use Rattle.up_snap.specs.Standing.{node_of}
 use Rattle.up_snap.specs.declared.old.OldNode.{OldNode}
 use Rattle.up_snap.specs.declared.shown.Shown.{Shown}
 use Rattle.up_snap.proofs.ShownLemmas.{calendar, first_is, told}

@@ -1,4 +1,3 @@
-use Rattle.std.proofs.Common.{sym, ap, ◌∙◌, arith}
 use Rattle.up_snap.proofs.OldLemmas.{back_first, back_here, back_next, back_none}
 use Rattle.up_snap.proofs.old.change_then.Goals as goal
 

@@ -1,5 +1,4 @@
-use Rattle.std.proofs.Common.{Some, None, sym, ap, ◌∙◌}
-use Rattle.std.specs.Option.{option_copied}
+use Rattle.std.proofs.Common.{sym, ap, ◌∙◌}
 use Rattle.up_snap.proofs.OldLemmas.{left, left_is}
 use Rattle.up_snap.specs.Standing.{put_by}
 use Rattle.up_snap.proofs.old.node_then.Goals as goal

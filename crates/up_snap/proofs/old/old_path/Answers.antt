@@ -1,4 +1,4 @@
-use Rattle.std.proofs.Common.{◌++◌, ◌∷◌, [], drop, ap, sym, take, ◌∙◌, arith}
+use Rattle.std.proofs.Common.{◌++◌, ◌∷◌, [], ap, sym, ◌∙◌, arith}
 use Rattle.std.specs.Option.{option_copied}
 use Rattle.up_snap.proofs.OldLemmas.{dropped_all, dropped_next, dropped_none}
 use Rattle.up_snap.proofs.old.old_path.Goals as goal

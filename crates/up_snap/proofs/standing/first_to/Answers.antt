@@ -1,6 +1,5 @@
-use Rattle.std.proofs.Common.{take, sym, ap, ◌∙◌}
+use Rattle.std.proofs.Common.{sym, ◌∙◌}
 use Rattle.std.specs.Map.{keys_of}
-use Rattle.std.specs.Option.{option_copied}
 use Rattle.up_replay.specs.Snapshots.{snapshots_of}
 use Rattle.up_snap.proofs.FirstLemmas.{least_all, least_is, least_next, least_none, moment_in}
 use Rattle.up_snap.proofs.standing.first_to.Goals as goal

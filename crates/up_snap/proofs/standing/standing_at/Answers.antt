@@ -1,4 +1,4 @@
-use Rattle.std.proofs.Common.{sym, ap, ◌∙◌}
+use Rattle.std.proofs.Common.{sym, ◌∙◌}
 use Rattle.std.proofs.lemmas.Result.{IfOk-weaker}
 use Rattle.up_snap.proofs.StandingLemmas.{first_moment, first_position, told_none, told_some}
 use Rattle.up_snap.proofs.standing.standing_at.Goals as goal
