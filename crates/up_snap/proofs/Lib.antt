@@ -1,0 +1,10 @@
+pub mod DateLemmas
+pub mod MomentLemmas
+pub mod UnderLemmas
+pub mod NodeLemmas
+pub mod ShownLemmas
+pub mod OldLemmas
+pub mod FirstLemmas
+pub mod PlacedLemmas
+pub mod ShortLemmas
+pub mod StandingLemmas

@@ -1,0 +1,4 @@
+pub mod Shown
+pub mod Laws
+pub mod Standing
+pub mod Firsts
