@@ -16,8 +16,8 @@ use up_tree::TreeState;
 
 /// The limits with which a tree over a crash image is opened, and payloads are appended.
 const WIDE: Limits = Limits {
-    records: 1_000,
-    device: 1 << 20,
+    records: 1 << 20,
+    device: 1 << 30,
     largest: 1 << 16,
 };
 
