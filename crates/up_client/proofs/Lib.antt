@@ -1,0 +1,4 @@
+mod Fetching
+mod Following
+mod Holding
+mod Pieces

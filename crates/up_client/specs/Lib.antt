@@ -1,0 +1,5 @@
+pub mod Getting
+pub mod Links
+pub mod Putting
+pub mod Replies
+pub mod Talks
