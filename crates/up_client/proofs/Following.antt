@@ -27,11 +27,11 @@ module _ {S : Type 0} (asked : Ghosts S) (same : (a : S) → asked.tied a a) (jo
   follow_ended zero path a b reply first none =
       let go : PathName → Talking Done = λ next. done (Err faults.TooManyLinks) in
       talks_then asked same joined (reply_to (request path)) (λ reply. led (leads_to path reply) go reply) a b b reply (outcome reply) first
-        (subst (λ o. Talks asked (led o go reply) b (outcome reply) b) (sym none) (talks_done asked same joined (outcome reply) b (outcome_answered reply)))
+      (subst (λ o. Talks asked (led o go reply) b (outcome reply) b) (sym none) (talks_done asked same joined (outcome reply) b (outcome_answered reply)))
   follow_ended (suc more) path a b reply first none =
       let go : PathName → Talking Done = λ next. and_then (done (short next)) (following request more) in
       talks_then asked same joined (reply_to (request path)) (λ reply. led (leads_to path reply) go reply) a b b reply (outcome reply) first
-        (subst (λ o. Talks asked (led o go reply) b (outcome reply) b) (sym none) (talks_done asked same joined (outcome reply) b (outcome_answered reply)))
+      (subst (λ o. Talks asked (led o go reply) b (outcome reply) b) (sym none) (talks_done asked same joined (outcome reply) b (outcome_answered reply)))
 
   -- it leads somewhere, and no more links are followed
   pub follow_many : (path next : PathName) (a b : S) (reply : Reply)
@@ -40,7 +40,7 @@ module _ {S : Type 0} (asked : Ghosts S) (same : (a : S) → asked.tied a a) (jo
   follow_many path next a b reply first some =
       let go : PathName → Talking Done = λ next. done (Err faults.TooManyLinks) in
       talks_then asked same joined (reply_to (request path)) (λ reply. led (leads_to path reply) go reply) a b b reply (Err faults.TooManyLinks) first
-        (subst (λ o. Talks asked (led o go reply) b (Err faults.TooManyLinks) b) (sym some) (talks_done asked same joined (Err faults.TooManyLinks) b (λ failed. cc)))
+      (subst (λ o. Talks asked (led o go reply) b (Err faults.TooManyLinks) b) (sym some) (talks_done asked same joined (Err faults.TooManyLinks) b (λ failed. cc)))
 
   -- it leads somewhere, and the rest is held
   pub follow_led : (more : ℕ) (path next : PathName) (a b c : S) (reply : Reply) (result : Result Done ClientFault)
@@ -50,7 +50,7 @@ module _ {S : Type 0} (asked : Ghosts S) (same : (a : S) → asked.tied a a) (jo
   follow_led more path next a b c reply result first some after =
       let go : PathName → Talking Done = λ next. and_then (done (short next)) (following request more) in
       talks_then asked same joined (reply_to (request path)) (λ reply. led (leads_to path reply) go reply) a b c reply result first
-        (subst (λ o. Talks asked (led o go reply) b result c) (sym some) after)
+      (subst (λ o. Talks asked (led o go reply) b result c) (sym some) after)
 
   -- the path to which it leads is too long, or memory was wanting for it
   pub follow_fault : (more less : ℕ) (path next : PathName) (a b : S) (reply : Reply) (fault : ClientFault) → more ≡ suc less
@@ -58,7 +58,7 @@ module _ {S : Type 0} (asked : Ghosts S) (same : (a : S) → asked.tied a a) (jo
       → Meant (Err fault) (short next) → IsAnswered {X = Done} (Err fault) → Talks asked (following request more path) a (Err fault) b
   follow_fault more less path next a b reply fault is first some meant none =
       let stopped = talks_stop asked same joined (done (short next)) (following request less) b b fault
-        (talks_meant asked same joined (Err fault) (short next) b none meant) in
+      (talks_meant asked same joined (Err fault) (short next) b none meant) in
       subst (λ m. Talks asked (following request m path) a (Err fault) b) (sym is) (follow_led less path next a b b reply (Err fault) first some stopped)
 
   -- it is asked at the path to which it leads
@@ -67,5 +67,5 @@ module _ {S : Type 0} (asked : Ghosts S) (same : (a : S) → asked.tied a a) (jo
       → Meant (Ok fit) (short next) → Talks asked (following request less fit) b result c → Talks asked (following request more path) a result c
   follow_more more less path next fit a b c reply result is first some meant after =
       let led_on = talks_then asked same joined (done (short next)) (following request less) b b c fit result
-        (talks_meant asked same joined (Ok fit) (short next) b (λ failed. cc) meant) after in
+      (talks_meant asked same joined (Ok fit) (short next) b (λ failed. cc) meant) after in
       subst (λ m. Talks asked (following request m path) a result c) (sym is) (follow_led less path next a b c reply result first some led_on)

@@ -41,6 +41,7 @@ held_meant answers (Err fault) meant a is = held_fault fault is
   where
     as_it_is : (fault : ClientFault) → (fault ≢ OutOfMemory) → (fault ≢ OutOfMemory → meant ≡ Err fault) → Held answers (done meant) a (Err fault) a
     as_it_is fault other is = subst (λ m. Held answers (done m) a (Err fault) a) (sym (is other)) ended
+
     held_fault : (fault : ClientFault) → (fault ≢ OutOfMemory → meant ≡ Err fault) → Held answers (done meant) a (Err fault) a
     held_fault (faults.Refused reply) is = as_it_is _ (λ e. cc) is
     held_fault faults.TooManyLinks is = as_it_is _ (λ e. cc) is

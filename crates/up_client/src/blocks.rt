@@ -91,13 +91,22 @@ fn fitting(i: u64, block: &Block, bytes: Bytes) -> Result<Bytes, ClientFault>
     Ok(bytes)
 }
 
-// The pieces, joined.
+// The pieces, joined: each byte is copied once.
 fn join(alloc: Global, pieces: Items<Bytes>) -> Result<Bytes, AllocError>
     ensures { IfOk result (λ bytes. bytes ≡ concat pieces) }
 {
-    let mut joined = Vec::new(alloc);
+    let mut joined = Vec::with_capacity(alloc, size_of(pieces.as_slice()))?;
     for piece in pieces.into_vec() {
         joined.extend_from_slice(piece.as_slice())?;
     }
     Ok(Bytes::from_vec(joined))
+}
+
+// How many bytes all pieces have.
+fn size_of(pieces: &[Bytes]) -> usize {
+    let mut size: usize = 0;
+    for piece in pieces {
+        size = size.saturating_add(piece.as_slice().len());
+    }
+    size
 }

@@ -10,13 +10,18 @@
 
 mod ask;
 mod blocks;
+mod copying;
 mod fault;
 mod getting;
+mod laws;
 mod links;
 mod putting;
 mod replies;
+mod table;
 
 pub use ask::{Ask, Failed};
 pub use fault::ClientFault;
 pub use getting::get;
+pub use laws::what_is_got_is_the_file;
 pub use putting::put;
+pub use table::TableAsk;

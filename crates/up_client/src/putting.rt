@@ -80,11 +80,7 @@ fn enter<A: Ask>(
 }
 
 // Keeps all bytes as blocks, in order.
-fn store_all<A: Ask>(
-    alloc: Global,
-    ask: &mut A,
-    bytes: &[u8],
-) -> Result<Items<Block>, ClientFault>
+fn store_all<A: Ask>(alloc: Global, ask: &mut A, bytes: &[u8]) -> Result<Items<Block>, ClientFault>
     ensures { Talks A.Ask (storing 0 (pieces_of bytes.now) []) ask.old result ask.new }
 {
     let mut blocks = Vec::new(alloc);
