@@ -1,4 +1,5 @@
 //! The files of cases, and the topic of each.
+use crate::client::ClientLines;
 use crate::crashes::Crashes;
 use crate::ends::Ends;
 use crate::fields::Fields;
@@ -62,6 +63,7 @@ fn run_file<R: Files + RandomSource + AllocGlobal + Print>(
         text: text.as_str(),
     };
     match topic_of(name) {
+        "client" => run_lines(rt, file, ClientLines::new(), tally),
         "names" => run_lines(rt, file, Names, tally),
         "texts" => run_lines(rt, file, Texts, tally),
         "ends" => run_lines(rt, file, Ends, tally),

@@ -6,6 +6,7 @@
 #![tactic(auto)]
 
 mod answer;
+mod client;
 mod crashes;
 mod ends;
 mod fault;

@@ -6,3 +6,4 @@ pub mod Meant
 pub mod Requests
 pub mod Entries
 pub mod Replies
+pub mod ClientFaults

@@ -6,9 +6,10 @@
 //!
 //! [`read_request`] gives exactly what the words of a line ask, and [`read_client_line`] what they have the client do;
 //! [`is_request`] says whether they are such a line at all, which does not depend on who asks.
-//! [`reply_lines`] gives exactly the lines that tell a reply.
+//! [`reply_lines`] gives exactly the lines that tell a reply, and [`fault_lines`] those that tell a client's fault.
 #![tactic(auto)]
 
+mod client_faults;
 mod entries;
 mod fault;
 mod fitting;
@@ -19,6 +20,7 @@ mod replies;
 mod requests;
 mod words;
 
+pub use client_faults::fault_lines;
 pub use fitting::is_request;
 pub use lines::{cut_word, is_silent, next_line, one_word, three_words, two_words};
 pub use numbers::{read_int, read_num};
