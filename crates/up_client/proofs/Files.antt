@@ -126,6 +126,7 @@ blocks_in_ok (dones.Entry entry) blocks is =
     by_tests true q is = absurd (cc)
     by_tests false false is = absurd (cc)
     by_tests false true is = cc
+
     by_kind : (kind : Kind) → file_blocks kind entry ≡ Ok blocks → blocks ≡ entry.blocks
     by_kind kinds.Link is = absurd (cc)
     by_kind kinds.Directory is = absurd (cc)
@@ -172,12 +173,12 @@ module _ {S : Type 0} (answers : S → Request → Option Reply → S → Type 0
       let go : PathName → Talking Done = λ next. done (Err faults.TooManyLinks) in
       let p = parted answers (reply_to (look_up_at path)) (λ reply. led (leads_to path reply) go reply) a d b held in
       step zero path p.x d go a p.between b is p.first (leads_to path p.x) refl p.after
-        (λ next some after known. let none : Err faults.TooManyLinks ≡ Ok d = held_done answers (Err faults.TooManyLinks) p.between d b after in absurd (cc))
+      (λ next some after known. let none : Err faults.TooManyLinks ≡ Ok d = held_done answers (Err faults.TooManyLinks) p.between d b after in absurd (cc))
   looked (suc more) path d a b is held =
       let go : PathName → Talking Done = λ next. and_then (done (short next)) (following look_up_at more) in
       let p = parted answers (reply_to (look_up_at path)) (λ reply. led (leads_to path reply) go reply) a d b held in
       step (suc more) path p.x d go a p.between b is p.first (leads_to path p.x) refl p.after
-        (λ next some after known. goes_on p.x p.between next some known (such_after _ _ _ _ is p.first) (parted answers (done (short next)) (following look_up_at more) p.between d b after))
+      (λ next some after known. goes_on p.x p.between next some known (such_after _ _ _ _ is p.first) (parted answers (done (short next)) (following look_up_at more) p.between d b after))
     where
       goes_on : (reply : Reply) (between : S) (next : PathName) → leads_to path reply ≡ Some next → IsReplyIn rows (look_up_at path) reply → such between
           → Parted answers (done (short next)) (following look_up_at more) between d b → Looked rows (suc more) path d

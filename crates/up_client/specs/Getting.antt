@@ -19,7 +19,7 @@ use Rattle.up_wire.specs.declared.replies.Reply.{Reply}
 use Rattle.up_client.specs.declared.fault.ClientFault.{ClientFault}
 use Rattle.up_client.specs.declared.fault.ClientFault.TheVariants.{IsDir, NoRead, Opaque, Elsewhere, BadSize, Corrupt, Odd}
 use Rattle.up_client.specs.Links.{following}
-use Rattle.up_client.specs.Replies.{bytes_in, outcome}
+use Rattle.up_client.specs.Replies.{◌>>=◌, bytes_in, outcome}
 use Rattle.up_client.specs.Talks.{Talking, done, and_then, reply_to}
 
 -- the request for the entry at a path

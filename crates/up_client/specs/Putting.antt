@@ -11,7 +11,7 @@ use Rattle.up_wire.specs.declared.replies.Reply.{Reply}
 use Rattle.up_client.specs.declared.fault.ClientFault.{ClientFault}
 use Rattle.up_client.specs.declared.fault.ClientFault.TheVariants.{Corrupt}
 use Rattle.up_client.specs.Links.{following}
-use Rattle.up_client.specs.Replies.{outcome, position_in, reference_in}
+use Rattle.up_client.specs.Replies.{◌>>=◌, outcome, position_in, reference_in}
 use Rattle.up_client.specs.Talks.{Talking, done, and_then, reply_to}
 
 -- the greatest size of a block

@@ -8,6 +8,12 @@ use Rattle.up_wire.specs.declared.replies.Reply.TheVariants as replies
 use Rattle.up_client.specs.declared.fault.ClientFault.{ClientFault}
 use Rattle.up_client.specs.declared.fault.ClientFault.TheVariants.{Refused, Odd, OutOfMemory}
 
+infixl 10 ◌>>=◌
+-- the one, and then the other of what came of it; a fault ends both
+abbrev pub ◌>>=◌ : {A B : Type 0} → Result A ClientFault → (A → Result B ClientFault) → Result B ClientFault
+(Ok x) >>= next = next x
+(Err fault) >>= next = Err fault
+
 -- what was done; want of memory there is want of memory here, and any other reply is handed on
 abbrev pub outcome : Reply → Result Done ClientFault
 outcome (replies.Ok d) = Ok d

@@ -1,5 +1,6 @@
 //! Copies of replies, each in memory of its own.
 ghost use Rattle.std.specs.Prelude.{◌≡◌, IfOk};
+ghost use Rattle.up_wire.specs.declared.replies.Done.TheVariants as dones;
 
 use std::alloc::{AllocError, Global};
 use up_bytes::copy_of;
@@ -11,44 +12,48 @@ use up_wire::{Done, KeyRecord, Reply, Row, WatchEvent};
 pub(crate) fn copied(alloc: Global, reply: &Reply) -> Result<Reply, AllocError>
     ensures { IfOk result (λ copy. copy ≡ reply.now) }
 {
-    Ok(match reply {
-        Reply::Ok(done) => Reply::Ok(copied_done(alloc, done)?),
-        Reply::Invalid(what) => Reply::Invalid(*what),
-        Reply::WrongHost => Reply::WrongHost,
-        Reply::FollowLink(entry) => Reply::FollowLink(entry.clone()?),
-        Reply::Private => Reply::Private,
-        Reply::Permission(right) => Reply::Permission(*right),
-        Reply::NotExist => Reply::NotExist,
-        Reply::NotDir => Reply::NotDir,
-        Reply::IsDir => Reply::IsDir,
-        Reply::Exist => Reply::Exist,
-        Reply::BadSequence(current) => Reply::BadSequence(*current),
-        Reply::NotEmpty => Reply::NotEmpty,
-        Reply::BadBlock(reference) => Reply::BadBlock(*reference),
-        Reply::BadText(line) => Reply::BadText(*line),
-        Reply::TooLarge(size) => Reply::TooLarge(*size),
-        Reply::Full(records) => Reply::Full(*records),
-        Reply::Io => Reply::Io,
-        Reply::OutOfMemory => Reply::OutOfMemory,
-    })
+    match reply {
+        Reply::Ok(done) => Ok(Reply::Ok(copied_done(alloc, done)?)),
+        Reply::FollowLink(entry) => Ok(Reply::FollowLink(entry.clone()?)),
+        Reply::Invalid(what) => Ok(Reply::Invalid(*what)),
+        Reply::WrongHost => Ok(Reply::WrongHost),
+        Reply::Private => Ok(Reply::Private),
+        Reply::Permission(right) => Ok(Reply::Permission(*right)),
+        Reply::NotExist => Ok(Reply::NotExist),
+        Reply::NotDir => Ok(Reply::NotDir),
+        Reply::IsDir => Ok(Reply::IsDir),
+        Reply::Exist => Ok(Reply::Exist),
+        Reply::BadSequence(current) => Ok(Reply::BadSequence(*current)),
+        Reply::NotEmpty => Ok(Reply::NotEmpty),
+        Reply::BadBlock(reference) => Ok(Reply::BadBlock(*reference)),
+        Reply::BadText(line) => Ok(Reply::BadText(*line)),
+        Reply::TooLarge(size) => Ok(Reply::TooLarge(*size)),
+        Reply::Full(records) => Ok(Reply::Full(*records)),
+        Reply::Io => Ok(Reply::Io),
+        Reply::OutOfMemory => Ok(Reply::OutOfMemory),
+    }
 }
 
 fn copied_done(alloc: Global, done: &Done) -> Result<Done, AllocError>
     ensures { IfOk result (λ copy. copy ≡ done.now) }
 {
-    Ok(match done {
-        Done::Changed(position) => Done::Changed(*position),
-        Done::Entry(entry) => Done::Entry(entry.clone()?),
-        Done::Rows(rows) => Done::Rows(copied_rows(alloc, rows.as_slice())?),
-        Done::Access(entry) => Done::Access(copied_access(entry)?),
-        Done::Events(events, next) => {
-            Done::Events(copied_events(alloc, events.as_slice())?, *next)
-        }
-        Done::Text(text) => Done::Text(copy_of(alloc, text.as_slice())?),
-        Done::Reference(reference) => Done::Reference(*reference),
-        Done::Bytes(bytes) => Done::Bytes(copy_of(alloc, bytes.as_slice())?),
-        Done::Key(known) => Done::Key(copied_record(alloc, known)?),
-    })
+    match done {
+        Done::Changed(position) => Ok(Done::Changed(*position)),
+        Done::Entry(entry) => Ok(Done::Entry(entry.clone()?)),
+        Done::Rows(rows) => Ok(Done::Rows(copied_rows(alloc, rows.as_slice())?)),
+        Done::Access(entry) => Ok(Done::Access(copied_access(entry)?)),
+        Done::Events(events, next) => copied_watch(alloc, events.as_slice(), *next),
+        Done::Text(text) => Ok(Done::Text(copy_of(alloc, text.as_slice())?)),
+        Done::Reference(reference) => Ok(Done::Reference(*reference)),
+        Done::Bytes(bytes) => Ok(Done::Bytes(copy_of(alloc, bytes.as_slice())?)),
+        Done::Key(known) => Ok(Done::Key(copied_record(alloc, known)?)),
+    }
+}
+
+fn copied_watch(alloc: Global, events: &[WatchEvent], next: u64) -> Result<Done, AllocError>
+    ensures { IfOk result (λ copy. copy ≡ dones.Events events.now next) }
+{
+    Ok(Done::Events(copied_events(alloc, events)?, next))
 }
 
 fn copied_rows(alloc: Global, rows: &[Row]) -> Result<Items<Row>, AllocError>
