@@ -1,5 +1,7 @@
 -- How a client follows links. The limit on their number is this project's own.
 use Rattle.std.specs.Prelude.{ℕ, Bool, zero, suc, true, false, ◌&&◌, nat_lt, if◌then◌else◌, List, ◌++◌, length, drop, Option, Some, None, option_map, Result, Ok, Err}
+use Rattle.up_names.specs.declared.fault.NameFault.{NameFault}
+use Rattle.up_names.specs.declared.fault.NameFault.TheVariants as names
 use Rattle.up_names.specs.PathNames.{PathName, canonical, is_under}
 use Rattle.up_entry.specs.declared.entries.Entry.{Entry}
 use Rattle.up_entry.specs.declared.entries.Kind.{Kind}
@@ -9,7 +11,7 @@ use Rattle.up_wire.specs.declared.replies.Done.{Done}
 use Rattle.up_wire.specs.declared.replies.Reply.{Reply}
 use Rattle.up_wire.specs.declared.replies.Reply.TheVariants as replies
 use Rattle.up_client.specs.declared.fault.ClientFault.{ClientFault}
-use Rattle.up_client.specs.declared.fault.ClientFault.TheVariants.{TooManyLinks, TooLong}
+use Rattle.up_client.specs.declared.fault.ClientFault.TheVariants.{OutOfMemory, TooManyLinks, TooLong}
 use Rattle.up_client.specs.Replies.{outcome}
 use Rattle.up_client.specs.Talks.{Talking, done, and_then, reply_to}
 
@@ -38,6 +40,11 @@ led None go reply = done (outcome reply)
 -- a path of at most 4,096 bytes
 abbrev pub short : PathName → Result PathName ClientFault
 short path = if nat_lt 4096 (length (canonical path)) then Err TooLong else Ok path
+
+-- why a path cannot take an element of another path: it grows too long
+abbrev pub fault_of : NameFault → ClientFault
+fault_of names.OutOfMemory = OutOfMemory
+fault_of fault = TooLong
 
 -- Asks at a path, and where a link is met, at the path to which it leads, of at most so many links.
 unfoldable pub following : (PathName → Request) → ℕ → PathName → Talking Done

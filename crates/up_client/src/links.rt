@@ -2,7 +2,7 @@
 ghost use Rattle.std.specs.Prelude.{◌≡◌, ◌≤◌, IfOk, IfSome, length, option_map, true};
 ghost use Rattle.up_names.specs.PathNames.{PathName, extended, is_name};
 ghost use Rattle.up_wire.specs.declared.requests.Request.{Request as Requests};
-ghost use Rattle.up_client.specs.Links.{behind, following, leads_to, short};
+ghost use Rattle.up_client.specs.Links.{behind, fault_of, following, leads_to, short};
 ghost use Rattle.up_client.specs.Talks.{Meant, Talks};
 
 use crate::ask::Ask;
@@ -100,7 +100,16 @@ fn joined(path: &Path, element: &str) -> Result<Path, ClientFault>
 {
     match path.join(element) {
         Ok(longer) => Ok(longer),
-        Err(NameFault::OutOfMemory) => Err(ClientFault::OutOfMemory),
-        Err(_) => Err(ClientFault::TooLong),
+        Err(fault) => Err(fault_of(fault)),
+    }
+}
+
+// Why a path could not take an element of another path.
+fn fault_of(fault: NameFault) -> ClientFault
+    ensures { result ≡ fault_of fault }
+{
+    match fault {
+        NameFault::OutOfMemory => ClientFault::OutOfMemory,
+        _ => ClientFault::TooLong,
     }
 }
