@@ -1,0 +1,13 @@
+//! The answer to a request over a tree's log.
+#![tactic(auto)]
+
+mod deletes;
+mod fetching;
+mod puts;
+mod routes;
+mod texts;
+
+pub use deletes::delete_record;
+pub use fetching::Fetched;
+pub use puts::put_record;
+pub use routes::{Route, route_of};
