@@ -1,1 +1,4 @@
 pub mod Routes
+pub mod Items
+pub mod Walks
+pub mod Foreign

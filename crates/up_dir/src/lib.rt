@@ -3,11 +3,14 @@
 
 mod deletes;
 mod fetching;
+mod foreign;
+mod items;
 mod puts;
 mod routes;
 mod texts;
 
 pub use deletes::delete_record;
 pub use fetching::Fetched;
+pub use foreign::foreign_in;
 pub use puts::put_record;
 pub use routes::{Route, route_of};

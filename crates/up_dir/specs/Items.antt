@@ -1,0 +1,16 @@
+-- Which items of a tree are looked at for a request (this project's own).
+use Rattle.std.specs.Prelude.{◌≡◌, ◌⊎◌, Bool, true, Some}
+use Rattle.up_names.specs.PathNames.{PathName, is_under, parent_of}
+use Rattle.up_list.specs.Globs.{is_candidate}
+use Rattle.up_dir.specs.declared.items.Wanted.{Wanted}
+use Rattle.up_dir.specs.declared.items.Wanted.TheVariants.{Under, Matching}
+
+-- the paths under a path; or those that match the first elements of a pattern, and more of them than its literal front has
+abbrev pub wanted : Wanted → PathName → Bool
+wanted (Under path) name = is_under name path.now
+wanted (Matching pattern) name = is_candidate pattern.now name
+
+-- A walk down from this path meets all that are wanted: each of them is the path itself, or stands in it or in another that is wanted.
+abbrev pub IsStart : Wanted → PathName → Type 0
+IsStart looked_for start = (name : PathName) → name.owner ≡ start.owner → wanted looked_for name ≡ true →
+    (name ≡ start) ⊎ ((dir : PathName) × (parent_of name ≡ Some dir) × ((dir ≡ start) ⊎ (wanted looked_for dir ≡ true)))

@@ -1,0 +1,176 @@
+//! The items of a tree that are looked at for a request: a walk down from a path.
+ghost use Rattle.std.specs.Prelude.{◌≡◌, ◌++◌, ◌<◌, IfOk, OnOk, drop, filter, fold, length};
+ghost use Rattle.std.specs.Map.{keys_of};
+ghost use Rattle.up_list.specs.Globs.{is_candidate, literals, matches_front, matches_name};
+ghost use Rattle.up_replay.specs.Orders.{with_path};
+ghost use Rattle.up_replay.specs.Trees.{children, tree_of};
+ghost use Rattle.up_dir.specs.Items.{IsStart, wanted};
+ghost use Rattle.up_dir.specs.Walks.{noted};
+
+use std::alloc::{AllocError, Global};
+use up_maps::OrderedMap;
+use up_names::Path;
+use up_nodes::MemTree;
+use up_pattern::Pattern;
+
+/// Which items are looked for.
+pub(crate) enum Wanted<'a> {
+    /// Those under a path, itself included.
+    Under(&'a Path),
+    /// Those that match the first elements of a pattern, and more of them than its literal front has.
+    Matching(&'a Pattern),
+}
+
+/// What a walk has found so far, and the places whose children it has still to look at.
+#[derive(Drop)]
+pub(crate) struct Walk {
+    pub(crate) found: OrderedMap<Path, ()>,
+    pub(crate) places: Vec<Path>,
+}
+
+impl Wanted<'_> {
+    /// Whether a path is looked for.
+    fn holds(&self, path: &Path) -> bool
+        ensures { result ≡ wanted self.now path.now }
+    {
+        match self {
+            Wanted::Under(above) => path.is_under(above),
+            Wanted::Matching(pattern) => is_candidate(pattern, path),
+        }
+    }
+}
+
+/// Whether a path has more elements than the literal front of a pattern, which match its first elements.
+fn is_candidate(pattern: &Pattern, path: &Path) -> bool
+    ensures { result ≡ is_candidate pattern.now path.now }
+{
+    literals(pattern) < path.len() && matches_front(pattern, path)
+}
+
+/// The number of literal elements in front of a pattern.
+fn literals(pattern: &Pattern) -> u64
+    ensures { result ≡ length (literals pattern.now.elements) }
+{
+    let mut at = 0;
+    while at < pattern.len() && pattern.literal(at).is_some() {
+        at += 1;
+    }
+    at
+}
+
+/// Whether the elements of a path match the first elements of a pattern.
+fn matches_front(pattern: &Pattern, path: &Path) -> bool
+    ensures { result ≡ matches_front pattern.now.elements path.now.elements }
+{
+    for at in 0..path.len() {
+        if !matches_at(pattern, path, at) {
+            return false;
+        }
+    }
+    true
+}
+
+/// Whether the element of a path at a place matches that of a pattern.
+fn matches_at(pattern: &Pattern, path: &Path, at: u64) -> bool
+    requires { at < length path.now.elements }
+    ensures { matches_front (drop at pattern.now.elements) (drop at path.now.elements)
+        ≡ (result && matches_front (drop (at + 1) pattern.now.elements) (drop (at + 1) path.now.elements)) }
+{
+    let Some(name) = path.element(at) else {
+        return false;
+    };
+    if at >= pattern.len() {
+        return false;
+    }
+    match pattern.literal(at) {
+        Some(text) => name == text,
+        None => pattern.matches(at, name),
+    }
+}
+
+impl Walk {
+    /// Notes an item: it is found, and its children are still to be looked at.
+    fn note(&mut self, path: &Path) -> Result<(), AllocError>
+        ensures found { OnOk result
+            (keys_of self.new.found.entries ≡ with_path path.now (keys_of self.old.found.entries)) }
+        ensures places { OnOk result (self.new.places.items ≡ self.old.places.items ++ path.now ∷ []) }
+    {
+        self.places.push(path.clone()?)?;
+        self.found.reserve_one()?;
+        self.found.put_reserved(path.clone()?, ());
+        Ok(())
+    }
+}
+
+/// Looks at the children of a place.
+fn look_into(
+    tree: &MemTree,
+    wanted: &Wanted,
+    dir: &Path,
+    walk: &mut Walk,
+) -> Result<(), AllocError>
+    ensures found { OnOk result (keys_of walk.new.found.entries
+        ≡ noted (keys_of walk.old.found.entries)
+        (filter (wanted wanted.now) (children (tree_of tree.now.log) dir.now))) }
+    ensures places { OnOk result (walk.new.places.items
+        ≡ walk.old.places.items ++ filter (wanted wanted.now) (children (tree_of tree.now.log) dir.now)) }
+{
+    for i in 0..u64::MAX {
+        let Some(path) = tree.child(dir, i) else {
+            return Ok(());
+        };
+        if wanted.holds(path) {
+            walk.note(path)?;
+        }
+    }
+    // No memory holds so many.
+    Err(AllocError)
+}
+
+/// The items that are looked for, in order of paths, by a walk down from a path.
+pub(crate) fn items_from(
+    alloc: Global,
+    tree: &MemTree,
+    start: &Path,
+    wanted: &Wanted,
+) -> Result<OrderedMap<Path, ()>, AllocError>
+    requires start { IsStart wanted.now start.now }
+    requires owned { start.now.owner ≡ tree.now.owner }
+    ensures { IfOk result (λ found. keys_of found.entries
+        ≡ filter (wanted wanted.now) (keys_of (tree_of tree.now.log))) }
+{
+    let _records = tree.position();
+    let mut walk = begun(alloc, tree, start, wanted)?;
+    for _ in 0..u64::MAX {
+        let Some(dir) = walk.places.pop() else {
+            return Ok(walk.found);
+        };
+        look_into(tree, wanted, &dir, &mut walk)?;
+    }
+    // No memory holds so many.
+    Err(AllocError)
+}
+
+/// A walk that begins at a path.
+fn begun(
+    alloc: Global,
+    tree: &MemTree,
+    start: &Path,
+    wanted: &Wanted,
+) -> Result<Walk, AllocError>
+    ensures found { IfOk result (λ walk. keys_of walk.found.entries
+        ≡ (if is_some (node_at (tree_of tree.now.log) start.now) && wanted wanted.now start.now
+        then start.now ∷ [] else [])) }
+    ensures places { IfOk result (λ walk. walk.places.items ≡ start.now ∷ []) }
+{
+    let mut walk = Walk {
+        found: OrderedMap::new(alloc),
+        places: Vec::new(alloc),
+    };
+    if tree.node(start).is_some() && wanted.holds(start) {
+        walk.note(start)?;
+    } else {
+        walk.places.push(start.clone()?)?;
+    }
+    Ok(walk)
+}
