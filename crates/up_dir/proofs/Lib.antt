@@ -1,0 +1,4 @@
+pub mod WalkLemmas
+pub mod StartLemmas
+pub mod PlaceLemmas
+pub mod EventLemmas

@@ -1,0 +1,233 @@
+-- A walk down from a path meets all items that are wanted, in order of paths.
+use Rattle.std.proofs.Common.{◌≡◌, ℕ, zero, suc, ◌++◌, ◌||◌, ◌&&◌, Bool, true, false, List, [], ◌∷◌, length, filter, fold, refl, sym, ap, subst, ◌∙◌, ◌⊎◌, inl, inr, arith, Option, Some, None, is_some}
+use Rattle.std.specs.Prelude.{MatchOption}
+use Rattle.std.specs.Map.{keys_of}
+use Rattle.std.proofs.lemmas.Bool.{and_from, and_parts, false≢true}
+use Rattle.std.proofs.lemmas.List.Folds.{list_any-append}
+use Rattle.up_names.specs.PathNames.{PathName, cut, parent_of}
+use Rattle.up_names.specs.PathOrder.{path_eq}
+use Rattle.up_entry.specs.declared.records.Rec.{Rec}
+use Rattle.up_replay.specs.declared.node.Node.{Node}
+use Rattle.up_replay.specs.Fits.{HasDirectory, IsLog}
+use Rattle.up_replay.specs.Orders.{are_rising, has_path as has, with_path}
+use Rattle.up_replay.specs.Trees.{Tree, children, is_parent, node_at, tree_of}
+use Rattle.up_replay.proofs.Paths.{length_cut, parent_is, parent_none, parent_passes, path_eq_itself, path_other, path_same, some_none, some_same}
+use Rattle.up_replay.proofs.Rising.{has-filter, has-with, one_list, rising-filter, rising-with}
+use Rattle.up_replay.proofs.Trees.{has_child, has_node, rising_tree}
+use Rattle.up_list.specs.Rooted.{IsRooted}
+use Rattle.up_list.proofs.FrontLemmas.{owner_of}
+use Rattle.up_list.proofs.ViewLemmas.{rooted_log}
+use Rattle.up_dir.specs.Items.{IsStart, wanted}
+use Rattle.up_dir.specs.Walks.{noted}
+use Rattle.up_dir.specs.declared.items.Wanted.{Wanted}
+
+-- ---- paths that are noted
+
+has-noted : (found more : List PathName) (q : PathName) → has (noted found more) q ≡ (has more q || has found q)
+has-noted found [] q = refl
+has-noted found (path ∷ more) q = has-noted (with_path path found) more q ∙ (ap (λ b. has more q || b) (has-with path found q) ∙ turned (has more q) (path_eq q path) (has found q))
+  where
+    turned : (a b c : Bool) → (a || (b || c)) ≡ ((b || a) || c)
+    turned true true c = refl
+    turned true false c = refl
+    turned false true c = refl
+    turned false false c = refl
+
+rising-noted : (found more : List PathName) → are_rising found ≡ true → are_rising (noted found more) ≡ true
+rising-noted found [] h = h
+rising-noted found (path ∷ more) h = rising-noted (with_path path found) more (rising-with path found h)
+
+or_cases : (a b : Bool) → (a || b) ≡ true → (a ≡ true) ⊎ (b ≡ true)
+or_cases true b h = inl refl
+or_cases false b h = inr h
+
+or_left : (a b : Bool) → a ≡ true → (a || b) ≡ true
+or_left true b h = refl
+or_left false b h = absurd (false≢true h)
+
+or_right : (a b : Bool) → b ≡ true → (a || b) ≡ true
+or_right true b h = refl
+or_right false b h = h
+
+stands : (o : Option Node) → is_some o ≡ true → (node : Node) × (o ≡ Some node)
+stands None h = absurd (false≢true h)
+stands (Some node) h = (node, refl)
+
+module _ (tree : Tree) (looked_for : Wanted) (start : PathName) where
+  -- an item that is wanted
+  good : PathName → Bool
+  good q = wanted looked_for q && is_some (node_at tree q)
+
+  -- What a walk has found are items that are wanted; and each of those that is the start, or whose parent is the start or is found, is
+  -- found too, or will be by the places that are still to be looked at.
+  pub record Walks (found places : List PathName) : Type 0 where
+    pub rising : are_rising found ≡ true
+    pub sound : (q : PathName) → has found q ≡ true → good q ≡ true
+    pub onward : (q p : PathName) → good q ≡ true → parent_of q ≡ Some p → (p ≡ start) ⊎ (has found p ≡ true) → (has found q ≡ true) ⊎ (has places p ≡ true)
+    pub first : good start ≡ true → has found start ≡ true
+
+  -- ---- one place is looked into
+
+  kids : PathName → List PathName
+  kids dir = filter (wanted looked_for) (children tree dir)
+
+  has-kids : (dir q : PathName) → has (kids dir) q ≡ (wanted looked_for q && (is_parent dir q && is_some (node_at tree q)))
+  has-kids dir q = has-filter (wanted looked_for) (children tree dir) q ∙ ap (λ b. wanted looked_for q && b) (has_child tree dir q)
+
+  kid_good : (dir q : PathName) → has (kids dir) q ≡ true → good q ≡ true
+  kid_good dir q h =
+      let one = and_parts (wanted looked_for q) (is_parent dir q && is_some (node_at tree q)) (sym (has-kids dir q) ∙ h) in
+      let two = and_parts (is_parent dir q) (is_some (node_at tree q)) one.1 in
+      and_from (wanted looked_for q) (is_some (node_at tree q)) one.0 two.1
+
+  good_kid : (dir q : PathName) → good q ≡ true → parent_of q ≡ Some dir → has (kids dir) q ≡ true
+  good_kid dir q h parent =
+      let one = and_parts (wanted looked_for q) (is_some (node_at tree q)) h in
+      has-kids dir q ∙ and_from (wanted looked_for q) (is_parent dir q && is_some (node_at tree q)) one.0 (and_from (is_parent dir q) (is_some (node_at tree q)) (parent_passes dir q parent) one.1)
+
+  module _ (found rest : List PathName) (dir : PathName) (before : Walks found (rest ++ dir ∷ [])) where
+    found_more : (q : PathName) → has found q ≡ true → has (noted found (kids dir)) q ≡ true
+    found_more q h = has-noted found (kids dir) q ∙ or_right (has (kids dir) q) (has found q) h
+
+    found_kid : (q : PathName) → has (kids dir) q ≡ true → has (noted found (kids dir)) q ≡ true
+    found_kid q h = has-noted found (kids dir) q ∙ or_left (has (kids dir) q) (has found q) h
+
+    placed_kid : (p : PathName) → has (kids dir) p ≡ true → has (rest ++ kids dir) p ≡ true
+    placed_kid p h = list_any-append (path_eq p) rest (kids dir) ∙ or_right (has rest p) (has (kids dir) p) h
+
+    placed_rest : (p : PathName) → has rest p ≡ true → has (rest ++ kids dir) p ≡ true
+    placed_rest p h = list_any-append (path_eq p) rest (kids dir) ∙ or_left (has rest p) (has (kids dir) p) h
+
+    -- a place that is not this one is still among the rest
+    in_rest : (p : PathName) → path_eq p dir ≡ false → has (rest ++ dir ∷ []) p ≡ true → has rest p ≡ true
+    in_rest p other h = go (or_cases (has rest p) (has (dir ∷ []) p) (sym (list_any-append (path_eq p) rest (dir ∷ [])) ∙ h))
+      where
+        go : (has rest p ≡ true) ⊎ (has (dir ∷ []) p ≡ true) → has rest p ≡ true
+        go (inl there) = there
+        go (inr last) = absurd (false≢true (sym (ap (λ b. b || false) other) ∙ last))
+
+    by_old : (q p : PathName) → path_eq p dir ≡ false → good q ≡ true → parent_of q ≡ Some p → (p ≡ start) ⊎ (has found p ≡ true) → (has (noted found (kids dir)) q ≡ true) ⊎ (has (rest ++ kids dir) p ≡ true)
+    by_old q p other is parent from = go (before.onward q p is parent from)
+      where
+        go : (has found q ≡ true) ⊎ (has (rest ++ dir ∷ []) p ≡ true) → (has (noted found (kids dir)) q ≡ true) ⊎ (has (rest ++ kids dir) p ≡ true)
+        go (inl there) = inl (found_more q there)
+        go (inr place) = inr (placed_rest p (in_rest p other place))
+
+    onward_after : (q p : PathName) → good q ≡ true → parent_of q ≡ Some p → (p ≡ start) ⊎ (has (noted found (kids dir)) p ≡ true) → (has (noted found (kids dir)) q ≡ true) ⊎ (has (rest ++ kids dir) p ≡ true)
+    onward_after q p is parent from = go (path_eq p dir) refl from
+      where
+        old_or_kid : path_eq p dir ≡ false → (has (kids dir) p ≡ true) ⊎ (has found p ≡ true) → (has (noted found (kids dir)) q ≡ true) ⊎ (has (rest ++ kids dir) p ≡ true)
+        old_or_kid other (inl kid) = inr (placed_kid p kid)
+        old_or_kid other (inr old) = by_old q p other is parent (inr old)
+
+        go : (b : Bool) → path_eq p dir ≡ b → (p ≡ start) ⊎ (has (noted found (kids dir)) p ≡ true) → (has (noted found (kids dir)) q ≡ true) ⊎ (has (rest ++ kids dir) p ≡ true)
+        go true same from = inl (found_kid q (good_kid dir q is (parent ∙ ap Some (path_same p dir same))))
+        go false other (inl begins) = by_old q p other is parent (inl begins)
+        go false other (inr met) = old_or_kid other (or_cases (has (kids dir) p) (has found p) (sym (has-noted found (kids dir) p) ∙ met))
+
+    sound_after : (q : PathName) → has (noted found (kids dir)) q ≡ true → good q ≡ true
+    sound_after q h = go (or_cases (has (kids dir) q) (has found q) (sym (has-noted found (kids dir) q) ∙ h))
+      where
+        go : (has (kids dir) q ≡ true) ⊎ (has found q ≡ true) → good q ≡ true
+        go (inl kid) = kid_good dir q kid
+        go (inr old) = before.sound q old
+
+    pub walks_on : Walks (noted found (kids dir)) (rest ++ kids dir)
+    walks_on = record {
+      rising = rising-noted found (kids dir) before.rising;
+      sound = sound_after;
+      onward = onward_after;
+      first = λ is. found_more start (before.first is);
+    }
+
+  -- ---- the start
+
+  pub walks_begun : (found : List PathName) → found ≡ (if is_some (node_at tree start) && wanted looked_for start then start ∷ [] else []) → Walks found (start ∷ [])
+  walks_begun found is = go (is_some (node_at tree start)) refl (wanted looked_for start) refl is
+    where
+      itself : has (start ∷ []) start ≡ true
+      itself = ap (λ b. b || false) (path_eq_itself start)
+
+      only : (q : PathName) → has (start ∷ []) q ≡ true → q ≡ start
+      only q h = path_same q start (one (path_eq q start) h)
+        where
+          one : (b : Bool) → (b || false) ≡ true → b ≡ true
+          one true h = refl
+          one false h = absurd (false≢true h)
+
+      here : (p : PathName) → p ≡ start → has (start ∷ []) p ≡ true
+      here p same = subst (λ r. has (start ∷ []) r ≡ true) (sym same) itself
+
+      with_start : good start ≡ true → Walks (start ∷ []) (start ∷ [])
+      with_start is_good = record {
+        rising = refl;
+        sound = λ q h. subst (λ r. good r ≡ true) (sym (only q h)) is_good;
+        onward = λ q p is parent from. inr (elim from [ inl same ↦ here p same | inr met ↦ met ]);
+        first = λ is. itself;
+      }
+
+      without : good start ≡ false → Walks [] (start ∷ [])
+      without is_not = record {
+        rising = refl;
+        sound = λ q h. absurd (false≢true h);
+        onward = λ q p is parent from. inr (elim from [ inl same ↦ here p same | inr met ↦ absurd (false≢true met) ]);
+        first = λ is. absurd (false≢true (sym is_not ∙ is));
+      }
+
+      go : (a : Bool) → is_some (node_at tree start) ≡ a → (b : Bool) → wanted looked_for start ≡ b → found ≡ (if is_some (node_at tree start) && wanted looked_for start then start ∷ [] else []) → Walks found (start ∷ [])
+      go true a true b is = subst (λ f. Walks f (start ∷ [])) (sym (is ∙ ap (λ c. if c && wanted looked_for start then start ∷ [] else []) a ∙ ap (λ c. if c then start ∷ [] else []) b)) (with_start (ap (λ c. c && is_some (node_at tree start)) b ∙ a))
+      go true a false b is = subst (λ f. Walks f (start ∷ [])) (sym (is ∙ ap (λ c. if c && wanted looked_for start then start ∷ [] else []) a ∙ ap (λ c. if c then start ∷ [] else []) b)) (without (ap (λ c. c && is_some (node_at tree start)) b))
+      go false a true b is = subst (λ f. Walks f (start ∷ [])) (sym (is ∙ ap (λ c. if c && wanted looked_for start then start ∷ [] else []) a)) (without (ap (λ c. c && is_some (node_at tree start)) b ∙ a))
+      go false a false b is = subst (λ f. Walks f (start ∷ [])) (sym (is ∙ ap (λ c. if c && wanted looked_for start then start ∷ [] else []) a)) (without (ap (λ c. c && is_some (node_at tree start)) b))
+
+  -- ---- the end
+
+  module _ (rooted : IsRooted start.owner tree) (begins : IsStart looked_for start) (found : List PathName) (done : Walks found []) where
+    stood : (n : ℕ) (q : PathName) → length q.elements ≡ n → good q ≡ true → has found q ≡ true
+    from_parent : (n : ℕ) (q dir : PathName) → length q.elements ≡ n → good q ≡ true → parent_of q ≡ Some dir → (dir ≡ start) ⊎ (wanted looked_for dir ≡ true) → has found q ≡ true
+
+    stood n q size is =
+        let parts = and_parts (wanted looked_for q) (is_some (node_at tree q)) is in
+        let node = stands (node_at tree q) parts.1 in
+        go (begins q (owner_of start.owner tree rooted q node.0 node.1) parts.0)
+      where
+        go : (q ≡ start) ⊎ ((dir : PathName) × (parent_of q ≡ Some dir) × ((dir ≡ start) ⊎ (wanted looked_for dir ≡ true))) → has found q ≡ true
+        go (inl same) = subst (λ r. has found r ≡ true) (sym same) (done.first (subst (λ r. good r ≡ true) same is))
+        go (inr (dir, parent, from)) = from_parent n q dir size is parent from
+
+    from_parent zero q dir size is parent from = absurd (some_none dir (sym parent ∙ parent_none q size))
+    from_parent (suc n) q dir size is parent (inl begin) = ended q dir is parent (inl begin)
+      where
+        ended : (q dir : PathName) → good q ≡ true → parent_of q ≡ Some dir → (dir ≡ start) ⊎ (has found dir ≡ true) → has found q ≡ true
+        ended q dir is parent from = elim (done.onward q dir is parent from) [ inl there ↦ there | inr place ↦ absurd (false≢true place) ]
+    from_parent (suc n) q dir size is parent (inr passes) = ended (done.onward q dir is parent (inr (stood n dir shorter (and_from (wanted looked_for dir) (is_some (node_at tree dir)) passes there))))
+      where
+        cut_is : dir ≡ cut n q
+        cut_is = some_same dir (cut n q) (sym parent ∙ parent_is q n size)
+
+        shorter : length dir.elements ≡ n
+        shorter = ap (λ (p : PathName). length p.elements) cut_is ∙ length_cut n q (omega (arith, size))
+
+        directory : HasDirectory tree dir
+        directory =
+            let node = stands (node_at tree q) (and_parts (wanted looked_for q) (is_some (node_at tree q)) is).1 in
+            subst (λ o. MatchOption o (q.owner ≡ start.owner) (HasDirectory tree)) parent (rooted.placed q node.0 node.1)
+
+        there : is_some (node_at tree dir) ≡ true
+        there = ap is_some directory.1
+
+        ended : (has found q ≡ true) ⊎ (has [] dir ≡ true) → has found q ≡ true
+        ended (inl there) = there
+        ended (inr place) = absurd (false≢true place)
+
+    found_at : (q : PathName) → has found q ≡ has (filter (wanted looked_for) (keys_of tree)) q
+    found_at q = go (has found q) refl (good q) refl ∙ sym (has-filter (wanted looked_for) (keys_of tree) q ∙ ap (λ b. wanted looked_for q && b) (has_node tree q))
+      where
+        go : (a : Bool) → has found q ≡ a → (b : Bool) → good q ≡ b → has found q ≡ good q
+        go true a true b = a ∙ sym b
+        go false a false b = a ∙ sym b
+        go true a false b = absurd (false≢true (sym b ∙ done.sound q a))
+        go false a true b = absurd (false≢true (sym a ∙ stood (length q.elements) q refl b))
+
+    pub walks_end : are_rising (keys_of tree) ≡ true → found ≡ filter (wanted looked_for) (keys_of tree)
+    walks_end rising = one_list found (filter (wanted looked_for) (keys_of tree)) done.rising (rising-filter (wanted looked_for) (keys_of tree) rising) found_at
