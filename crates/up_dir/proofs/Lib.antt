@@ -2,3 +2,4 @@ pub mod WalkLemmas
 pub mod StartLemmas
 pub mod PlaceLemmas
 pub mod EventLemmas
+pub mod ChangeLemmas

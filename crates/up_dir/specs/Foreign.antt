@@ -4,19 +4,13 @@ use Rattle.std.specs.Option.{option_and_then}
 use Rattle.up_names.specs.Texts.{UserName}
 use Rattle.up_names.specs.PathNames.{PathName}
 use Rattle.up_entry.specs.declared.records.Rec.{Rec}
-use Rattle.up_journal.specs.declared.limits.Limits.{Limits}
 use Rattle.up_nodes.specs.MemTrees.{TreeLog}
 use Rattle.up_policy.specs.Loadings.{Loading}
 use Rattle.up_policy.specs.Reached.{needed}
 use Rattle.up_replay.specs.Changes.{path_of_change, record_at}
-use Rattle.up_replay.specs.Logs.{Log}
 use Rattle.up_replay.specs.Rights.{facts_of, group_paths}
 use Rattle.up_replay.specs.Trees.{Tree, tree_at, tree_of}
 use Rattle.up_answers.specs.Needs.{Place}
-
--- the log of a tree in memory, which keeps no limits
-abbrev pub log_over : Limits → TreeLog → Log
-log_over limits tree = record { owner = tree.owner; limits = limits; records = tree.log }
 
 -- the needed groups of a place in this owner's tree
 abbrev pub needed_in : UserName → Loading → Place → List PathName

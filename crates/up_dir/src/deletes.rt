@@ -1,7 +1,8 @@
 //! Delete: the refusal, or the record that is added.
 ghost use Rattle.std.specs.Prelude.{◌≡◌, IfOk};
 ghost use Rattle.up_answers.specs.Deletes.{delete_outcome};
-ghost use Rattle.up_list.specs.Seen.{look_of};
+ghost use Rattle.up_replay.specs.Fits.{Fits};
+ghost use Rattle.up_dir.specs.Trees.{look_in};
 
 use std::alloc::{AllocError, Global};
 use up_entry::Rec;
@@ -14,7 +15,7 @@ use up_wire::Reply;
 
 /// What a Delete by a user leads to: the record that is to be added, or the refusal. Links above the path and the right are tested
 /// first; a link at the path is itself deleted.
-#[tactic(auto, unfolding(up_answers::specs::Deletes::delete_outcome))]
+#[tactic(auto, unfolding(up_answers::specs::Deletes::delete_outcome), using(crate::proofs::ChangeLemmas::delete_fitting))]
 pub fn delete_record(
     alloc: Global,
     tree: &MemTree,
@@ -23,9 +24,9 @@ pub fn delete_record(
     path: Path,
 ) -> Result<Result<Rec, Reply>, AllocError>
     requires { path.owner ≡ tree.now.owner }
-    ensures { IfOk result (λ outcome. outcome
-        ≡ delete_outcome (look_of (record { owner = tree.now.owner; records = tree.now.log }) loaded.now user.now)
-        path) }
+    ensures outcome { IfOk result (λ outcome. outcome
+        ≡ delete_outcome (look_in tree.now loaded.now user.now) path) }
+    ensures fits { IfOk result (λ outcome. IfOk outcome (Fits tree.now.owner tree.now.log)) }
 {
     let look = TreeLook::new(tree, loaded, user);
     if let Some(refusal) = check(alloc, &look, &path, false, Some(Right::Delete))? {

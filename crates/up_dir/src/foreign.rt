@@ -1,15 +1,19 @@
 //! Which groups have to be loaded for a request.
-ghost use Rattle.std.specs.Prelude.{◌≡◌, ◌≤◌, IfOk, OnOk, Some, length, slice_get};
+ghost use Rattle.std.specs.Prelude.{◌≡◌, ◌≤◌, ◌∷◌, IfOk, OnOk, length, map, true};
 ghost use Rattle.std.specs.List.{flat_map};
 ghost use Rattle.std.specs.Map.{keys_of};
-ghost use Rattle.up_answers.specs.Needs.{items_where, needs, needs_asked, owner_places, places, places_for, watch_places};
-ghost use Rattle.up_journal.specs.declared.limits.Limits.{Limits};
+ghost use Rattle.up_answers.specs.Needs.{event_places_to, items_where, needs, owner_places, places, places_for, watch_places, where_ordinary};
+ghost use Rattle.std.specs.Option.{option_and_then, option_copied};
+ghost use Rattle.up_list.specs.Globs.{is_candidate, literal_path};
+ghost use Rattle.up_names.specs.PathNames.{extended};
+ghost use Rattle.up_replay.specs.Changes.{path_of_change};
+ghost use Rattle.up_replay.specs.Logs.{Limits};
 ghost use Rattle.up_list.specs.Asking.{owner_asked};
 ghost use Rattle.up_policy.specs.Reached.{with_paths};
 ghost use Rattle.up_replay.specs.Orders.{has_path};
 ghost use Rattle.up_replay.specs.Trees.{tree_at, tree_of};
-ghost use Rattle.up_dir.specs.Foreign.{event_places_of, in_tree, log_over, needed_in};
-ghost use Rattle.up_dir.specs.Items.{wanted};
+ghost use Rattle.up_dir.specs.Foreign.{IsOwnChange, in_tree, needed_in, places_at};
+ghost use Rattle.up_dir.specs.Trees.{log_over};
 
 use crate::items::{Wanted, items_from};
 use std::alloc::{AllocError, Global};

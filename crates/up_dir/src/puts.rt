@@ -3,12 +3,14 @@ ghost use Rattle.std.specs.Prelude.{◌≡◌, IfOk, Some, is_some, length};
 ghost use Rattle.std.specs.Option.{option_copied};
 ghost use Rattle.up_answers.specs.Puts.{holds, is_in_file, is_new, lacks_parent, place_refusal, put_outcome, sequence_refusal, wanted};
 ghost use Rattle.up_list.specs.Changes.{right_to_put, unless};
-ghost use Rattle.up_list.specs.Seen.{look_of};
-ghost use Rattle.up_replay.specs.Trees.{node_at, tree_of};
+ghost use Rattle.up_entry.specs.FixedForm.{HasFixedForm};
+ghost use Rattle.up_replay.specs.Fits.{Fits};
+ghost use Rattle.up_dir.specs.Trees.{look_in};
+ghost use Rattle.up_entry.specs.Rules.{is_directory};
+ghost use Rattle.up_replay.specs.Trees.{Tree, is_file, kind_of, node_at, tree_of};
 
 use crate::texts::text_put;
 use std::alloc::{AllocError, Global};
-use up_bytes::Bytes;
 use up_entry::{Checked, Entry, Fetch, Kind, Location, Rec};
 use up_list::{TreeLook, check};
 use up_names::{Path, User};
@@ -20,7 +22,7 @@ use up_wire::Reply;
 
 /// What a Put by a user leads to: the record that is to be added, or the refusal. Links and rights are tested first, then what stands
 /// at the path and above it, then the text of a control file.
-#[tactic(auto, unfolding(up_answers::specs::Puts::put_outcome))]
+#[tactic(auto, unfolding(up_answers::specs::Puts::put_outcome), using(crate::proofs::ChangeLemmas::put_fitting))]
 pub fn put_record(
     alloc: Global,
     tree: &MemTree,
@@ -29,10 +31,11 @@ pub fn put_record(
     fetched: &[(Location, Fetch)],
     put: Checked,
 ) -> Result<Result<Rec, Reply>, AllocError>
-    requires { put.entry.name.owner ≡ tree.now.owner }
-    ensures { IfOk result (λ outcome. outcome
-        ≡ put_outcome (look_of (record { owner = tree.now.owner; records = tree.now.log }) loaded.now user.now)
-        (length tree.now.log) fetched.now put) }
+    requires owned { put.entry.name.owner ≡ tree.now.owner }
+    requires formed { HasFixedForm put.entry }
+    ensures outcome { IfOk result (λ outcome. outcome
+        ≡ put_outcome (look_in tree.now loaded.now user.now) (length tree.now.log) fetched.now put) }
+    ensures fits { IfOk result (λ outcome. IfOk outcome (Fits tree.now.owner tree.now.log)) }
 {
     let right = right_to_put(tree.node(&put.entry.name));
     let look = TreeLook::new(tree, loaded, user);

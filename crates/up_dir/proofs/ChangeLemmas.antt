@@ -1,0 +1,27 @@
+-- The record to which a Put or a Delete leads fits.
+use Rattle.std.proofs.Common.{◌≡◌, ℕ, List, length, refl, sym, ◌∙◌, Result, Ok, Err, IfOk}
+use Rattle.up_entry.specs.FixedForm.{HasFixedForm}
+use Rattle.up_entry.specs.declared.puts.Checked.{Checked}
+use Rattle.up_entry.specs.declared.records.Rec.{Rec}
+use Rattle.up_names.specs.PathNames.{PathName}
+use Rattle.up_policy.specs.Loadings.{Loading}
+use Rattle.up_replay.specs.Fits.{Fits}
+use Rattle.up_replay.specs.Logs.{Limits, Log}
+use Rattle.up_wire.specs.declared.replies.Reply.{Reply}
+use Rattle.up_nodes.specs.MemTrees.{TreeLog}
+use Rattle.up_answers.specs.Deletes.{delete_outcome}
+use Rattle.up_answers.specs.Fetching.{Fetched}
+use Rattle.up_answers.specs.Puts.{put_outcome}
+use Rattle.up_answers.proofs.FitLemmas.{delete_fits, put_fits}
+use Rattle.up_dir.specs.Trees.{log_over, look_in}
+
+no_limits : Limits
+no_limits = record { records = 0; device = 0; largest = 0 }
+
+pub put_fitting : (tree : TreeLog) (loaded : Loading) (user : List ℕ) (fetched : Fetched) (put : Checked) (rec : Rec) → HasFixedForm put.entry → put.entry.name.owner ≡ tree.owner →
+    Ok rec ≡ put_outcome (look_in tree loaded user) (length tree.log) fetched put → Fits tree.owner tree.log rec
+put_fitting tree loaded user fetched put rec form owned h = put_fits (log_over no_limits tree) loaded user fetched put rec form owned (sym h)
+
+pub delete_fitting : (tree : TreeLog) (loaded : Loading) (user : List ℕ) (path : PathName) (rec : Rec) →
+    Ok rec ≡ delete_outcome (look_in tree loaded user) path → Fits tree.owner tree.log rec
+delete_fitting tree loaded user path rec h = delete_fits (log_over no_limits tree) loaded user path rec (sym h)
