@@ -3,3 +3,5 @@ pub mod StartLemmas
 pub mod PlaceLemmas
 pub mod EventLemmas
 pub mod ChangeLemmas
+pub mod FormLemmas
+pub mod TextLemmas

@@ -1,14 +1,14 @@
 -- Which items of a tree are looked at for a request (this project's own).
-use Rattle.std.specs.Prelude.{◌≡◌, ◌⊎◌, Bool, true, Some}
+use Rattle.std.specs.Prelude.{◌≡◌, ◌⊎◌, Bool, true, ◌&&◌, nat_lt, length, Some}
 use Rattle.up_names.specs.PathNames.{PathName, is_under, parent_of}
-use Rattle.up_list.specs.Globs.{is_candidate}
+use Rattle.up_list.specs.Globs.{matches_front}
 use Rattle.up_dir.specs.declared.items.Wanted.{Wanted}
 use Rattle.up_dir.specs.declared.items.Wanted.TheVariants.{Under, Matching}
 
--- the paths under a path; or those that match the first elements of a pattern, and more of them than its literal front has
+-- the paths under a path; or those of more than so many elements that match the first elements of a pattern
 abbrev pub wanted : Wanted → PathName → Bool
 wanted (Under path) name = is_under name path.now
-wanted (Matching pattern) name = is_candidate pattern.now name
+wanted (Matching pattern front) name = nat_lt front (length name.elements) && matches_front pattern.now.elements name.elements
 
 -- A walk down from this path meets all that are wanted: each of them is the path itself, or stands in it or in another that is wanted.
 abbrev pub IsStart : Wanted → PathName → Type 0

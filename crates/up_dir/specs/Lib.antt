@@ -4,3 +4,4 @@ pub mod Walks
 pub mod Foreign
 pub mod Forms
 pub mod Trees
+pub mod Texts

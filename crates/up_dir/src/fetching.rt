@@ -1,7 +1,9 @@
 //! What was fetched of the blocks of a control file.
-ghost use Rattle.std.specs.Prelude.{◌≡◌};
+ghost use Rattle.std.specs.Prelude.{◌≡◌, ◌==◌, ◌&&◌, length};
+ghost use Rattle.std.specs.Str.{bytes_eq};
+ghost use Rattle.sha2.specs.Sha256.{sha256};
 ghost use Rattle.std.specs.List.{list_any};
-ghost use Rattle.std.specs.Option.{option_copied, option_map};
+ghost use Rattle.std.specs.Option.{option_copied};
 ghost use Rattle.up_answers.specs.Fetching.{endpoint_eq, fetch_for, good_bytes, is_failed, location_eq};
 
 use up_bytes::Bytes;
@@ -45,9 +47,9 @@ fn same_endpoint(one: &Endpoint, two: &Endpoint) -> bool
 pub(crate) fn fetch_for<'a>(fetched: &'a [(Location, Fetch)], block: &Block) -> Option<&'a Fetch>
     ensures { option_copied result ≡ fetch_for fetched.now block.now }
 {
-    for (location, fetch) in fetched {
-        if same_location(&block.location, location) {
-            return Some(fetch);
+    for pair in fetched {
+        if same_location(&block.location, &pair.0) {
+            return Some(&pair.1);
         }
     }
     None

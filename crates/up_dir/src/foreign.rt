@@ -226,7 +226,8 @@ fn note_glob(
 {
     let front = literal_path(alloc, pattern)?;
     note_now(alloc, tree, user, &front, loaded, names)?;
-    let items = items_from(alloc, tree, &front, &Wanted::Matching(pattern))?;
+    let wanted = Wanted::Matching(pattern, front.len());
+    let items = items_from(alloc, tree, &front, &wanted)?;
     note_each(alloc, tree, user, &items, loaded, names)
 }
 

@@ -1,9 +1,9 @@
 //! The items of a tree that are looked at for a request: a walk down from a path.
-ghost use Rattle.std.specs.Prelude.{◌≡◌, ◌++◌, ◌<◌, IfOk, OnOk, drop, filter, fold, length};
+ghost use Rattle.std.specs.Prelude.{◌≡◌, ◌+◌, ◌++◌, ◌∷◌, [], ◌<◌, ◌&&◌, IfOk, OnOk, drop, filter, if◌then◌else◌, is_some, length};
 ghost use Rattle.std.specs.Map.{keys_of};
-ghost use Rattle.up_list.specs.Globs.{is_candidate, literals, matches_front, matches_name};
+ghost use Rattle.up_list.specs.Globs.{matches_front};
 ghost use Rattle.up_replay.specs.Orders.{with_path};
-ghost use Rattle.up_replay.specs.Trees.{children, tree_of};
+ghost use Rattle.up_replay.specs.Trees.{children, node_at, tree_of};
 ghost use Rattle.up_dir.specs.Items.{IsStart, wanted};
 ghost use Rattle.up_dir.specs.Walks.{noted};
 
@@ -17,8 +17,8 @@ use up_pattern::Pattern;
 pub(crate) enum Wanted<'a> {
     /// Those under a path, itself included.
     Under(&'a Path),
-    /// Those that match the first elements of a pattern, and more of them than its literal front has.
-    Matching(&'a Pattern),
+    /// Those of more than so many elements that match the first elements of a pattern.
+    Matching(&'a Pattern, u64),
 }
 
 /// What a walk has found so far, and the places whose children it has still to look at.
@@ -35,27 +35,9 @@ impl Wanted<'_> {
     {
         match self {
             Wanted::Under(above) => path.is_under(above),
-            Wanted::Matching(pattern) => is_candidate(pattern, path),
+            Wanted::Matching(pattern, front) => *front < path.len() && matches_front(pattern, path),
         }
     }
-}
-
-/// Whether a path has more elements than the literal front of a pattern, which match its first elements.
-fn is_candidate(pattern: &Pattern, path: &Path) -> bool
-    ensures { result ≡ is_candidate pattern.now path.now }
-{
-    literals(pattern) < path.len() && matches_front(pattern, path)
-}
-
-/// The number of literal elements in front of a pattern.
-fn literals(pattern: &Pattern) -> u64
-    ensures { result ≡ length (literals pattern.now.elements) }
-{
-    let mut at = 0;
-    while at < pattern.len() && pattern.literal(at).is_some() {
-        at += 1;
-    }
-    at
 }
 
 /// Whether the elements of a path match the first elements of a pattern.
