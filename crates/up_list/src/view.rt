@@ -25,6 +25,7 @@ use up_replay::Node;
 use up_rights::RightSet;
 
 /// A tree as it was after the first records of its log: what rights are read by. It parses nothing.
+#[derive(Drop)]
 pub struct TreeView<'a> {
     tree: &'a MemTree,
     at: u64,
@@ -92,6 +93,7 @@ impl Facts for TreeView<'_> {
 }
 
 /// A user before the tree of a log as it is, with what was loaded of the groups of others.
+#[derive(Drop)]
 pub struct TreeLook<'a> {
     tree: &'a MemTree,
     view: TreeView<'a>,
