@@ -3,7 +3,7 @@ use Rattle.std.proofs.Common.{◌≡◌, ◌≢◌, ℕ, zero, suc, ◌+◌, ◌
 use Rattle.std.specs.Prelude.{nat_lt, if◌then◌else◌, slice_get, IsSome}
 use Rattle.std.specs.List.{flat_map}
 use Rattle.std.specs.Option.{option_and_then, option_map}
-use Rattle.std.proofs.lemmas.Bool.{cases_lt, le-ltb, lt-ltb}
+use Rattle.std.proofs.lemmas.Bool.{cases_lt, false≢true, le-ltb, lt-ltb}
 use Rattle.std.proofs.lemmas.List.{append-nil, drop_all, length-drop}
 use Rattle.up_names.specs.PathNames.{PathName, is_under}
 use Rattle.up_entry.specs.declared.records.Rec.{Rec}
@@ -31,7 +31,7 @@ path_in log whole n (Snap time) is = refl
 path_in log whole n (Delete path) is = go (node_at (tree_at log.records n) path) refl (whole.fitting.each n (Delete path) is).there
   where
     go : (o : Option Node) → node_at (tree_at log.records n) path ≡ o → IsSome o → change_path (option_map (λ (node : Node). record { delete = true; entry = node.entry }) o) ≡ Some path
-    go None e h = absurd h
+    go None e h = absurd (false≢true h)
     go (Some node) e h = ap Some ((rooted_at log.owner log.records whole.fitting n).named path node e)
 
 change_at_is : (log : Log) (n : ℕ) (rec : Rec) → slice_get log.records n ≡ Some rec → change_at log.records n ≡ change_in (tree_at log.records n) rec
@@ -39,7 +39,7 @@ unfolding change_at
 change_at_is log n rec is = ap (option_and_then (change_in (tree_at log.records n))) is
 
 module _ (log : Log) (whole : IsWhole log) (sequence : ℕ) (path : PathName) where
-  test : Rec → Bool
+  abbrev test : Rec → Bool
   test = changes_some (λ name. is_under name path)
 
   -- the places of one record above the sequence
@@ -97,8 +97,8 @@ module _ (log : Log) (whole : IsWhole log) (sequence : ℕ) (path : PathName) wh
       ∙ (from_on rest (suc n) (omega (arith, low)) (λ i. ap (slice_get log.records) (let e : suc n + i ≡ n + suc i = omega arith in e) ∙ same (suc i))
       ∙ (append_assoc' (event_places_to log sequence path n) (event_places log sequence path n) (flat_map (places_at log.records) (positions_of test (suc n) rest))
       ∙ ap (λ ps. event_places_to log sequence path n ++ ps)
-        (ap (λ ps. ps ++ flat_map (places_at log.records) (positions_of test (suc n) rest)) (here n rec low (ap (slice_get log.records) (let e : n ≡ n + 0 = omega arith in e) ∙ same 0))
-        ∙ sym (flat-if (test rec) (suc n) (positions_of test (suc n) rest)))))
+      (ap (λ ps. ps ++ flat_map (places_at log.records) (positions_of test (suc n) rest)) (here n rec low (ap (slice_get log.records) (let e : n ≡ n + 0 = omega arith in e) ∙ same 0))
+      ∙ sym (flat-if (test rec) (suc n) (positions_of test (suc n) rest)))))
 
   -- all of them
   pub places_by_positions : event_places_to log sequence path (length log.records) ≡ flat_map (places_at log.records) (changes_under log.records path sequence)

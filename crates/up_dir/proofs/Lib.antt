@@ -5,3 +5,4 @@ pub mod EventLemmas
 pub mod ChangeLemmas
 pub mod FormLemmas
 pub mod TextLemmas
+pub mod FrontLemmas

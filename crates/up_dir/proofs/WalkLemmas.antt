@@ -1,18 +1,22 @@
 -- A walk down from a path meets all items that are wanted, in order of paths.
-use Rattle.std.proofs.Common.{◌≡◌, ℕ, zero, suc, ◌++◌, ◌||◌, ◌&&◌, Bool, true, false, List, [], ◌∷◌, length, filter, fold, refl, sym, ap, subst, ◌∙◌, ◌⊎◌, inl, inr, arith, Option, Some, None, is_some}
-use Rattle.std.specs.Prelude.{MatchOption}
+use Rattle.std.proofs.Common.{◌≡◌, ℕ, zero, suc, ◌+◌, ◌++◌, ◌||◌, ◌&&◌, Bool, true, false, List, [], ◌∷◌, length, filter, fold, take, refl, sym, ap, subst, ◌∙◌, ◌⊎◌, inl, inr, arith, Option, Some, None, is_some}
+use Rattle.std.specs.Prelude.{MatchOption, if◌then◌else◌, slice_get}
+use Rattle.std.specs.FinMap.Entries as entries
 use Rattle.std.specs.Map.{keys_of}
 use Rattle.std.proofs.lemmas.Bool.{and_from, and_parts, false≢true}
+use Rattle.std.proofs.lemmas.Grind.{fold-append}
+use Rattle.std.proofs.lemmas.List.{append_assoc}
 use Rattle.std.proofs.lemmas.List.Folds.{list_any-append}
+use Rattle.up_replay.proofs.Fronts.{take_next}
 use Rattle.up_names.specs.PathNames.{PathName, cut, parent_of}
-use Rattle.up_names.specs.PathOrder.{path_eq}
+use Rattle.up_names.specs.PathOrder.{path_cmp, path_eq}
 use Rattle.up_entry.specs.declared.records.Rec.{Rec}
 use Rattle.up_replay.specs.declared.node.Node.{Node}
 use Rattle.up_replay.specs.Fits.{HasDirectory, IsLog}
 use Rattle.up_replay.specs.Orders.{are_rising, has_path as has, with_path}
 use Rattle.up_replay.specs.Trees.{Tree, children, is_parent, node_at, tree_of}
 use Rattle.up_replay.proofs.Paths.{length_cut, parent_is, parent_none, parent_passes, path_eq_itself, path_other, path_same, some_none, some_same}
-use Rattle.up_replay.proofs.Rising.{has-filter, has-with, one_list, rising-filter, rising-with}
+use Rattle.up_replay.proofs.Rising.{has-filter, has-with, keys-put, one_list, rising-filter, rising-with}
 use Rattle.up_replay.proofs.Trees.{has_child, has_node, rising_tree}
 use Rattle.up_list.specs.Rooted.{IsRooted}
 use Rattle.up_list.proofs.FrontLemmas.{owner_of}
@@ -37,6 +41,9 @@ rising-noted : (found more : List PathName) → are_rising found ≡ true → ar
 rising-noted found [] h = h
 rising-noted found (path ∷ more) h = rising-noted (with_path path found) more (rising-with path found h)
 
+pub put_keys : (path : PathName) (es : List (PathName × (Unit {0}))) (x : Unit {0}) → keys_of (entries.put path_cmp path x es) ≡ with_path path (keys_of es)
+put_keys path es x = keys-put path x es
+
 or_cases : (a b : Bool) → (a || b) ≡ true → (a ≡ true) ⊎ (b ≡ true)
 or_cases true b h = inl refl
 or_cases false b h = inr h
@@ -55,7 +62,7 @@ stands (Some node) h = (node, refl)
 
 module _ (tree : Tree) (looked_for : Wanted) (start : PathName) where
   -- an item that is wanted
-  good : PathName → Bool
+  abbrev pub good : PathName → Bool
   good q = wanted looked_for q && is_some (node_at tree q)
 
   -- What a walk has found are items that are wanted; and each of those that is the start, or whose parent is the start or is found, is
@@ -68,7 +75,7 @@ module _ (tree : Tree) (looked_for : Wanted) (start : PathName) where
 
   -- ---- one place is looked into
 
-  kids : PathName → List PathName
+  abbrev pub kids : PathName → List PathName
   kids dir = filter (wanted looked_for) (children tree dir)
 
   has-kids : (dir q : PathName) → has (kids dir) q ≡ (wanted looked_for q && (is_parent dir q && is_some (node_at tree q)))
@@ -183,42 +190,38 @@ module _ (tree : Tree) (looked_for : Wanted) (start : PathName) where
   -- ---- the end
 
   module _ (rooted : IsRooted start.owner tree) (begins : IsStart looked_for start) (found : List PathName) (done : Walks found []) where
-    stood : (n : ℕ) (q : PathName) → length q.elements ≡ n → good q ≡ true → has found q ≡ true
-    from_parent : (n : ℕ) (q dir : PathName) → length q.elements ≡ n → good q ≡ true → parent_of q ≡ Some dir → (dir ≡ start) ⊎ (wanted looked_for dir ≡ true) → has found q ≡ true
-
-    stood n q size is =
+    -- an item whose parent, where that is wanted, is found
+    placed : (q : PathName) → good q ≡ true → ((dir : PathName) → parent_of q ≡ Some dir → wanted looked_for dir ≡ true → has found dir ≡ true) → has found q ≡ true
+    placed q is above =
         let parts = and_parts (wanted looked_for q) (is_some (node_at tree q)) is in
         let node = stands (node_at tree q) parts.1 in
         go (begins q (owner_of start.owner tree rooted q node.0 node.1) parts.0)
       where
+        ended : (dir : PathName) → (has found q ≡ true) ⊎ (has [] dir ≡ true) → has found q ≡ true
+        ended dir (inl there) = there
+        ended dir (inr place) = absurd (false≢true place)
+
+        from : (dir : PathName) → parent_of q ≡ Some dir → (dir ≡ start) ⊎ (wanted looked_for dir ≡ true) → has found q ≡ true
+        from dir parent (inl begin) = ended dir (done.onward q dir is parent (inl begin))
+        from dir parent (inr passes) = ended dir (done.onward q dir is parent (inr (above dir parent passes)))
+
         go : (q ≡ start) ⊎ ((dir : PathName) × (parent_of q ≡ Some dir) × ((dir ≡ start) ⊎ (wanted looked_for dir ≡ true))) → has found q ≡ true
         go (inl same) = subst (λ r. has found r ≡ true) (sym same) (done.first (subst (λ r. good r ≡ true) same is))
-        go (inr (dir, parent, from)) = from_parent n q dir size is parent from
+        go (inr (dir, parent, begin)) = from dir parent begin
 
-    from_parent zero q dir size is parent from = absurd (some_none dir (sym parent ∙ parent_none q size))
-    from_parent (suc n) q dir size is parent (inl begin) = ended q dir is parent (inl begin)
-      where
-        ended : (q dir : PathName) → good q ≡ true → parent_of q ≡ Some dir → (dir ≡ start) ⊎ (has found dir ≡ true) → has found q ≡ true
-        ended q dir is parent from = elim (done.onward q dir is parent from) [ inl there ↦ there | inr place ↦ absurd (false≢true place) ]
-    from_parent (suc n) q dir size is parent (inr passes) = ended (done.onward q dir is parent (inr (stood n dir shorter (and_from (wanted looked_for dir) (is_some (node_at tree dir)) passes there))))
-      where
-        cut_is : dir ≡ cut n q
-        cut_is = some_same dir (cut n q) (sym parent ∙ parent_is q n size)
+    -- the parent of an item stands
+    parent_good : (q dir : PathName) → good q ≡ true → parent_of q ≡ Some dir → wanted looked_for dir ≡ true → good dir ≡ true
+    parent_good q dir is parent passes =
+        let node = stands (node_at tree q) (and_parts (wanted looked_for q) (is_some (node_at tree q)) is).1 in
+        let directory : HasDirectory tree dir = subst (λ o. MatchOption o (q.owner ≡ start.owner) (HasDirectory tree)) parent (rooted.placed q node.0 node.1) in
+        and_from (wanted looked_for dir) (is_some (node_at tree dir)) passes (ap is_some directory.1)
 
-        shorter : length dir.elements ≡ n
-        shorter = ap (λ (p : PathName). length p.elements) cut_is ∙ length_cut n q (omega (arith, size))
+    parent_shorter : (n : ℕ) (q dir : PathName) → length q.elements ≡ suc n → parent_of q ≡ Some dir → length dir.elements ≡ n
+    parent_shorter n q dir size parent = ap (λ (p : PathName). length p.elements) (some_same dir (cut n q) (sym parent ∙ parent_is q n size)) ∙ length_cut n q (omega (arith, size))
 
-        directory : HasDirectory tree dir
-        directory =
-            let node = stands (node_at tree q) (and_parts (wanted looked_for q) (is_some (node_at tree q)) is).1 in
-            subst (λ o. MatchOption o (q.owner ≡ start.owner) (HasDirectory tree)) parent (rooted.placed q node.0 node.1)
-
-        there : is_some (node_at tree dir) ≡ true
-        there = ap is_some directory.1
-
-        ended : (has found q ≡ true) ⊎ (has [] dir ≡ true) → has found q ≡ true
-        ended (inl there) = there
-        ended (inr place) = absurd (false≢true place)
+    stood : (n : ℕ) (q : PathName) → length q.elements ≡ n → good q ≡ true → has found q ≡ true
+    stood zero q size is = placed q is (λ dir parent passes. absurd (some_none dir (sym parent ∙ parent_none q size)))
+    stood (suc n) q size is = placed q is (λ dir parent passes. stood n dir (parent_shorter n q dir size parent) (parent_good q dir is parent passes))
 
     found_at : (q : PathName) → has found q ≡ has (filter (wanted looked_for) (keys_of tree)) q
     found_at q = go (has found q) refl (good q) refl ∙ sym (has-filter (wanted looked_for) (keys_of tree) q ∙ ap (λ b. wanted looked_for q && b) (has_node tree q))
@@ -231,3 +234,60 @@ module _ (tree : Tree) (looked_for : Wanted) (start : PathName) where
 
     pub walks_end : are_rising (keys_of tree) ≡ true → found ≡ filter (wanted looked_for) (keys_of tree)
     walks_end rising = one_list found (filter (wanted looked_for) (keys_of tree)) done.rising (rising-filter (wanted looked_for) (keys_of tree) rising) found_at
+
+-- ---- the loops
+
+-- the children so far, and one more
+filter-snoc : (test : PathName → Bool) (xs : List PathName) (x : PathName) → filter test (xs ++ x ∷ []) ≡ filter test xs ++ filter test (x ∷ [])
+filter-snoc test [] x = refl
+filter-snoc test (y ∷ xs) x = go (test y) (filter-snoc test xs x)
+  where
+    go : (b : Bool) → filter test (xs ++ x ∷ []) ≡ filter test xs ++ filter test (x ∷ []) → (if b then y ∷ filter test (xs ++ x ∷ []) else filter test (xs ++ x ∷ [])) ≡ (if b then y ∷ filter test xs else filter test xs) ++ filter test (x ∷ [])
+    go true rest = ap (λ zs. y ∷ zs) rest
+    go false rest = rest
+
+next : (test : PathName → Bool) (kids : List PathName) (i : ℕ) (path : PathName) → Some path ≡ slice_get kids i → filter test (take i kids) ++ filter test (path ∷ []) ≡ filter test (take (i + 1) kids)
+next test kids i path there =
+    sym (filter-snoc test (take i kids) path)
+    ∙ ap (filter test) (sym (take_next i kids path (sym there)) ∙ ap (λ n. take n kids) (let e : suc i ≡ i + 1 = omega arith in e))
+
+pub found_next : (test : PathName → Bool) (kids : List PathName) (i : ℕ) (path : PathName) (old mid now : List PathName) → Some path ≡ slice_get kids i → mid ≡ noted old (filter test (take i kids)) →
+    now ≡ noted mid (filter test (path ∷ [])) → now ≡ noted old (filter test (take (i + 1) kids))
+found_next test kids i path old mid now there so_far one =
+    one
+    ∙ (ap (λ found. noted found (filter test (path ∷ []))) so_far
+    ∙ (sym (fold-append (λ paths path. with_path path paths) old (filter test (take i kids)) (filter test (path ∷ [])))
+    ∙ ap (noted old) (next test kids i path there)))
+
+pub places_next : (test : PathName → Bool) (kids : List PathName) (i : ℕ) (path : PathName) (old mid now : List PathName) → Some path ≡ slice_get kids i → mid ≡ old ++ filter test (take i kids) →
+    now ≡ mid ++ filter test (path ∷ []) → now ≡ old ++ filter test (take (i + 1) kids)
+places_next test kids i path old mid now there so_far one =
+    one
+    ∙ (ap (λ places. places ++ filter test (path ∷ [])) so_far
+    ∙ (append_assoc old (filter test (take i kids)) (filter test (path ∷ []))
+    ∙ ap (λ more. old ++ more) (next test kids i path there)))
+
+-- no child is left
+pub kids_all : (kids : List PathName) (i : ℕ) → None ≡ slice_get kids i → take i kids ≡ kids
+kids_all [] zero h = refl
+kids_all [] (suc i) h = refl
+kids_all (kid ∷ kids) zero h = absurd (some_none kid (sym h))
+kids_all (kid ∷ kids) (suc i) h = ap (λ ks. kid ∷ ks) (kids_all kids i h)
+
+-- one place is looked into
+pub walks_next : (tree : Tree) (looked_for : Wanted) (start : PathName) (found places rest : List PathName) (dir : PathName) (more behind : List PathName) → Walks tree looked_for start found places → places ≡ rest ++ dir ∷ [] →
+    more ≡ noted found (filter (wanted looked_for) (children tree dir)) → behind ≡ rest ++ filter (wanted looked_for) (children tree dir) → Walks tree looked_for start more behind
+walks_next tree looked_for start found places rest dir more behind before last is places_are =
+    subst (λ f. Walks tree looked_for start f behind) (sym is)
+    (subst (λ ps. Walks tree looked_for start (noted found (filter (wanted looked_for) (children tree dir))) ps) (sym places_are)
+    (walks_on tree looked_for start found rest dir (subst (λ ps. Walks tree looked_for start found ps) last before)))
+
+-- none is left
+pub walks_ended : (owner : List ℕ) (log : List Rec) (is : IsLog owner log) (looked_for : Wanted) (start : PathName) → start.owner ≡ owner → IsStart looked_for start → (found places : List PathName) →
+    Walks (tree_of log) looked_for start found places → length places ≡ 0 → found ≡ filter (wanted looked_for) (keys_of (tree_of log))
+walks_ended owner log is looked_for start owned begins found places walks none =
+    walks_end (tree_of log) looked_for start (subst (λ o. IsRooted o (tree_of log)) (sym owned) (rooted_log owner log is)) begins found (subst (λ ps. Walks (tree_of log) looked_for start found ps) (empty places none) walks) (rising_tree log)
+  where
+    empty : (ps : List PathName) → length ps ≡ 0 → ps ≡ []
+    empty [] h = refl
+    empty (p ∷ ps) h = absurd (omega (arith, h))

@@ -14,6 +14,7 @@ use up_nodes::MemTree;
 use up_pattern::Pattern;
 
 /// Which items are looked for.
+#[derive(Drop)]
 pub(crate) enum Wanted<'a> {
     /// Those under a path, itself included.
     Under(&'a Path),
@@ -41,6 +42,7 @@ impl Wanted<'_> {
 }
 
 /// Whether the elements of a path match the first elements of a pattern.
+#[tactic(auto, using(crate::proofs::FrontLemmas::matched_all))]
 fn matches_front(pattern: &Pattern, path: &Path) -> bool
     ensures { result ≡ matches_front pattern.now.elements path.now.elements }
 {
@@ -53,6 +55,7 @@ fn matches_front(pattern: &Pattern, path: &Path) -> bool
 }
 
 /// Whether the element of a path at a place matches that of a pattern.
+#[tactic(auto, using(crate::proofs::FrontLemmas::at_literal, crate::proofs::FrontLemmas::at_pattern, crate::proofs::FrontLemmas::at_past))]
 fn matches_at(pattern: &Pattern, path: &Path, at: u64) -> bool
     requires { at < length path.now.elements }
     ensures { matches_front (drop at pattern.now.elements) (drop at path.now.elements)
@@ -72,6 +75,7 @@ fn matches_at(pattern: &Pattern, path: &Path, at: u64) -> bool
 
 impl Walk {
     /// Notes an item: it is found, and its children are still to be looked at.
+    #[tactic(auto, using(crate::proofs::WalkLemmas::put_keys))]
     fn note(&mut self, path: &Path) -> Result<(), AllocError>
         ensures found { OnOk result
             (keys_of self.new.found.entries ≡ with_path path.now (keys_of self.old.found.entries)) }
@@ -82,28 +86,40 @@ impl Walk {
         self.found.put_reserved(path.clone()?, ());
         Ok(())
     }
+
+    /// Meets an item, which is noted where it is looked for.
+    fn meet(&mut self, looked_for: &Wanted, path: &Path) -> Result<(), AllocError>
+        ensures found { OnOk result (keys_of self.new.found.entries
+            ≡ noted (keys_of self.old.found.entries) (filter (wanted looked_for.now) (path.now ∷ []))) }
+        ensures places { OnOk result (self.new.places.items
+            ≡ self.old.places.items ++ filter (wanted looked_for.now) (path.now ∷ [])) }
+    {
+        if !looked_for.holds(path) {
+            return Ok(());
+        }
+        self.note(path)
+    }
 }
 
 /// Looks at the children of a place.
+#[tactic(auto, using(crate::proofs::WalkLemmas::found_next, crate::proofs::WalkLemmas::places_next, crate::proofs::WalkLemmas::kids_all))]
 fn look_into(
     tree: &MemTree,
-    wanted: &Wanted,
+    looked_for: &Wanted,
     dir: &Path,
     walk: &mut Walk,
 ) -> Result<(), AllocError>
     ensures found { OnOk result (keys_of walk.new.found.entries
         ≡ noted (keys_of walk.old.found.entries)
-        (filter (wanted wanted.now) (children (tree_of tree.now.log) dir.now))) }
+        (filter (wanted looked_for.now) (children (tree_of tree.now.log) dir.now))) }
     ensures places { OnOk result (walk.new.places.items
-        ≡ walk.old.places.items ++ filter (wanted wanted.now) (children (tree_of tree.now.log) dir.now)) }
+        ≡ walk.old.places.items ++ filter (wanted looked_for.now) (children (tree_of tree.now.log) dir.now)) }
 {
     for i in 0..u64::MAX {
         let Some(path) = tree.child(dir, i) else {
             return Ok(());
         };
-        if wanted.holds(path) {
-            walk.note(path)?;
-        }
+        walk.meet(looked_for, path)?;
     }
     // No memory holds so many.
     Err(AllocError)
@@ -114,20 +130,20 @@ pub(crate) fn items_from(
     alloc: Global,
     tree: &MemTree,
     start: &Path,
-    wanted: &Wanted,
+    looked_for: &Wanted,
 ) -> Result<OrderedMap<Path, ()>, AllocError>
-    requires start { IsStart wanted.now start.now }
+    requires start { IsStart looked_for.now start.now }
     requires owned { start.now.owner ≡ tree.now.owner }
     ensures { IfOk result (λ found. keys_of found.entries
-        ≡ filter (wanted wanted.now) (keys_of (tree_of tree.now.log))) }
+        ≡ filter (wanted looked_for.now) (keys_of (tree_of tree.now.log))) }
 {
     let _records = tree.position();
-    let mut walk = begun(alloc, tree, start, wanted)?;
+    let mut walk = begun(alloc, tree, start, looked_for)?;
     for _ in 0..u64::MAX {
         let Some(dir) = walk.places.pop() else {
             return Ok(walk.found);
         };
-        look_into(tree, wanted, &dir, &mut walk)?;
+        look_into(tree, looked_for, &dir, &mut walk)?;
     }
     // No memory holds so many.
     Err(AllocError)
@@ -138,10 +154,10 @@ fn begun(
     alloc: Global,
     tree: &MemTree,
     start: &Path,
-    wanted: &Wanted,
+    looked_for: &Wanted,
 ) -> Result<Walk, AllocError>
     ensures found { IfOk result (λ walk. keys_of walk.found.entries
-        ≡ (if is_some (node_at (tree_of tree.now.log) start.now) && wanted wanted.now start.now
+        ≡ (if is_some (node_at (tree_of tree.now.log) start.now) && wanted looked_for.now start.now
         then start.now ∷ [] else [])) }
     ensures places { IfOk result (λ walk. walk.places.items ≡ start.now ∷ []) }
 {
@@ -149,7 +165,7 @@ fn begun(
         found: OrderedMap::new(alloc),
         places: Vec::new(alloc),
     };
-    if tree.node(start).is_some() && wanted.holds(start) {
+    if tree.node(start).is_some() && looked_for.holds(start) {
         walk.note(start)?;
     } else {
         walk.places.push(start.clone()?)?;

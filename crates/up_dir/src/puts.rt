@@ -86,12 +86,7 @@ fn place_refusal(tree: &MemTree, put: &Checked) -> Result<Option<Reply>, AllocEr
 
 /// The same, once it is known whether the parent is not there, and whether it is a file.
 #[tactic(auto, unfolding(up_answers::specs::Puts::place_refusal))]
-fn refusal_at(
-    found: Option<&Node>,
-    orphan: bool,
-    in_file: bool,
-    put: &Checked,
-) -> Option<Reply>
+fn refusal_at(found: Option<&Node>, orphan: bool, in_file: bool, put: &Checked) -> Option<Reply>
     ensures { (tree : Tree) → orphan ≡ lacks_parent tree put.now.entry.name
         → in_file ≡ is_in_file tree put.now.entry.name
         → unless result ≡ place_refusal (option_copied found.entry) tree put.now }

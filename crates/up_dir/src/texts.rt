@@ -7,14 +7,14 @@ use crate::fetching::{fetch_for, good_bytes, is_failed};
 use std::alloc::{AllocError, Global};
 use up_access::parse_access;
 use up_bytes::Bytes;
-use up_entry::{Block, Entry, Fetch, is_control_file};
+use up_entry::{Block, Entry, Fetch, Location, is_control_file};
 use up_group::parse_group;
 use up_names::{Control, TextFault, User};
 use up_wire::Reply;
 
 /// The text that is kept with an entry that is put, or the refusal: `Io` where the fetch of a block of a control file failed, then
 /// `BadBlock` of the first block that is not as the entry says, then `BadText` where the joined bytes do not parse.
-#[tactic(auto, unfolding(up_answers::specs::Fetching::text_put))]
+#[tactic(auto, unfolding(up_answers::specs::Fetching::text_put), using(crate::proofs::TextLemmas::put_is_parsed))]
 pub(crate) fn text_put(
     alloc: Global,
     owner: &User,
@@ -34,7 +34,8 @@ pub(crate) fn text_put(
         Ok(text) => text,
         Err(refusal) => return Ok(Err(refusal)),
     };
-    parsed_as(owner, entry.name.control_kind(), text)
+    let parsed = parsed_as(owner, entry.name.control_kind(), text)?;
+    Ok(parsed)
 }
 
 /// Whether the fetch of one of these blocks failed.
@@ -68,7 +69,11 @@ fn joined_bytes(
 }
 
 /// The text, where it parses as one of this kind in the owner's tree, or `BadText` of its first bad line.
-fn parsed_as(owner: &User, control: Control, text: Bytes) -> Result<Result<Bytes, Reply>, AllocError>
+fn parsed_as(
+    owner: &User,
+    control: Control,
+    text: Bytes,
+) -> Result<Result<Bytes, Reply>, AllocError>
     ensures { IfOk result (λ parsed. parsed ≡ parsed_as owner.now control text) }
 {
     let fault = match control {

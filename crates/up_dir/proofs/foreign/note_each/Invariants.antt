@@ -8,4 +8,4 @@ use Rattle.up_dir.proofs.foreign.note_each.Given as goal
 
 -- what is needed at the first paths is noted
 abbrev pub invariant-loop-i : goal.invariant-loop-i
-invariant-loop-i l = l.names.new ≡ with_paths l.names.old (flat_map (needed_in l.tree.owner l.loaded) (map (in_tree (tree_of l.tree.log)) (take l.i (keys_of l.paths.entries))))
+invariant-loop-i l = l.names ≡ with_paths l.fn.names (flat_map (needed_in l.tree.owner l.loaded) (map (in_tree (tree_of l.tree.log)) (take l.i (keys_of l.paths.entries))))

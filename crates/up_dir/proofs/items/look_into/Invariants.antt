@@ -1,4 +1,4 @@
-use Rattle.std.proofs.Common.{◌≡◌, ◌++◌, ◌×◌, filter, take}
+use Rattle.std.proofs.Common.{◌≡◌, ◌++◌, filter, take}
 use Rattle.std.specs.Map.{keys_of}
 use Rattle.up_replay.specs.Trees.{children, tree_of}
 use Rattle.up_dir.specs.Items.{wanted}
@@ -8,5 +8,5 @@ use Rattle.up_dir.proofs.items.look_into.Given as goal
 -- the first children are noted
 abbrev pub invariant-loop-i : goal.invariant-loop-i
 invariant-loop-i l =
-    (keys_of l.walk.new.found.entries ≡ noted (keys_of l.walk.old.found.entries) (filter (wanted l.wanted) (take l.i (children (tree_of l.tree.log) l.dir))))
-    × (l.walk.new.places.items ≡ l.walk.old.places.items ++ filter (wanted l.wanted) (take l.i (children (tree_of l.tree.log) l.dir)))
+    (keys_of l.walk.found.entries ≡ noted (keys_of l.fn.walk.found.entries) (filter (wanted l.looked_for) (take l.i (children (tree_of l.tree.log) l.dir))))
+    × (l.walk.places.items ≡ l.fn.walk.places.items ++ filter (wanted l.looked_for) (take l.i (children (tree_of l.tree.log) l.dir)))
