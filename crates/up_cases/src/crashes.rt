@@ -14,7 +14,7 @@ use crate::fault::Fault;
 use crate::topic::Topic;
 use crate::words::Words;
 pub use on_disk::{new_disk, turn as on_disk_turn};
-pub use on_journal::{Running, add_log_of, payload};
+pub use on_journal::{Running, add_appended, add_log_of, add_open_fault, payload};
 pub use stage::{Stage, limits_of, stage_turn};
 use std::alloc::Global;
 pub use watched::Watched;

@@ -16,6 +16,7 @@ use crate::scripts::run_scripts;
 use crate::signing::Signing;
 use crate::tally::Tally;
 use crate::texts::Texts;
+use crate::tree::Trees;
 use std::hash::RandomState;
 use std::random::RandomSource;
 use std::rt::Files;
@@ -64,6 +65,7 @@ fn run_file<R: Files + RandomSource + AllocGlobal + Print>(
     match topic_of(name) {
         "names" => run_lines(rt, file, Names, tally),
         "texts" => run_lines(rt, file, Texts, tally),
+        "tree" => run_lines(rt, file, Trees, tally),
         "ends" => run_lines(rt, file, Ends, tally),
         "logs" => run_lines(rt, file, Logs::new(), tally),
         "moves" => run_lines(rt, file, Moves, tally),

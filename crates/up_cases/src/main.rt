@@ -27,6 +27,7 @@ mod signing;
 mod tally;
 mod texts;
 mod topic;
+mod tree;
 mod words;
 
 use std::rt::Env;

@@ -91,7 +91,7 @@ impl Running {
     }
 }
 
-fn add_appended(outcome: Result<u64, AppendWhy>, answer: &mut Answer) {
+pub fn add_appended(outcome: Result<u64, AppendWhy>, answer: &mut Answer) {
     match outcome {
         Ok(position) => {
             answer.word("ok");

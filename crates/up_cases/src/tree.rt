@@ -1,0 +1,61 @@
+//! A tree over its log on a disk in memory: records that fit and that do not, what the tree then says, calls that fail, crashes, and
+//! what is then opened. A line is a case of its own: commands on an empty disk, parted by `; `, and so are their answers.
+mod asked;
+mod disk;
+mod recs;
+
+use crate::answer::Answer;
+use crate::fault::Fault;
+use crate::topic::Topic;
+use crate::words::Words;
+use std::alloc::Global;
+use up_disk::MemDisk;
+use up_lists::Items;
+use up_tree::TreeState;
+
+/// Lines about a tree. Each begins with an empty disk.
+#[derive(Clone, Copy)]
+pub struct Trees;
+
+impl Topic for Trees {
+    fn turn(&mut self, alloc: Global, line: &str, answer: &mut Answer) -> Result<(), Fault> {
+        let mut stage = Stage::Disk(MemDisk::new(alloc, Items::new(alloc)));
+        for command in line.split("; ") {
+            answer.part();
+            stage = stage_turn(alloc, stage, Words::new(command), answer)?;
+        }
+        Ok(())
+    }
+}
+
+/// A disk, or a tree over its log on it.
+#[derive(Drop)]
+enum Stage {
+    Disk(MemDisk),
+    Tree(TreeState<MemDisk>),
+}
+
+// Does one command. A command of a disk ends the tree that stands on it.
+fn stage_turn(
+    alloc: Global,
+    stage: Stage,
+    words: Words<'_>,
+    answer: &mut Answer,
+) -> Result<Stage, Fault> {
+    match stage {
+        Stage::Disk(disk) => disk::turn(alloc, disk, words, answer),
+        Stage::Tree(tree) => tree_turn(alloc, tree, words, answer),
+    }
+}
+
+fn tree_turn(
+    alloc: Global,
+    mut tree: TreeState<MemDisk>,
+    words: Words<'_>,
+    answer: &mut Answer,
+) -> Result<Stage, Fault> {
+    if recs::turn(alloc, &mut tree, words, answer)? || asked::turn(alloc, &tree, words, answer)? {
+        return Ok(Stage::Tree(tree));
+    }
+    disk::turn(alloc, tree.into_disk(), words, answer)
+}

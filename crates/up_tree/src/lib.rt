@@ -1,0 +1,13 @@
+//! The tree over its log: what every answer of a directory server depends on.
+//!
+//! A [`TreeState`] is seen as its owner, its limits and the records of its log (`specs/States.antt`); what stands at a path, the
+//! children of a directory and the texts of its control files are those that the log gives, now or after any number of its records.
+//! `open` opens a device as such a log or says what is wrong with it, `fits` says whether a record fits as the next one, and `apply`
+//! adds it: from then on each crash leaves the log with it, and a crash before that leaves the log, or the log with it.
+#![tactic(auto)]
+
+mod replay;
+mod state;
+
+pub use state::TreeState;
+pub use up_nodes::Node;
