@@ -1,5 +1,5 @@
 -- The record to which a Put or a Delete leads fits.
-use Rattle.std.proofs.Common.{◌≡◌, ℕ, List, length, refl, sym, ◌∙◌, Result, Ok, Err, IfOk}
+use Rattle.std.proofs.Common.{◌≡◌, ℕ, List, length, sym, Result, Ok, Err, IfOk}
 use Rattle.up_entry.specs.FixedForm.{HasFixedForm}
 use Rattle.up_entry.specs.declared.puts.Checked.{Checked}
 use Rattle.up_entry.specs.declared.records.Rec.{Rec}
@@ -18,10 +18,12 @@ use Rattle.up_dir.specs.Trees.{log_over, look_in}
 no_limits : Limits
 no_limits = record { records = 0; device = 0; largest = 0 }
 
-pub put_fitting : (tree : TreeLog) (loaded : Loading) (user : List ℕ) (fetched : Fetched) (put : Checked) (rec : Rec) → HasFixedForm put.entry → put.entry.name.owner ≡ tree.owner →
-    Ok rec ≡ put_outcome (look_in tree loaded user) (length tree.log) fetched put → Fits tree.owner tree.log rec
-put_fitting tree loaded user fetched put rec form owned h = put_fits (log_over no_limits tree) loaded user fetched put rec form owned (sym h)
+pub put_fitting : (tree : TreeLog) (loaded : Loading) (user : List ℕ) (fetched : Fetched) (put : Checked) (led : Result Rec Reply) → HasFixedForm put.entry → put.entry.name.owner ≡ tree.owner →
+    led ≡ put_outcome (look_in tree loaded user) (length tree.log) fetched put → IfOk led (Fits tree.owner tree.log)
+put_fitting tree loaded user fetched put (Ok rec) form owned h = put_fits (log_over no_limits tree) loaded user fetched put rec form owned (sym h)
+put_fitting tree loaded user fetched put (Err refusal) form owned h = tt
 
-pub delete_fitting : (tree : TreeLog) (loaded : Loading) (user : List ℕ) (path : PathName) (rec : Rec) →
-    Ok rec ≡ delete_outcome (look_in tree loaded user) path → Fits tree.owner tree.log rec
-delete_fitting tree loaded user path rec h = delete_fits (log_over no_limits tree) loaded user path rec (sym h)
+pub delete_fitting : (tree : TreeLog) (loaded : Loading) (user : List ℕ) (path : PathName) (led : Result Rec Reply) →
+    led ≡ delete_outcome (look_in tree loaded user) path → IfOk led (Fits tree.owner tree.log)
+delete_fitting tree loaded user path (Ok rec) h = delete_fits (log_over no_limits tree) loaded user path rec (sym h)
+delete_fitting tree loaded user path (Err refusal) h = tt

@@ -11,7 +11,9 @@ use Rattle.up_entry.specs.declared.records.Rec.TheVariants.{Put, Delete, Snap}
 use Rattle.up_replay.specs.declared.node.Node.{Node}
 use Rattle.up_replay.specs.Changes.{changes_some, changes_under, path_of_change, positions_of, record_at}
 use Rattle.up_replay.specs.Fits.{Fits, IsLog}
-use Rattle.up_replay.specs.Logs.{Log}
+use Rattle.up_nodes.specs.MemTrees.{TreeLog}
+use Rattle.up_policy.specs.Reached.{with_paths}
+use Rattle.up_replay.specs.Logs.{Limits, Log}
 use Rattle.up_replay.specs.Trees.{node_at, tree_at, tree_of}
 use Rattle.up_replay.proofs.Paths.{some_none, some_same}
 use Rattle.up_replay.proofs.Rooted.{rooted_at}
@@ -19,6 +21,7 @@ use Rattle.up_answers.specs.Events.{Change, change_at, change_in}
 use Rattle.up_answers.specs.Laws.{IsWhole}
 use Rattle.up_answers.specs.Needs.{Place, event_places, event_places_to}
 use Rattle.up_dir.specs.Foreign.{places_at, places_of}
+use Rattle.up_dir.specs.Trees.{log_over}
 
 -- the path of a change is the one that its record changes
 abbrev change_path : Option Change → Option PathName
@@ -111,3 +114,10 @@ module _ (log : Log) (whole : IsWhole log) (sequence : ℕ) (path : PathName) wh
           ∙ (from_on (drop sequence log.records) sequence (omega arith) (λ i. get_drop sequence i log.records)
           ∙ ap (λ ps. ps ++ flat_map (places_at log.records) (positions_of test sequence (drop sequence log.records))) (none_below sequence (omega arith)))
       go (inr past) = none_below (length log.records) past ∙ sym (ap (λ rs. flat_map (places_at log.records) (positions_of test sequence rs)) (drop_all sequence log.records past))
+
+-- all that the records under a path need
+pub events_noted : (limits : Limits) (tree : TreeLog) (is : IsLog tree.owner tree.log) (f : Place → List PathName) (sequence : ℕ) (path : PathName) (old now : List PathName) (positions : List ℕ) →
+    positions ≡ changes_under tree.log path sequence → now ≡ with_paths old (flat_map f (flat_map (places_at tree.log) positions)) →
+    now ≡ with_paths old (flat_map f (event_places_to (log_over limits tree) sequence path (length tree.log)))
+events_noted limits tree is f sequence path old now positions all h =
+    h ∙ ap (λ ps. with_paths old (flat_map f ps)) (ap (flat_map (places_at tree.log)) all ∙ sym (places_by_positions (log_over limits tree) is sequence path))

@@ -6,3 +6,5 @@ pub mod ChangeLemmas
 pub mod FormLemmas
 pub mod TextLemmas
 pub mod FrontLemmas
+pub mod WatchLemmas
+pub mod StepLemmas

@@ -1,5 +1,5 @@
 -- From where a walk has to begin.
-use Rattle.std.proofs.Common.{◌≡◌, ℕ, zero, suc, ◌<◌, ◌≤◌, ◌-◌, ◌&&◌, Bool, true, false, List, [], ◌∷◌, length, take, refl, sym, ap, subst, ◌∙◌, ◌⊎◌, inl, inr, arith, Option, Some, None}
+use Rattle.std.proofs.Common.{Bor, ◌≡◌, ℕ, zero, suc, ◌<◌, ◌≤◌, ◌-◌, ◌&&◌, Bool, true, false, List, [], ◌∷◌, length, take, refl, sym, ap, subst, ◌∙◌, ◌⊎◌, inl, inr, arith, Option, Some, None}
 use Rattle.std.specs.Prelude.{nat_lt}
 use Rattle.std.specs.List.{starts_with}
 use Rattle.std.specs.Str.{bytes_eq, chars}
@@ -87,6 +87,7 @@ front_alone (terms ∷ rest) (name ∷ names) h size = go (literal_of terms) ref
         ap (λ n. n ∷ names) same ∙ (ap (λ ns. text ∷ ns) (later both.1 (omega (arith, left))) ∙ sym (literals_first terms rest (Some text) e))
 
 pub candidates_start : (pattern : PatternName) (start : PathName) (looked_for : Wanted) → ((name : PathName) → wanted looked_for name ≡ is_candidate pattern name) → start ≡ literal_path pattern → IsStart looked_for start
+unfolding is_candidate
 candidates_start pattern start looked_for means begins q owned h = above (length q.elements - 1) (omega (arith, longer))
   where
     parts : (nat_lt (length (literals pattern.elements)) (length q.elements) ≡ true) × (matches_front pattern.elements q.elements ≡ true)
@@ -111,3 +112,9 @@ candidates_start pattern start looked_for means begins q owned h = above (length
             let as_many : k ≡ length (literals pattern.elements) = omega (arith, fewer, longer, size) in
             inl (same_path (cut k q) (literal_path pattern) (owned ∙ (ap (λ (p : PathName). p.owner) begins))
             (front_alone pattern.elements (cut k q).elements matched (shorter ∙ as_many) ∙ sym (front_elements pattern)) ∙ sym begins)
+
+-- more elements than the literal front has
+pub many_of : (pattern : Bor PatternName) (front : PathName) (n : ℕ) → n ≡ length front.elements → front ≡ literal_path pattern.now → (name : PathName) → wanted (Matching pattern n) name ≡ is_candidate pattern.now name
+unfolding is_candidate
+many_of pattern front n size is name =
+    ap (λ m. nat_lt m (length name.elements) && matches_front pattern.now.elements name.elements) (size ∙ (ap (λ (p : PathName). length p.elements) is ∙ ap length (front_elements pattern.now)))

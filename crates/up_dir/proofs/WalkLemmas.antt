@@ -284,10 +284,13 @@ walks_next tree looked_for start found places rest dir more behind before last i
 
 -- none is left
 pub walks_ended : (owner : List ℕ) (log : List Rec) (is : IsLog owner log) (looked_for : Wanted) (start : PathName) → start.owner ≡ owner → IsStart looked_for start → (found places : List PathName) →
-    Walks (tree_of log) looked_for start found places → length places ≡ 0 → found ≡ filter (wanted looked_for) (keys_of (tree_of log))
+    Walks (tree_of log) looked_for start found places → places ≡ [] → found ≡ filter (wanted looked_for) (keys_of (tree_of log))
 walks_ended owner log is looked_for start owned begins found places walks none =
-    walks_end (tree_of log) looked_for start (subst (λ o. IsRooted o (tree_of log)) (sym owned) (rooted_log owner log is)) begins found (subst (λ ps. Walks (tree_of log) looked_for start found ps) (empty places none) walks) (rising_tree log)
-  where
-    empty : (ps : List PathName) → length ps ≡ 0 → ps ≡ []
-    empty [] h = refl
-    empty (p ∷ ps) h = absurd (omega (arith, h))
+    walks_end (tree_of log) looked_for start (subst (λ o. IsRooted o (tree_of log)) (sym owned) (rooted_log owner log is)) begins found (subst (λ ps. Walks (tree_of log) looked_for start found ps) none walks) (rising_tree log)
+
+-- the items that are found are the owner's
+pub found_owned : (owner : List ℕ) (log : List Rec) (is : IsLog owner log) (test : PathName → Bool) (found : List PathName) → found ≡ filter test (keys_of (tree_of log)) → (path : PathName) → has found path ≡ true → path.owner ≡ owner
+found_owned owner log is test found all path there =
+    let both = and_parts (test path) (has (keys_of (tree_of log)) path) (sym (has-filter test (keys_of (tree_of log)) path) ∙ (ap (λ ps. has ps path) (sym all) ∙ there)) in
+    let node = stands (node_at (tree_of log) path) (sym (has_node (tree_of log) path) ∙ both.1) in
+    owner_of owner (tree_of log) (rooted_log owner log is) path node.0 node.1

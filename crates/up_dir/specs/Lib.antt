@@ -5,3 +5,5 @@ pub mod Foreign
 pub mod Forms
 pub mod Trees
 pub mod Texts
+pub mod Watched
+pub mod Steps

@@ -15,7 +15,7 @@ use up_wire::Reply;
 
 /// What a Delete by a user leads to: the record that is to be added, or the refusal. Links above the path and the right are tested
 /// first; a link at the path is itself deleted.
-#[tactic(auto, unfolding(up_answers::specs::Deletes::delete_outcome), using(crate::proofs::ChangeLemmas::delete_fitting))]
+#[tactic(auto, using(crate::proofs::ChangeLemmas::delete_fitting))]
 pub fn delete_record(
     alloc: Global,
     tree: &MemTree,
@@ -26,7 +26,24 @@ pub fn delete_record(
     requires { path.owner ≡ tree.now.owner }
     ensures outcome { IfOk result (λ outcome. outcome
         ≡ delete_outcome (look_in tree.now loaded.now user.now) path) }
-    ensures fits { IfOk result (λ outcome. IfOk outcome (Fits tree.now.owner tree.now.log)) }
+    ensures fits { IfOk result (λ led. IfOk led (Fits tree.now.owner tree.now.log)) }
+{
+    let led = delete_leads(alloc, tree, loaded, user, path)?;
+    Ok(led)
+}
+
+/// The same, without that the record fits.
+#[tactic(auto, unfolding(up_answers::specs::Deletes::delete_outcome))]
+fn delete_leads(
+    alloc: Global,
+    tree: &MemTree,
+    loaded: &Loaded,
+    user: &User,
+    path: Path,
+) -> Result<Result<Rec, Reply>, AllocError>
+    requires { path.owner ≡ tree.now.owner }
+    ensures { IfOk result (λ outcome. outcome
+        ≡ delete_outcome (look_in tree.now loaded.now user.now) path) }
 {
     let look = TreeLook::new(tree, loaded, user);
     if let Some(refusal) = check(alloc, &look, &path, false, Some(Right::Delete))? {

@@ -1,21 +1,22 @@
 //! Which groups have to be loaded for a request.
-ghost use Rattle.std.specs.Prelude.{◌≡◌, ◌≤◌, ◌∷◌, IfOk, OnOk, length, map, true};
+ghost use Rattle.std.specs.Prelude.{◌≡◌, ◌≤◌, ◌∷◌, IfOk, OnOk, length, map};
 ghost use Rattle.std.specs.List.{flat_map};
 ghost use Rattle.std.specs.Map.{keys_of};
 ghost use Rattle.up_answers.specs.Needs.{event_places_to, items_where, needs, owner_places, places, places_for, watch_places, where_ordinary};
 ghost use Rattle.std.specs.Option.{option_and_then, option_copied};
 ghost use Rattle.up_list.specs.Globs.{is_candidate, literal_path};
-ghost use Rattle.up_names.specs.PathNames.{extended};
+ghost use Rattle.up_names.specs.PathNames.{extended, is_under};
+ghost use Rattle.up_dir.specs.Items.{AreOwned};
+ghost use Rattle.up_dir.specs.Watched.{watched_by};
 ghost use Rattle.up_replay.specs.Changes.{path_of_change};
 ghost use Rattle.up_replay.specs.Logs.{Limits};
 ghost use Rattle.up_list.specs.Asking.{owner_asked};
 ghost use Rattle.up_policy.specs.Reached.{with_paths};
-ghost use Rattle.up_replay.specs.Orders.{has_path};
 ghost use Rattle.up_replay.specs.Trees.{tree_at, tree_of};
 ghost use Rattle.up_dir.specs.Foreign.{IsOwnChange, in_tree, needed_in, places_at};
 ghost use Rattle.up_dir.specs.Trees.{log_over};
 
-use crate::items::{Wanted, items_from};
+use crate::items::{items_matching, items_under};
 use std::alloc::{AllocError, Global};
 use std::hash::RandomState;
 use up_entry::{EntryFault, Rec};
@@ -131,6 +132,7 @@ fn note_for_others(
 }
 
 /// Adds what is needed at a path, as the tree is now.
+#[tactic(auto, unfolding(up_replay::specs::Rights::facts_of))]
 fn note_now(
     alloc: Global,
     tree: &MemTree,
@@ -147,6 +149,7 @@ fn note_now(
 }
 
 /// Adds what was needed at a path, as the tree was after its first `n` records.
+#[tactic(auto, unfolding(up_replay::specs::Rights::facts_of))]
 fn note_then(
     alloc: Global,
     tree: &MemTree,
@@ -185,6 +188,7 @@ fn note_ordinary(
 }
 
 /// Adds what is needed at each of these paths, in order.
+#[tactic(auto, using(crate::proofs::PlaceLemmas::key_owned, crate::proofs::PlaceLemmas::each_next, crate::proofs::PlaceLemmas::each_end))]
 fn note_each(
     alloc: Global,
     tree: &MemTree,
@@ -193,8 +197,7 @@ fn note_each(
     loaded: &Loaded,
     names: &mut Names,
 ) -> Result<(), AllocError>
-    requires { (path : PathName) → has_path (keys_of paths.now.entries) path ≡ true
-        → path.owner ≡ tree.now.owner }
+    requires { AreOwned tree.now.owner (keys_of paths.now.entries) }
     ensures { OnOk result (names.new
         ≡ with_paths names.old (flat_map (needed_in tree.now.owner loaded.now)
         (map (in_tree (tree_of tree.now.log)) (keys_of paths.now.entries)))) }
@@ -210,6 +213,7 @@ fn note_each(
 }
 
 /// Adds what a Glob needs: at the path of its literal front, and then at the items that match.
+#[tactic(auto, using(crate::proofs::PlaceLemmas::glob_noted, crate::proofs::PlaceLemmas::front_owned))]
 fn note_glob(
     alloc: Global,
     tree: &MemTree,
@@ -226,8 +230,7 @@ fn note_glob(
 {
     let front = literal_path(alloc, pattern)?;
     note_now(alloc, tree, user, &front, loaded, names)?;
-    let wanted = Wanted::Matching(pattern, front.len());
-    let items = items_from(alloc, tree, &front, &wanted)?;
+    let items = items_matching(alloc, tree, pattern, &front)?;
     note_each(alloc, tree, user, &items, loaded, names)
 }
 
@@ -274,13 +277,49 @@ fn note_watched(
         ≡ with_paths names.old (flat_map (needed_in tree.now.owner loaded.now)
         (watch_places (log_over limits tree.now) path.now sequence))) }
 {
+    match watched(sequence) {
+        Watched::Above(above) => note_events(alloc, tree, user, path, above, loaded, names),
+        Watched::Items => note_under(alloc, tree, user, path, loaded, names),
+        Watched::Nothing => Ok(()),
+    }
+}
+
+/// What a Watch looks at behind its path: the records above a sequence, the items that there are, or nothing.
+pub(crate) enum Watched {
+    Above(u64),
+    Items,
+    Nothing,
+}
+
+/// What a Watch looks at, by its sequence.
+fn watched(sequence: i64) -> Watched
+    ensures { result ≡ watched_by sequence }
+{
     if sequence >= 0 {
-        return note_events(alloc, tree, user, path, sequence as u64, loaded, names);
+        Watched::Above(sequence as u64)
+    } else if sequence == -1 {
+        Watched::Items
+    } else {
+        Watched::Nothing
     }
-    if sequence < -1 {
-        return Ok(());
-    }
-    let items = items_from(alloc, tree, path, &Wanted::Under(path))?;
+}
+
+/// Adds what is needed at the items under a path.
+#[tactic(auto, using(crate::proofs::PlaceLemmas::items_noted))]
+fn note_under(
+    alloc: Global,
+    tree: &MemTree,
+    user: &User,
+    path: &Path,
+    loaded: &Loaded,
+    names: &mut Names,
+) -> Result<(), AllocError>
+    requires { path.now.owner ≡ tree.now.owner }
+    ensures { OnOk result (names.new
+        ≡ with_paths names.old (flat_map (needed_in tree.now.owner loaded.now)
+        (items_where (λ name. is_under name path.now) (tree_of tree.now.log)))) }
+{
+    let items = items_under(alloc, tree, path)?;
     note_each(alloc, tree, user, &items, loaded, names)
 }
 

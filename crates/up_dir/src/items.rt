@@ -1,10 +1,11 @@
 //! The items of a tree that are looked at for a request: a walk down from a path.
 ghost use Rattle.std.specs.Prelude.{◌≡◌, ◌+◌, ◌++◌, ◌∷◌, [], ◌<◌, ◌&&◌, IfOk, OnOk, drop, filter, if◌then◌else◌, is_some, length};
 ghost use Rattle.std.specs.Map.{keys_of};
-ghost use Rattle.up_list.specs.Globs.{matches_front};
+ghost use Rattle.up_list.specs.Globs.{is_candidate, literal_path, matches_front};
+ghost use Rattle.up_names.specs.PathNames.{is_under};
 ghost use Rattle.up_replay.specs.Orders.{with_path};
 ghost use Rattle.up_replay.specs.Trees.{children, node_at, tree_of};
-ghost use Rattle.up_dir.specs.Items.{IsStart, wanted};
+ghost use Rattle.up_dir.specs.Items.{AreOwned, IsStart, wanted};
 ghost use Rattle.up_dir.specs.Walks.{noted};
 
 use std::alloc::{AllocError, Global};
@@ -102,7 +103,7 @@ impl Walk {
 }
 
 /// Looks at the children of a place.
-#[tactic(auto, using(crate::proofs::WalkLemmas::found_next, crate::proofs::WalkLemmas::places_next, crate::proofs::WalkLemmas::kids_all))]
+#[tactic(auto, using(crate::proofs::WalkLemmas::kids_all))]
 fn look_into(
     tree: &MemTree,
     looked_for: &Wanted,
@@ -125,8 +126,40 @@ fn look_into(
     Err(AllocError)
 }
 
+/// The items under a path, itself included, in order of paths.
+pub(crate) fn items_under(
+    alloc: Global,
+    tree: &MemTree,
+    path: &Path,
+) -> Result<OrderedMap<Path, ()>, AllocError>
+    requires { path.now.owner ≡ tree.now.owner }
+    ensures found { IfOk result (λ found. keys_of found.entries
+        ≡ filter (λ name. is_under name path.now) (keys_of (tree_of tree.now.log))) }
+    ensures owned { IfOk result (λ found. AreOwned tree.now.owner (keys_of found.entries)) }
+{
+    let looked_for = Wanted::Under(path);
+    items_from(alloc, tree, path, &looked_for)
+}
+
+/// The items that match the first elements of a pattern, and more of them than its literal front has, in order of paths.
+pub(crate) fn items_matching(
+    alloc: Global,
+    tree: &MemTree,
+    pattern: &Pattern,
+    front: &Path,
+) -> Result<OrderedMap<Path, ()>, AllocError>
+    requires owned { pattern.now.owner ≡ tree.now.owner }
+    requires front { front.now ≡ literal_path pattern.now }
+    ensures found { IfOk result (λ found. keys_of found.entries
+        ≡ filter (is_candidate pattern.now) (keys_of (tree_of tree.now.log))) }
+    ensures owned { IfOk result (λ found. AreOwned tree.now.owner (keys_of found.entries)) }
+{
+    let looked_for = Wanted::Matching(pattern, front.len());
+    items_from(alloc, tree, front, &looked_for)
+}
+
 /// The items that are looked for, in order of paths, by a walk down from a path.
-pub(crate) fn items_from(
+fn items_from(
     alloc: Global,
     tree: &MemTree,
     start: &Path,
@@ -134,8 +167,9 @@ pub(crate) fn items_from(
 ) -> Result<OrderedMap<Path, ()>, AllocError>
     requires start { IsStart looked_for.now start.now }
     requires owned { start.now.owner ≡ tree.now.owner }
-    ensures { IfOk result (λ found. keys_of found.entries
+    ensures found { IfOk result (λ found. keys_of found.entries
         ≡ filter (wanted looked_for.now) (keys_of (tree_of tree.now.log))) }
+    ensures owned { IfOk result (λ found. AreOwned tree.now.owner (keys_of found.entries)) }
 {
     let _records = tree.position();
     let mut walk = begun(alloc, tree, start, looked_for)?;

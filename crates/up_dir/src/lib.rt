@@ -1,6 +1,7 @@
 //! The answer to a request over a tree's log.
 #![tactic(auto)]
 
+mod adding;
 mod deletes;
 mod fetching;
 mod foreign;

@@ -1,5 +1,5 @@
 //! Put: the refusal, or the record that is added.
-ghost use Rattle.std.specs.Prelude.{◌≡◌, IfOk, Some, is_some, length};
+ghost use Rattle.std.specs.Prelude.{◌≡◌, ◌+◌, IfOk, Some, length};
 ghost use Rattle.std.specs.Option.{option_copied};
 ghost use Rattle.up_answers.specs.Puts.{holds, is_in_file, is_new, lacks_parent, place_refusal, put_outcome, sequence_refusal, wanted};
 ghost use Rattle.up_list.specs.Changes.{right_to_put, unless};
@@ -22,7 +22,7 @@ use up_wire::Reply;
 
 /// What a Put by a user leads to: the record that is to be added, or the refusal. Links and rights are tested first, then what stands
 /// at the path and above it, then the text of a control file.
-#[tactic(auto, unfolding(up_answers::specs::Puts::put_outcome), using(crate::proofs::ChangeLemmas::put_fitting))]
+#[tactic(auto, using(crate::proofs::ChangeLemmas::put_fitting))]
 pub fn put_record(
     alloc: Global,
     tree: &MemTree,
@@ -35,7 +35,25 @@ pub fn put_record(
     requires formed { HasFixedForm put.entry }
     ensures outcome { IfOk result (λ outcome. outcome
         ≡ put_outcome (look_in tree.now loaded.now user.now) (length tree.now.log) fetched.now put) }
-    ensures fits { IfOk result (λ outcome. IfOk outcome (Fits tree.now.owner tree.now.log)) }
+    ensures fits { IfOk result (λ led. IfOk led (Fits tree.now.owner tree.now.log)) }
+{
+    let led = put_leads(alloc, tree, loaded, user, fetched, put)?;
+    Ok(led)
+}
+
+/// The same, without that the record fits.
+#[tactic(auto, unfolding(up_answers::specs::Puts::put_outcome))]
+fn put_leads(
+    alloc: Global,
+    tree: &MemTree,
+    loaded: &Loaded,
+    user: &User,
+    fetched: &[(Location, Fetch)],
+    put: Checked,
+) -> Result<Result<Rec, Reply>, AllocError>
+    requires { put.entry.name.owner ≡ tree.now.owner }
+    ensures { IfOk result (λ outcome. outcome
+        ≡ put_outcome (look_in tree.now loaded.now user.now) (length tree.now.log) fetched.now put) }
 {
     let right = right_to_put(tree.node(&put.entry.name));
     let look = TreeLook::new(tree, loaded, user);

@@ -6,4 +6,4 @@ use Rattle.up_dir.proofs.foreign.note_events.Given as goal
 
 -- what is needed at the first positions is noted
 abbrev pub invariant-loop-position : goal.invariant-loop-position
-invariant-loop-position l = l.names ≡ with_paths l.fn.names (flat_map (needed_in l.tree.owner l.loaded) (flat_map (places_at l.tree.log) (take l.position-index l.positions)))
+invariant-loop-position l = l.names ≡ with_paths l.fn.names (flat_map (needed_in l.tree.owner l.loaded) (flat_map (places_at l.tree.log) (take l.position-index l.position-items)))
