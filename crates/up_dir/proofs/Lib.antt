@@ -8,3 +8,4 @@ pub mod TextLemmas
 pub mod FrontLemmas
 pub mod WatchLemmas
 pub mod StepLemmas
+pub mod AskLemmas

@@ -277,7 +277,7 @@ fn note_watched(
         ≡ with_paths names.old (flat_map (needed_in tree.now.owner loaded.now)
         (watch_places (log_over limits tree.now) path.now sequence))) }
 {
-    match watched(sequence) {
+    match looked_at(sequence) {
         Watched::Above(above) => note_events(alloc, tree, user, path, above, loaded, names),
         Watched::Items => note_under(alloc, tree, user, path, loaded, names),
         Watched::Nothing => Ok(()),
@@ -292,7 +292,7 @@ pub(crate) enum Watched {
 }
 
 /// What a Watch looks at, by its sequence.
-fn watched(sequence: i64) -> Watched
+fn looked_at(sequence: i64) -> Watched
     ensures { result ≡ watched_by sequence }
 {
     if sequence >= 0 {

@@ -10,14 +10,14 @@ use Rattle.up_dir.proofs.foreign.note_watched.Goals as goal
 pub returns-in-Above : goal.returns-in-Above
 returns-in-Above c = λ limits.
     subst (λ ps. OnOk c.note_events.result (c.note_events.new.names ≡ with_paths c.args.names.now (flat_map (needed_in c.args.tree.now.owner c.args.loaded.now) ps)))
-    (sym (above_places (log_over limits c.args.tree.now) c.args.path.now c.args.sequence c.in-Above.above (sym c.watched.ensures ∙ c.in-Above.is))) (c.note_events.ensures limits)
+    (sym (above_places (log_over limits c.args.tree.now) c.args.path.now c.args.sequence c.in-Above.above (sym c.looked_at.ensures ∙ c.in-Above.is))) (c.note_events.ensures limits)
 
 pub returns-in-Items : goal.returns-in-Items
 returns-in-Items c = λ limits.
     subst (λ ps. OnOk c.note_under.result (c.note_under.new.names ≡ with_paths c.args.names.now (flat_map (needed_in c.args.tree.now.owner c.args.loaded.now) ps)))
-    (sym (items_places (log_over limits c.args.tree.now) c.args.path.now c.args.sequence (sym c.watched.ensures ∙ c.in-Items.is))) c.note_under.ensures
+    (sym (items_places (log_over limits c.args.tree.now) c.args.path.now c.args.sequence (sym c.looked_at.ensures ∙ c.in-Items.is))) c.note_under.ensures
 
 pub returns-in-Nothing : goal.returns-in-Nothing
 returns-in-Nothing c = λ limits.
     subst (λ ps. c.args.names.now ≡ with_paths c.args.names.now (flat_map (needed_in c.args.tree.now.owner c.args.loaded.now) ps))
-    (sym (no_places (log_over limits c.args.tree.now) c.args.path.now c.args.sequence (sym c.watched.ensures ∙ c.in-Nothing.is))) refl
+    (sym (no_places (log_over limits c.args.tree.now) c.args.path.now c.args.sequence (sym c.looked_at.ensures ∙ c.in-Nothing.is))) refl
