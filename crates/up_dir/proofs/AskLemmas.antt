@@ -29,13 +29,13 @@ module _ {D : Type 0} (disks : Ghosts D) where
   steps_read meant state answered told = steps_told disks (bounded meant) state answered told
 
   module _ (old new : State D) (answered : Reply) (loaded : Loading) (fetched : Fetched) (user : List ℕ) (now : ℕ) where
-    leads : Result Rec Reply → Type 0
+    abbrev pub leads : Result Rec Reply → Type 0
     leads led = Steps disks (answer_of (log_of old) led) (added_by (log_of old) led) old new answered
 
     -- its texts were read
     pub steps_asked : (request : Request) (asked : Asked) → asked_of user request ≡ Ok asked → leads (asked_outcome (log_of old) loaded fetched user asked now) →
         Steps disks (answer (log_of old) loaded fetched user request now) (added (log_of old) loaded fetched user request now) old new answered
-    unfolding answer added outcome leads
+    unfolding answer added outcome
     steps_asked request asked is steps =
         subst (λ (r : Result Asked EntryFault). leads (elim r as (λ _. Result Rec Reply) [ Ok asked ↦ asked_outcome (log_of old) loaded fetched user asked now | Err fault ↦ Err (fault_reply fault) ])) (sym is) steps
 

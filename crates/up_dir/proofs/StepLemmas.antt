@@ -64,10 +64,10 @@ module _ {D : Type 0} (disks : Ghosts D) where
       ∙ ap (λ n. nat_le state.limits.records (length (sizes_of state.log)) || nat_lt state.limits.device (n + size + 37)) (sym (log_bytes state.log))
 
   module _ (rec : Rec) (old new : State D) (fits : nat_lt old.limits.largest (size_of rec) ≡ false) where
-    answer : Bool → Reply
+    abbrev pub answer : Bool → Reply
     answer b = if b then reply.Full (length old.log) else reply.Ok (done.Changed (length old.log + 1))
 
-    added : Bool → List Rec
+    abbrev pub added : Bool → List Rec
     added b = if b then [] else rec ∷ []
 
     -- by whether the log is full
@@ -85,7 +85,7 @@ module _ {D : Type 0} (disks : Ghosts D) where
       failed = λ io. absurd (cc);
       log = applies.added.log;
       untouched = λ unchanged _. absurd (false≢true (sym unchanged));
-      stands = inr (record { rec = rec; result = Ok position; one = refl; applies = applies; reply = refl });
+      stands = inr (record { rec = rec; result = Ok position; one = refl; applies = applies; told = refl });
     })
       where
         room : is_full (log_of old) (size_of rec) ≡ false
@@ -112,7 +112,7 @@ module _ {D : Type 0} (disks : Ghosts D) where
       failed = λ io. inr (refl, applies.cause.rose refl);
       log = applies.added.log ∙ sym (append-nil old.log);
       untouched = λ _ same. absurd (cc);
-      stands = inr (record { rec = rec; result = Err why.Fault; one = refl; applies = applies; reply = refl });
+      stands = inr (record { rec = rec; result = Err why.Fault; one = refl; applies = applies; told = refl });
     })
       where
         room : is_full (log_of old) (size_of rec) ≡ false

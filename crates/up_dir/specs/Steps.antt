@@ -33,7 +33,7 @@ pub record IsApplied {D : Type 0} (disks : Ghosts D) (added : List Rec) (old new
   pub result : Result ℕ AppendWhy
   pub one : added ≡ rec ∷ []
   pub applies : Applies disks rec old new result
-  pub reply : answered ≡ applied_reply result
+  pub told : answered ≡ applied_reply result
 
 -- A request whose answer over the log is known, with the records that it adds, was answered. The reply is the answer; but want of
 -- memory may come at any place, and in the place of a position stands Io where the disk failed. The records are added exactly where
