@@ -8,6 +8,7 @@ mod foreign;
 mod items;
 mod puts;
 mod routes;
+mod step;
 mod texts;
 
 pub use deletes::delete_record;
@@ -15,3 +16,4 @@ pub use fetching::Fetched;
 pub use foreign::foreign_in;
 pub use puts::put_record;
 pub use routes::{Route, route_of};
+pub use step::step;
