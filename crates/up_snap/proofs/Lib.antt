@@ -12,3 +12,4 @@ pub mod ListedLemmas
 pub mod KeptLemmas
 pub mod MadeLemmas
 pub mod LookLemmas
+pub mod OutcomeLemmas

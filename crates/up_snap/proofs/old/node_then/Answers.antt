@@ -8,11 +8,11 @@ pub returns-in-Some : goal.returns-in-Some
 returns-in-Some c =
     let tree = c.args.tree.now in
     c.put_by.ensures ∙ ap put_by c.rec_at.ensures
-    ∙ ap (left tree.log c.args.path.now) c.in-Some.ensures
+    ∙ ap (left tree.log c.args.path.now) (sym c.in-Some.is ∙ c.in_ok-at.ensures)
     ∙ sym (left_is tree.log c.args.path.now c.args.n)
 
 pub returns-in-None : goal.returns-in-None
 returns-in-None c =
     let tree = c.args.tree.now in
-    ap (left tree.log c.args.path.now) c.in-None.ensures
+    ap (left tree.log c.args.path.now) (sym c.in-None.is ∙ c.in_ok-at.ensures)
     ∙ sym (left_is tree.log c.args.path.now c.args.n)
