@@ -1,6 +1,8 @@
 //! Users, paths and items: what a text names. A line stands alone.
 use std::alloc::{AllocError, Global};
-use up_case_lines::{Answer, Fault, Topic, Words, add_item, number_of, path_of, string_of, text_of, user_of};
+use up_case_lines::{
+    Answer, Fault, Topic, Words, add_item, number_of, path_of, string_of, text_of, user_of,
+};
 use up_names::{Item, NameFault, Path, parse_item, parse_path, parse_user};
 
 /// Lines about names. They keep nothing.
