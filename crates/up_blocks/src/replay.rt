@@ -18,7 +18,8 @@ use up_journal::{Journal, OpenWhy};
 fn take(index: &mut Index, payload: &[u8]) -> Result<bool, AllocError>
     ensures taken { result ≡ Ok true → (log : List OneRecord)
         → IsIndex log index.old.records.items index.old.numbers.entries
-        → IsTaken log payload.now index.old.records.items index.new.records.items index.new.numbers.entries }
+        → IsTaken log payload.now
+        index.old.records.items index.new.records.items index.new.numbers.entries }
     ensures not_taken { result ≡ Ok false → (log : List OneRecord)
         → IsIndex log index.old.records.items index.old.numbers.entries
         → log_step decoded fits log payload.now ≡ None }
@@ -40,7 +41,8 @@ fn take(index: &mut Index, payload: &[u8]) -> Result<bool, AllocError>
 /// All records. `Damaged` names the gate of the first one that does not decode or does not fit.
 pub fn replay<D: Disk>(alloc: Global, journal: &mut Journal<D>) -> Result<Index, OpenWhy>
     ensures index { IfOk result (λ index.
-        IsIndex (log_seen journal.old.log index.records.items) index.records.items index.numbers.entries) }
+        IsIndex (log_seen journal.old.log index.records.items)
+        index.records.items index.numbers.entries) }
     ensures fitting { IfOk result (λ index.
         EachFits fits (log_seen journal.old.log index.records.items)) }
     ensures log { IfOk result (λ index. (payloads : List (List ℕ)) → journal.old.log ≡ Some payloads

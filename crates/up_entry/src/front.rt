@@ -61,7 +61,8 @@ impl Front<'_> {
     /// How many bytes the fields have, or 2^64 - 1 where there are more.
     pub(crate) fn size(&self) -> u64
         ensures { let f = self.now in
-            result ≡ size_of (heading f.name.now f.signed_name.now f.packing f.time f.writer.now f.attr) }
+            result ≡ size_of
+            (heading f.name.now f.signed_name.now f.packing f.time f.writer.now f.attr) }
     {
         text_len(self.name)
             .saturating_add(text_len(self.signed_name))

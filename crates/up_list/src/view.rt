@@ -121,7 +121,8 @@ impl<'a> TreeLook<'a> {
     /// A user before a tree.
     pub fn new(tree: &'a MemTree, loaded: &'a Loaded, user: &'a User) -> TreeLook<'a>
         ensures { result
-            ≡ look_of (record { owner = tree.now.owner; records = tree.now.log }) loaded.now user.now }
+            ≡ look_of (record { owner = tree.now.owner; records = tree.now.log })
+            loaded.now user.now }
     {
         TreeLook {
             tree,
@@ -211,7 +212,7 @@ pub(crate) fn standing<'a>(tree: &'a MemTree, path: &Path) -> Result<Option<&'a 
 }
 
 /// The same where nothing stands at the path itself. Items stand at the shorter ones of the prefixes alone, so that the last of
-/// them is found by halving.
+/// them is found by looks at prefixes twice as long each time, and then by halving: as many as it has elements, but for the logarithm.
 fn standing_above<'a>(tree: &'a MemTree, path: &Path) -> Result<Option<&'a Node>, AllocError>
     requires rooted { IsRooted tree.now.owner (tree_of tree.now.log) }
     requires none { node_at (tree_of tree.now.log) path.now ≡ None }
@@ -222,7 +223,7 @@ fn standing_above<'a>(tree: &'a MemTree, path: &Path) -> Result<Option<&'a Node>
     let mut low = 0;
     let mut found = None;
     while low < top.len() {
-        let middle = low + (top.len() - low) / 2;
+        let middle = low + low.min((top.len() - low) / 2);
         let way = shortened(&top, middle)?;
         match tree.node(&way) {
             Some(node) => {
@@ -241,9 +242,7 @@ fn shortened(path: &Path, n: u64) -> Result<Path, AllocError>
     ensures { IfOk result (λ front. front ≡ cut n path.now) }
 {
     let mut front = path.clone()?;
-    for up in n..path.len() {
-        front.drop_last();
-    }
+    front.shorten(n);
     Ok(front)
 }
 

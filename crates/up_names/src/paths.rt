@@ -216,6 +216,16 @@ impl Path {
         true
     }
 
+    /// Keeps the first `n` elements, in place and without memory.
+    pub fn shorten(&mut self, n: u64)
+        requires { n ≤ length self.old.elements }
+        ensures { self.new ≡ cut n self.old }
+    {
+        let front = self.front_len(n as usize);
+        self.text.truncate(front);
+        self.ends.truncate(n as usize);
+    }
+
     /// The path without its last element, or `None` exactly at a root.
     pub fn parent(&self) -> Result<Option<Path>, AllocError>
         ensures { IfOk result (λ parent. parent ≡ parent_of self.now) }

@@ -1,5 +1,5 @@
 -- Access texts that are kept by canonical texts are the list that is seen.
-use Rattle.std.proofs.Common.{◌≡◌, Bool, true, false, cond, ◌&&◌, List, [], ◌∷◌, refl, sym, ap, subst, ◌∙◌, ℕ, ◌<◌, ◌≤◌, length, Global, Some, None, ◌⊎◌, inl, inr}
+use Rattle.std.proofs.Common.{◌≡◌, Option, Bool, true, false, cond, ◌&&◌, List, [], ◌∷◌, refl, sym, ap, subst, ◌∙◌, ℕ, ◌<◌, ◌≤◌, length, Global, Some, None, ◌⊎◌, inl, inr}
 use Rattle.std.specs.List.{list_all}
 use Rattle.std.specs.Map.{lookup}
 use Rattle.std.specs.Str.{bytes_eq}
@@ -17,7 +17,7 @@ use Rattle.up_names.specs.PathParts.{path_in}
 use Rattle.up_names.proofs.PathLaws.{path_in-canonical}
 use Rattle.up_policy.specs.declared.marks.Marks.{Marks}
 use Rattle.up_policy.specs.Marks.{PassStill, may_have}
-use Rattle.up_policy.specs.Directories.{are_canonical, by_path, is_canonical, text_at, passes, all_pass}
+use Rattle.up_policy.specs.Directories.{AccessList, are_canonical, by_path, is_canonical, text_at, passes, all_pass}
 
 -- Two canonical texts are one exactly where their paths are one.
 same_text : (path : PathName) → IsCanonical path → (text : List ℕ) → bytes_eq text (canonical (path_in text)) ≡ true → path_eq path (path_in text) ≡ bytes_eq (canonical path) text
@@ -38,6 +38,12 @@ found_by_text (kept ∷ texts) all path c =
     let both = and_parts (is_canonical kept) (are_canonical texts) all in
     ap (λ same. cond same (Some kept.1) (lookup (λ key. bytes_eq (canonical path) (string_bytes key)) texts)) (sym (same_text path c (string_bytes kept.0) both.0))
     ∙ ap (cond (path_eq path (path_in (string_bytes kept.0))) (Some kept.1)) (found_by_text texts both.1 path c)
+
+-- what is found by a text that is a path's is what is seen at the path
+pub seen_at : (texts : List (String Global × List Rule)) → are_canonical texts ≡ true → (seen : AccessList) → by_path texts ≡ seen → (path : PathName) → IsCanonical path →
+    (text : List ℕ) → text ≡ canonical path → (found : Option (List Rule)) → found ≡ lookup (λ key. bytes_eq text (string_bytes key)) texts → found ≡ text_at seen path
+seen_at texts all seen same path c text is found h =
+    h ∙ (ap (λ t. lookup (λ key. bytes_eq t (string_bytes key)) texts) is ∙ (found_by_text texts all path c ∙ ap (λ s. text_at s path) same))
 
 -- a text that is set by the canonical text of a path is set at the path
 pub set_by_text : (texts : List (String Global × List Rule)) → are_canonical texts ≡ true → (path : PathName) → IsCanonical path → (key : String Global) → string_bytes key ≡ canonical path → (rules : List Rule) →

@@ -90,6 +90,7 @@ impl Directories {
     }
 
     /// The text of the directory of a path's first `len` elements, where it has one.
+    #[tactic(auto, using(crate::proofs::DirectoryLemmas::seen_at))]
     fn at(&self, path: &Path, len: u64) -> Option<&AccessText>
         requires { len ≤ length path.now.elements }
         ensures { option_copied result ≡ text_at self.now (cut len path.now) }

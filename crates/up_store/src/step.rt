@@ -27,7 +27,8 @@ pub fn store_step<D: Disk>(
     request: &Request,
 ) -> Reply
     requires { IsAsked request.now }
-    ensures steps { StoreSteps D.Disk operator.now user.now request.now blocks.old blocks.new result }
+    ensures steps { StoreSteps D.Disk
+        operator.now user.now request.now blocks.old blocks.new result }
     ensures cause { HasCause (D.faults blocks.old.disk) (D.faults blocks.new.disk)
         (result ≡ Reply.Io) }
     ensures grows { OnlyGrows log_of
@@ -79,7 +80,8 @@ fn put<D: Disk>(blocks: &mut Blocks<D>, bytes: &[u8]) -> Reply
 
 // The reply to a Delete, by a user, of the block of a reference text.
 fn delete<D: Disk>(blocks: &mut Blocks<D>, operator: &User, user: &User, text: &[u8]) -> Reply
-    ensures deletes { DeletesAsked D.Disk operator.now user.now text.now blocks.old blocks.new result }
+    ensures deletes { DeletesAsked D.Disk
+        operator.now user.now text.now blocks.old blocks.new result }
     ensures cause { HasCause (D.faults blocks.old.disk) (D.faults blocks.new.disk)
         (result ≡ Reply.Io) }
     ensures grows { OnlyGrows log_of

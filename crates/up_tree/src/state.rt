@@ -115,7 +115,8 @@ impl<D: Disk> TreeState<D> {
         ensures log { IsLog self.now.owner self.now.log }
         ensures limits { AreLimits self.now.limits }
         ensures safe { LeavesNow D.Disk self.now.disk
-            (StandsForLog (records_in self.now.owner self.now.limits.largest) self.now.log self.now.further) }
+            (StandsForLog (records_in self.now.owner self.now.limits.largest)
+            self.now.log self.now.further) }
     {
         let _records = self.journal.len();
         self.tree.position()

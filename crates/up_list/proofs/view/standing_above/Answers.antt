@@ -12,8 +12,9 @@ loop-low-preserved-in-Some-1 c =
     let first = c.len.ensures in
     let test = c.loop-low-test.true in
     let order = c.loop-low.invariant.order in
+    let half = c.min.ensures in
     halves_up c.args.tree.now.owner (tree_of c.args.tree.now.log) c.requires.rooted c.args.path.now c.loop-low.top c.in_ok-way.way c.loop-low.low
-    (c.loop-low.low + (c.len-in-loop-low.result - c.loop-low.low) / 2) (option_copied c.loop-low.found) c.in-Some.node.now c.loop-low.invariant
+    (c.loop-low.low + c.min.result) (option_copied c.loop-low.found) c.in-Some.node.now c.loop-low.invariant
     (omega arith) c.in_ok-way.ensures (sym c.node.ensures ∙ ap option_copied c.in-Some.is)
 
 -- nothing stands there
@@ -23,8 +24,9 @@ loop-low-preserved c =
     let first = c.len.ensures in
     let test = c.loop-low-test.true in
     let order = c.loop-low.invariant.order in
+    let half = c.min.ensures in
     halves_down c.args.tree.now.owner (tree_of c.args.tree.now.log) c.requires.rooted c.args.path.now c.loop-low.top c.in_ok-way.way c.loop-low.low
-    (c.loop-low.low + (c.len-in-loop-low.result - c.loop-low.low) / 2) (option_copied c.loop-low.found) c.loop-low.invariant
+    (c.loop-low.low + c.min.result) (option_copied c.loop-low.found) c.loop-low.invariant
     (omega arith) (omega arith) c.in_ok-way.ensures (sym c.node.ensures ∙ ap option_copied c.in-None.is)
 
 pub returns : goal.returns
