@@ -41,8 +41,8 @@ impl Loaded {
         }
     }
 
-    /// The hash keys that it was made with.
-    pub(crate) fn random(&self) -> RandomState {
+    /// The hash keys that it was made with: what is made for the same call takes them too.
+    pub fn random(&self) -> RandomState {
         *self.answers.hasher()
     }
 
