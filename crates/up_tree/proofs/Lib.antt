@@ -1,3 +1,4 @@
 pub mod Applying
 pub mod Damages
 pub mod Sizes
+pub mod Olds

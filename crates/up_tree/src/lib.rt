@@ -6,8 +6,10 @@
 //! adds it: from then on each crash leaves the log with it, and a crash before that leaves the log, or the log with it.
 #![tactic(auto)]
 
+mod old;
 mod replay;
 mod state;
 
+pub use old::Old;
 pub use state::TreeState;
 pub use up_nodes::Node;

@@ -20,6 +20,7 @@ ghost use Rattle.up_replay.specs.Sizes.{size_of};
 ghost use Rattle.up_replay.specs.Trees.{children, node_at, tree_at, tree_of};
 ghost use Rattle.up_tree.specs.States.{Applies, Opens, Resolves, disk_after, entries_of, fixed_of, records_in};
 
+use crate::old::{Old, old_tree};
 use crate::replay::replay;
 use std::alloc::{AllocError, Global};
 use std::marker::Model;
@@ -238,6 +239,14 @@ impl<D: Disk> TreeState<D> {
         ensures { result ≡ slice_get (keys_of (snapshots_of self.now.log)) i }
     {
         self.tree.snap_time(i)
+    }
+
+    /// The tree as it was after its first `n` records. It costs what entering them costs.
+    pub fn tree_at(&self, n: u64) -> Result<Old, AllocError>
+        requires { n ≤ length self.now.log }
+        ensures { IfOk result (λ old. old ≡ tree_at self.now.log n) }
+    {
+        old_tree(&self.tree, n)
     }
 
     /// Whether a record fits as the next one.
