@@ -14,8 +14,8 @@
 //!
 //! [`first_link`] and [`glob`] are asked of a tree over its log, by the same definitions.
 //!
-//! A [`TreeView`] is the tree of a log as it is or as it was after its first records: what rights are read by (`up_policy`'s
-//! `Facts`). A [`TreeLook`] is an onlooker of the tree as it is, kept in memory.
+//! A [`TreeView`] is a tree over its log, and a [`MemView`] one in memory, as it is or as it was after its first records: what rights
+//! are read by (`up_policy`'s `Facts`). A [`TreeLook`] is an onlooker of the tree in memory as it is.
 #![tactic(auto)]
 
 mod asking;
@@ -26,6 +26,7 @@ mod globs;
 mod onlooker;
 mod reads;
 mod state;
+mod tree_view;
 mod view;
 mod walk;
 
@@ -36,4 +37,5 @@ pub use globs::glob_for;
 pub use onlooker::Onlooker;
 pub use reads::{group_text, lookup, which_access};
 pub use state::{first_link, glob};
-pub use view::{TreeLook, TreeView};
+pub use tree_view::TreeView;
+pub use view::{MemView, TreeLook};

@@ -27,12 +27,12 @@ use up_rights::RightSet;
 
 /// A tree as it was after the first records of its log: what rights are read by. It parses nothing.
 #[derive(Drop)]
-pub struct TreeView<'a> {
+pub struct MemView<'a> {
     tree: &'a MemTree,
     at: u64,
 }
 
-impl<'a> Model for TreeView<'a> {
+impl<'a> Model for MemView<'a> {
     ghost use Rattle.std.specs.Prelude.{◌≤◌, length, take};
     ghost use Rattle.up_list.specs.Seen.{Seen};
 
@@ -46,26 +46,26 @@ impl<'a> Model for TreeView<'a> {
     ghost invariant = { λ view. view.at ≤ length view.tree.now.log };
 }
 
-impl<'a> TreeView<'a> {
+impl<'a> MemView<'a> {
     /// The tree as it is.
     #[tactic(auto, using(crate::proofs::ViewLemmas::seen_whole))]
-    pub fn new(tree: &'a MemTree) -> TreeView<'a>
+    pub fn new(tree: &'a MemTree) -> MemView<'a>
         ensures { result ≡ record { owner = tree.now.owner; records = tree.now.log } }
     {
         let at = tree.position();
-        TreeView { tree, at }
+        MemView { tree, at }
     }
 
     /// The tree as it was after the first `n` records.
-    pub fn at(tree: &'a MemTree, n: u64) -> TreeView<'a>
+    pub fn at(tree: &'a MemTree, n: u64) -> MemView<'a>
         requires { n ≤ length tree.now.log }
         ensures { result ≡ record { owner = tree.now.owner; records = take n tree.now.log } }
     {
-        TreeView { tree, at: n }
+        MemView { tree, at: n }
     }
 }
 
-impl Facts for TreeView<'_> {
+impl Facts for MemView<'_> {
     ghost tree = { λ seen. facts_of seen.owner (tree_of seen.records) };
 
     ghost group_paths = { λ seen. group_paths (tree_of seen.records) };
@@ -97,7 +97,7 @@ impl Facts for TreeView<'_> {
 #[derive(Drop)]
 pub struct TreeLook<'a> {
     tree: &'a MemTree,
-    view: TreeView<'a>,
+    view: MemView<'a>,
     loaded: &'a Loaded,
     user: &'a User,
 }
@@ -126,7 +126,7 @@ impl<'a> TreeLook<'a> {
     {
         TreeLook {
             tree,
-            view: TreeView::new(tree),
+            view: MemView::new(tree),
             loaded,
             user,
         }

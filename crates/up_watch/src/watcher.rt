@@ -5,7 +5,7 @@ ghost use Rattle.up_watch.specs.Watching.{after, now};
 
 use std::alloc::{AllocError, Global};
 use std::marker::Model;
-use up_list::TreeView;
+use up_list::MemView;
 use up_names::{Path, User};
 use up_nodes::MemTree;
 use up_policy::{Loaded, rights_of};
@@ -62,7 +62,7 @@ impl<'a> Watcher<'a> {
     {
         rights_of(
             alloc,
-            &TreeView::new(self.tree),
+            &MemView::new(self.tree),
             self.loaded,
             self.user,
             path,
@@ -84,7 +84,7 @@ impl<'a> Watcher<'a> {
     {
         rights_of(
             alloc,
-            &TreeView::at(self.tree, n),
+            &MemView::at(self.tree, n),
             self.loaded,
             self.user,
             path,
