@@ -18,3 +18,6 @@ pub mod HistoryLemmas
 pub mod ShownLemmas
 pub mod NeedExample
 pub mod SettledLemmas
+pub mod SettledRights
+pub mod SettledReplies
+pub mod SettledLaw

@@ -49,7 +49,7 @@ key_there es q h =
     subst (Contains (keys_of es)) (sym (path_same q found.0 (path_cmp_eq q found.0 ∙ found.2))) found.1
 
 -- the path of each Group file is listed
-groups_listed : (owner : List ℕ) (tree : Tree) → T (is_sorted path_cmp tree) → ListsGroups (facts_of owner tree) (group_paths tree)
+pub groups_listed : (owner : List ℕ) (tree : Tree) → T (is_sorted path_cmp tree) → ListsGroups (facts_of owner tree) (group_paths tree)
 unfolding facts_of group_paths
 groups_listed owner tree sorted path some =
     let make : PathName → Node → Option ⊤ = λ p n. if is_group_file p n then Some tt else None in

@@ -24,7 +24,7 @@ use Rattle.up_answers.proofs.RightLemmas.{held_is, stranger_test, from_any}
 
 -- ---- all paths of a tree are its owner's
 
-owned_by : (owner : List ℕ) (tree : Tree) → IsRooted owner tree → (n : ℕ) (path : PathName) (node : Node) → length path.elements ≡ n → node_at tree path ≡ Some node → path.owner ≡ owner
+pub owned_by : (owner : List ℕ) (tree : Tree) → IsRooted owner tree → (n : ℕ) (path : PathName) (node : Node) → length path.elements ≡ n → node_at tree path ≡ Some node → path.owner ≡ owner
 owned_by owner tree r zero path node size there =
     subst (λ o. MatchOption o (path.owner ≡ owner) (HasDirectory tree)) (parent_none path size) (r.placed path node there)
 owned_by owner tree r (suc n) path node size there =

@@ -12,3 +12,4 @@ pub mod Needs
 pub mod Views
 pub mod Agreement
 pub mod Laws
+pub mod Settled

@@ -1,5 +1,6 @@
 //! Laws of answers. Each function does nothing; its contract is the law.
 ghost use Rattle.up_answers.specs.Laws.{AddedRecordsFit, AnswersAgree, ApartChangesKeepAgreement, ChecksAreAlike, HistoriesAgree, ItemsAreSeen, NeedsMayDiffer, NoRightsBelowLinks, NothingBelowLinks, OtherPathsAreHidden, RequestsKeepAgreement, RightsAreMeant, RightsAreSettled, RowsAreSeen, RowsAreShown, SameRecordsKeepAgreement, SnapshotsArePrivate};
+ghost use Rattle.up_answers.specs.Settled.{RepliesAreSettled};
 
 /// Nothing stands below a link.
 pub fn nothing_stands_below_a_link()
@@ -84,4 +85,9 @@ pub fn needs_may_differ()
 /// Where no group is needed at a path any more, what is loaded besides changes no right on it.
 pub fn rights_are_settled()
     ensures { RightsAreSettled }
+{}
+
+/// Once no group is needed for a request any more, what is loaded besides changes neither its answer nor the record that it adds.
+pub fn replies_are_settled()
+    ensures { RepliesAreSettled }
 {}

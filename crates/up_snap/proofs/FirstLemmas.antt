@@ -25,7 +25,9 @@ use Rattle.up_replay.proofs.Fronts.{take_next}
 use Rattle.up_snap.specs.Firsts.{bearing_at, least_to, sooner}
 use Rattle.up_snap.specs.Shown.{bearing, bears_on, first_to}
 use Rattle.up_snap.specs.declared.shown.Shown.{Shown}
-use Rattle.up_snap.proofs.ShownLemmas.{IsFirst, first_is, has_taken}
+use Rattle.up_snap.specs.Written.{IsRead}
+use Rattle.up_snap.proofs.ShownLemmas.{IsFirst, calendar, first_is, has_taken}
+use Rattle.up_snap.proofs.UnderLemmas.{below_if}
 
 -- ---- the least of some
 
@@ -259,6 +261,35 @@ module _ (owner shower : List ℕ) (records : List Rec) (is : IsLog owner record
           let there = elim (least_from shower records q Moments None s e) as (λ _. IsThere s) [ inl none ↦ absurd (some_none s (sym none)) | inr found ↦ there_at found.0 s found.3 ] in
           let back = first_low shower records q (length records) there.place s.time (slice_get_within records there.place (Snap s.time) there.takes) there.takes there.bears in
           absurd (some_none back.found (sym back.is ∙ f))
+
+  -- ---- a path that tells its moment
+
+  module _ (long : 4 ≤ length q.elements) (found : Option ℕ) (read : IsRead (λ time. time) q found) where
+    read_first : (s : Shown) → first_to shower records q (length records) ≡ Some s → found ≡ Some s.time
+    read_first s h =
+        let first = first_is shower records q (length records) s h in
+        read shower s.time (calendar owner records is q first.place s.time first.takes) (below_if shower s.time q long first.bears)
+
+    pub read_some : (time : ℕ) → found ≡ Some time → sooner None (bearing_at shower records q time) ≡ first_to shower records q (length records)
+    read_some time h = go (bearing_at shower records q time) refl (first_to shower records q (length records)) refl
+      where
+        go : (a : Option Shown) → bearing_at shower records q time ≡ a → (b : Option Shown) → first_to shower records q (length records) ≡ b → a ≡ b
+        go a e (Some s) f =
+            let first = first_is shower records q (length records) s f in
+            let same : time ≡ s.time = some_same time s.time (sym h ∙ read_first s f) in
+            sym e ∙ ap (bearing_at shower records q) same ∙ at_first s first
+        go None e None f = refl
+        go (Some s) e None f =
+            let there = there_at time s e in
+            let back = first_low shower records q (length records) there.place s.time (slice_get_within records there.place (Snap s.time) there.takes) there.takes there.bears in
+            absurd (some_none back.found (sym back.is ∙ f))
+
+    pub read_none : found ≡ None → None ≡ first_to shower records q (length records)
+    read_none h = go (first_to shower records q (length records)) refl
+      where
+        go : (b : Option Shown) → first_to shower records q (length records) ≡ b → ◌≡◌ {A = Option Shown} None b
+        go None f = refl
+        go (Some s) f = absurd (some_none s.time (sym (read_first s f) ∙ h))
 
   -- a moment of a snapshot is one that snapshots may have
   pub moment_in : (i time : ℕ) → slice_get Moments i ≡ Some time → time < 253402207200

@@ -8,3 +8,13 @@ pub mod FirstLemmas
 pub mod PlacedLemmas
 pub mod ShortLemmas
 pub mod StandingLemmas
+pub mod ShowerLemmas
+pub mod OutcomeLemmas
+pub mod AskedLemmas
+pub mod TakerLemmas
+pub mod PutLemmas
+pub mod ReadLemmas
+pub mod ListedLemmas
+pub mod KeptLemmas
+pub mod MadeLemmas
+pub mod LookLemmas

@@ -1,5 +1,5 @@
 -- Paths under the root of a snapshot, and above it.
-use Rattle.std.proofs.Common.{◌≡◌, ℕ, zero, suc, ◌<◌, ◌≤◌, true, List, [], ◌∷◌, ◌++◌, length, take, drop, refl, sym, ap, ◌∙◌, arith, bytes_eq, Decides}
+use Rattle.std.proofs.Common.{◌≡◌, ℕ, zero, suc, ◌<◌, ◌≤◌, Bool, true, false, ◌||◌, List, [], ◌∷◌, ◌++◌, length, take, drop, refl, sym, ap, subst, ◌∙◌, arith, bytes_eq, Decides}
 use lib.Pointwise.{pointwise}
 use Rattle.std.proofs.lemmas.Bool.{and_parts, and_from}
 use Rattle.std.proofs.lemmas.List.{append-nil, length-take-le, take-append-drop}
@@ -100,6 +100,17 @@ root_below shower time = record {
   front = ap (λ n. take n (moment_elements time)) (sym (moment_length time)) ∙ ap (λ (p : PathName). p.elements) (cut_whole (shown_root shower time));
   size = let e = moment_length time in omega (arith, e);
 }
+
+-- a path with so many elements on which a snapshot bears is at or below the root
+pub below_if : (shower : List ℕ) (time : ℕ) (path : PathName) → 4 ≤ length path.elements → (is_under path (shown_root shower time) || is_under (shown_root shower time) path) ≡ true →
+    is_under path (shown_root shower time) ≡ true
+below_if shower time path long bears = go (is_under path (shown_root shower time)) refl bears
+  where
+    go : (b : Bool) → is_under path (shown_root shower time) ≡ b → (b || is_under (shown_root shower time) path) ≡ true → is_under path (shown_root shower time) ≡ true
+    go true e h = e
+    go false e h =
+        let root : path ≡ shown_root shower time = above_whole shower time path h long in
+        below_is shower time path (subst (IsBelow shower time) (sym root) (root_below shower time))
 
 -- a path below two roots shows one moment
 pub one_moment : (shower other : List ℕ) (m n : ℕ) (path : PathName) → m < 253402207200 → n < 253402207200 → IsBelow shower m path → IsBelow other n path → m ≡ n

@@ -1,6 +1,6 @@
 //! What stands at a path of a snapshot tree.
 ghost use Rattle.std.specs.Prelude.{◌≡◌, ◌<◌, ◌≤◌, ◌||◌, Some, length, option_map, IfOk, IfSome};
-ghost use Rattle.up_list.specs.Entries.{entry_at};
+ghost use Rattle.up_list.specs.Entries.{entry_at, entry_of};
 ghost use Rattle.up_list.specs.Founds.{entry_found};
 ghost use Rattle.up_list.specs.Reads.{file_text};
 ghost use Rattle.up_replay.specs.Fits.{snapshot_user};
@@ -15,6 +15,7 @@ ghost use Rattle.up_snap.specs.Standing.{standing_node};
 use crate::moments::root_at;
 use crate::old::{OldNode, node_then, old_path};
 use crate::shown::Shown;
+use crate::written::moment_of;
 use std::alloc::{AllocError, Global};
 use std::mem;
 use up_bytes::Bytes;
@@ -32,17 +33,34 @@ pub(crate) enum Standing<'a> {
 }
 
 /// The one of two snapshots that was taken first.
-pub(crate) fn sooner(first: Option<Shown>, other: Shown) -> Option<Shown>
-    ensures { result ≡ sooner first (Some other) }
+pub(crate) fn earlier(first: Option<Shown>, other: Shown) -> Shown
+    ensures { Some result ≡ sooner first (Some other) }
 {
     match first {
-        Some(known) if known.position <= other.position => Some(known),
-        _ => Some(other),
+        Some(known) if known.position <= other.position => known,
+        _ => other,
     }
 }
 
 /// The first of the snapshots that bear on a path.
 pub(crate) fn first_to(
+    alloc: Global,
+    tree: &MemTree,
+    shower: &User,
+    path: &Path,
+) -> Result<Option<Shown>, AllocError>
+    ensures { IfOk result (λ first. first
+        ≡ first_to shower.now tree.now.log path.now (length tree.now.log)) }
+{
+    if path.len() < 4 {
+        first_above(alloc, tree, shower, path)
+    } else {
+        first_below(alloc, tree, shower, path)
+    }
+}
+
+/// The same, found among all moments.
+fn first_above(
     alloc: Global,
     tree: &MemTree,
     shower: &User,
@@ -61,6 +79,24 @@ pub(crate) fn first_to(
     }
     // No log has so many records.
     Err(AllocError)
+}
+
+/// The same, of a path that has as many elements as the root of a snapshot, or more: the moment is read off the path.
+fn first_below(
+    alloc: Global,
+    tree: &MemTree,
+    shower: &User,
+    path: &Path,
+) -> Result<Option<Shown>, AllocError>
+    requires { 4 ≤ length path.now.elements }
+    ensures { IfOk result (λ first. first
+        ≡ first_to shower.now tree.now.log path.now (length tree.now.log)) }
+{
+    let _records = tree.position();
+    match moment_of(path) {
+        Some(time) => sooner_to(alloc, tree, shower, path, time, None),
+        None => Ok(None),
+    }
 }
 
 /// Whether a path is at or below the root of a snapshot, or above it.
@@ -88,7 +124,7 @@ fn sooner_to(
         return Ok(first);
     }
     match tree.snap_at(time) {
-        Some(position) => Ok(sooner(first, Shown { position, time })),
+        Some(position) => Ok(Some(earlier(first, Shown { position, time }))),
         None => Ok(first),
     }
 }
@@ -149,6 +185,24 @@ pub fn item_at<'a>(
         ≡ entry_at (snapshots_to tree.now.owner tree.now.log (length tree.now.log)) path.now) }
 {
     match standing_at(alloc, tree, shower, path)? {
+        Some(found) => Ok(Some(Found::Made(found.entry(alloc, tree.owner(), path)?))),
+        None => Ok(None),
+    }
+}
+
+/// The item at a path, by the first snapshot that bears on it.
+pub(crate) fn item_by<'a>(
+    alloc: Global,
+    tree: &MemTree,
+    path: &Path,
+    shown: Shown,
+) -> Result<Option<Found<'a>>, AllocError>
+    requires calendar { IsMoment shown.time }
+    requires position { 1 ≤ shown.position }
+    ensures { IfOk result (λ found. option_map entry_found found
+        ≡ option_map entry_of (shown_node tree.now.owner tree.now.log path.now shown)) }
+{
+    match standing_by(alloc, tree, path, shown)? {
         Some(found) => Ok(Some(Found::Made(found.entry(alloc, tree.owner(), path)?))),
         None => Ok(None),
     }

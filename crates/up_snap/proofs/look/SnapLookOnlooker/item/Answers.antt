@@ -1,0 +1,18 @@
+use Rattle.std.proofs.Common.{◌≡◌, subst}
+use Rattle.std.specs.Prelude.{IfOk, option_map}
+use Rattle.up_list.specs.Entries.{entry_at}
+use Rattle.up_list.specs.Founds.{entry_found}
+use Rattle.up_list.specs.Looks.{Look}
+use Rattle.up_list.specs.Rooted.{IsRooted}
+use Rattle.up_snap.proofs.PlacedLemmas.{shown_rooted}
+use Rattle.up_snap.proofs.look.SnapLookOnlooker.item.Goals as goal
+
+pub item_at-requires : goal.item_at-requires
+item_at-requires c = c.self.invariant.named
+
+pub returns-clause-rooted : goal.returns-clause-rooted
+returns-clause-rooted c =
+    subst (λ (l : Look). IsRooted l.owner l.tree) c.self.view_is (shown_rooted c.self.inside.tree.now.owner c.self.inside.tree.now.log c.position-records.ensures.log)
+
+pub returns-clause-found : goal.returns-clause-found
+returns-clause-found c = subst (λ (l : Look). IfOk c.item_at.result (λ found. option_map entry_found found ≡ entry_at l.tree c.args.path.now)) c.self.view_is c.item_at.ensures

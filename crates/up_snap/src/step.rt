@@ -1,0 +1,105 @@
+//! A request on a snapshot tree, and what comes of it.
+ghost use Rattle.std.specs.Prelude.{◌≡◌, ◌<◌, IfOk, Ok};
+ghost use Rattle.up_adding.specs.Steps.{Steps};
+ghost use Rattle.up_answers.specs.Answers.{added, answer, fault_reply};
+ghost use Rattle.up_answers.specs.Fetching.{Fetched};
+ghost use Rattle.up_answers.specs.SnapshotReplies.{snapshot_outcome};
+ghost use Rattle.up_ends.specs.Growing.{OnlyGrows};
+ghost use Rattle.up_journal.specs.declared.limits.Limits.{Limits};
+ghost use Rattle.up_list.specs.Asking.{asked_of, owner_asked};
+ghost use Rattle.up_list.specs.Changes.{added_by, answer_of};
+ghost use Rattle.up_list.specs.declared.asking.Asked.{Asked};
+ghost use Rattle.up_policy.specs.Loadings.{Loading};
+ghost use Rattle.up_replay.specs.Fits.{Fits};
+ghost use Rattle.up_snap.specs.Firsts.{IsMoment};
+ghost use Rattle.up_snap.specs.Looked.{IsShower};
+ghost use Rattle.up_snap.specs.Outcomes.{IsOfSnapshots, log_with};
+ghost use Rattle.up_tree.specs.States.{entries_of, fixed_of, log_of};
+
+use crate::look::SnapLook;
+use crate::outcome::{Led, outcome_for};
+use std::alloc::{AllocError, Global};
+use up_adding::change;
+use up_disk::Disk;
+use up_entry::EntryFault;
+use up_list::{Asked, asked_of};
+use up_names::User;
+use up_nodes::MemTree;
+use up_tree::TreeState;
+use up_wire::{Reply, Request};
+
+/// What a tree answers to a user's request on its snapshot tree, at a moment in seconds since 1970; a snapshot is added exactly where
+/// the reply is its position. Nothing is loaded or fetched for it. `Io` stands, in the place of a position, for the tree's disk;
+/// `OutOfMemory` may come at any place. After each refusal the tree is as before.
+pub fn snap_step<D: Disk>(
+    alloc: Global,
+    state: &mut TreeState<D>,
+    user: &User,
+    request: &Request,
+    now: u64,
+) -> Reply
+    requires moment { now < 253402207200 }
+    requires place { (asked : Asked) → asked_of user.now request.now ≡ Ok asked
+        → IsOfSnapshots state.old.owner (owner_asked asked) }
+    ensures steps { (loaded : Loading) (fetched : Fetched) → Steps D.Disk
+        (answer (log_of state.old) loaded fetched user.now request.now now)
+        (added (log_of state.old) loaded fetched user.now request.now now)
+        state.old state.new result }
+    ensures grows { OnlyGrows entries_of (λ state. D.faults state.disk) fixed_of state.old state.new }
+{
+    match asked_of(alloc, user, request) {
+        Ok(asked) => snap_asked(alloc, state, user, asked, now),
+        Err(fault) => refused(fault),
+    }
+}
+
+/// The reply to a request of which something is malformed.
+fn refused(fault: EntryFault) -> Reply
+    ensures { result ≡ fault_reply fault }
+{
+    match fault {
+        EntryFault::Invalid(what) => Reply::Invalid(what),
+        EntryFault::OutOfMemory => Reply::OutOfMemory,
+    }
+}
+
+/// The same, once the request's texts were read.
+pub fn snap_asked<D: Disk>(
+    alloc: Global,
+    state: &mut TreeState<D>,
+    user: &User,
+    asked: Asked,
+    now: u64,
+) -> Reply
+    requires moment { now < 253402207200 }
+    requires place { IsOfSnapshots state.old.owner (owner_asked asked) }
+    ensures steps { Steps D.Disk
+        (answer_of (log_of state.old) (snapshot_outcome (log_of state.old) user.now asked now))
+        (added_by (log_of state.old) (snapshot_outcome (log_of state.old) user.now asked now))
+        state.old state.new result }
+    ensures grows { OnlyGrows entries_of (λ state. D.faults state.disk) fixed_of state.old state.new }
+{
+    let led = asked_in_memory(alloc, state.memory(), user, &asked, now);
+    change(state, led)
+}
+
+/// What a user's request on the snapshot tree of a log in memory leads to.
+#[tactic(auto, using(crate::proofs::ShowerLemmas::is_shower))]
+fn asked_in_memory(
+    alloc: Global,
+    tree: &MemTree,
+    user: &User,
+    asked: &Asked,
+    now: u64,
+) -> Result<Led, AllocError>
+    requires moment { IsMoment now }
+    requires place { IsOfSnapshots tree.now.owner (owner_asked asked.now) }
+    ensures led { (limits : Limits) → IfOk result (λ led. led
+        ≡ snapshot_outcome (log_with tree.now.owner limits tree.now.log) user.now asked.now now) }
+    ensures fits { IfOk result (λ led. IfOk led (Fits tree.now.owner tree.now.log)) }
+{
+    let shower = asked.owner();
+    let _text = shower.text();
+    let look = SnapLook::new(tree, shower, user);
+    outcome_for(alloc, tree, &look, asked, now)
+}
