@@ -4,9 +4,11 @@
 #![tactic(auto)]
 
 mod globs;
+mod steps;
 mod tree;
 mod watches;
 
 pub use globs::Globs;
+pub use steps::Steps;
 pub use tree::Trees;
 pub use watches::Watches;

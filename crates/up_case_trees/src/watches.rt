@@ -113,8 +113,13 @@ fn path_in(alloc: Global, owner: &User, word: &str) -> Result<Path, Fault>
     Ok(path)
 }
 
-// Adds the lines of a reply, or the first of them.
-fn add_lines(alloc: Global, reply: &Reply, whole: bool, answer: &mut Answer) -> Result<(), Fault> {
+/// Adds the lines of a reply, or the first of them.
+pub(crate) fn add_lines(
+    alloc: Global,
+    reply: &Reply,
+    whole: bool,
+    answer: &mut Answer,
+) -> Result<(), Fault> {
     let lines = reply_lines(alloc, reply)?;
     for line in lines.as_slice() {
         if whole || answer.is_empty() {
@@ -125,8 +130,12 @@ fn add_lines(alloc: Global, reply: &Reply, whole: bool, answer: &mut Answer) -> 
     Ok(())
 }
 
-// `load PATH TEXT`: the text of a group is loaded, in place of what was; `load PATH`: it has none.
-fn load_line(alloc: Global, loaded: &mut Loaded, mut words: Words<'_>) -> Result<(), Fault> {
+/// `load PATH TEXT`: the text of a group is loaded, in place of what was; `load PATH`: it has none.
+pub(crate) fn load_line(
+    alloc: Global,
+    loaded: &mut Loaded,
+    mut words: Words<'_>,
+) -> Result<(), Fault> {
     let name = path_of(alloc, words.word()?)?;
     let answer = match words.rest() {
         Some(word) => group_of(alloc, &name, word)?,

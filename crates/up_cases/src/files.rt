@@ -10,7 +10,7 @@ use up_case_texts::{
     Ends, Messages, Names, Patterns, PeerLines, References, Replies, Requests, Rights, Signing,
     Streams, Texts,
 };
-use up_case_trees::{Globs, Trees, Watches};
+use up_case_trees::{Globs, Steps, Trees, Watches};
 
 /// Runs each file of a folder, in order of their names.
 pub fn run_all<R: Files + RandomSource + AllocGlobal + Print + Clone + Drop>(
@@ -72,6 +72,7 @@ fn run_file<R: Files + RandomSource + AllocGlobal + Print>(
         "records" => run_lines(rt, file, Records::new(), tally),
         "scripts" => run_scripts(rt, file, RandomState::new(rt)?, tally),
         "globs" => run_lines(rt, file, Globs::new(RandomState::new(rt)?), tally),
+        "steps" => run_lines(rt, file, Steps::new(RandomState::new(rt)?), tally),
         "rights" => run_lines(rt, file, Rights::new(RandomState::new(rt)?), tally),
         "watches" => run_lines(rt, file, Watches::new(RandomState::new(rt)?), tally),
         _ => {

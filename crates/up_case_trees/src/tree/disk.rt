@@ -92,9 +92,20 @@ fn open(alloc: Global, disk: MemDisk, owner: User, limits: Limits, answer: &mut 
 
 /// A tree of this owner over an empty disk, with limits that no case comes to.
 pub fn empty_tree(alloc: Global, owner: &str) -> Result<TreeState<MemDisk>, Fault> {
+    new_tree(alloc, owner, WIDE, Items::new(alloc))
+}
+
+/// A tree of this owner over an empty disk, of which the calls with these numbers fail, with these limits.
+pub fn new_tree(
+    alloc: Global,
+    owner: &str,
+    limits: Limits,
+    fails: Items<u64>,
+) -> Result<TreeState<MemDisk>, Fault>
+    requires { AreLimits limits }
+{
     let owner = owner_of(alloc, owner)?;
-    let disk = MemDisk::new(alloc, Items::new(alloc));
-    match TreeState::open(alloc, disk, owner, WIDE) {
+    match TreeState::open(alloc, MemDisk::new(alloc, fails), owner, limits) {
         Ok(tree) => Ok(tree),
         Err(fault) => {
             drop(fault);

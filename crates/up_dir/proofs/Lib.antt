@@ -1,0 +1,4 @@
+pub mod AskLemmas
+pub mod CrashLemmas
+pub mod FormLemmas
+pub mod ReadLemmas
