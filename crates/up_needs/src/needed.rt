@@ -23,7 +23,7 @@ use crate::noted::{Noted, Times};
 use std::alloc::{AllocError, Global};
 use up_disk::Disk;
 use up_entry::{EntryFault, Rec};
-use up_list::{Asked, TreeView, asked_of};
+use up_list::{Asked, MemView, asked_of};
 use up_maps::OrderedMap;
 use up_names::{Control, Path, User};
 use up_nodes::MemTree;
@@ -164,7 +164,7 @@ fn note_now(
         ≡ with_paths names.old (needed_in tree.now.owner loaded.now
         (tree_of tree.now.log, path.now))) }
 {
-    needs(alloc, &TreeView::new(tree), loaded, user, path, names)
+    needs(alloc, &MemView::new(tree), loaded, user, path, names)
 }
 
 /// Adds what was needed at a path, as the tree was after its first `n` records.
@@ -184,7 +184,7 @@ pub(crate) fn note_then(
         ≡ with_paths names.old (needed_in tree.now.owner loaded.now
         (tree_at tree.now.log n, path.now))) }
 {
-    needs(alloc, &TreeView::at(tree, n), loaded, user, path, names)
+    needs(alloc, &MemView::at(tree, n), loaded, user, path, names)
 }
 
 /// Adds what is needed at a path that is ordinary; at any other nothing is.
