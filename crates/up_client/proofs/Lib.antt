@@ -1,0 +1,11 @@
+mod Behind
+mod Exits
+mod Fetching
+mod Files
+mod Following
+mod Holding
+mod Pieces
+mod Steps
+mod Storing
+mod Tabling
+mod Same
