@@ -1,0 +1,83 @@
+//! What was fetched of the blocks of a control file.
+ghost use Rattle.std.specs.Prelude.{◌≡◌, ◌==◌, ◌&&◌, length};
+ghost use Rattle.std.specs.Str.{bytes_eq};
+ghost use Rattle.sha2.specs.Sha256.{sha256};
+ghost use Rattle.std.specs.List.{list_any};
+ghost use Rattle.std.specs.Option.{option_copied};
+ghost use Rattle.up_answers.specs.Fetching.{endpoint_eq, fetch_for, good_bytes, is_failed, location_eq};
+
+use up_bytes::Bytes;
+use up_entry::{Block, Endpoint, Fetch, Location};
+use up_lists::Items;
+use up_refs::Reference;
+
+/// What was fetched: locations of blocks, each with the answer.
+pub type Fetched = Items<(Location, Fetch)>;
+
+/// Whether a location is among these.
+pub(crate) fn has_location(locations: &[Location], location: &Location) -> bool
+    ensures { result ≡ list_any (location_eq location.now) locations.now }
+{
+    for other in locations {
+        if same_location(location, other) {
+            return true;
+        }
+    }
+    false
+}
+
+/// Whether two locations are the same.
+pub(crate) fn same_location(one: &Location, two: &Location) -> bool
+    ensures { result ≡ location_eq one.now two.now }
+{
+    one.reference == two.reference && same_endpoint(&one.endpoint, &two.endpoint)
+}
+
+fn same_endpoint(one: &Endpoint, two: &Endpoint) -> bool
+    ensures { result ≡ endpoint_eq one.now two.now }
+{
+    match (one, two) {
+        (Endpoint::Local, Endpoint::Local) => true,
+        (Endpoint::Address(here), Endpoint::Address(there)) => here.as_slice() == there.as_slice(),
+        (Endpoint::Local, Endpoint::Address(_)) | (Endpoint::Address(_), Endpoint::Local) => false,
+    }
+}
+
+/// The answer for a block: that of its location.
+pub(crate) fn fetch_for<'a>(fetched: &'a [(Location, Fetch)], block: &Block) -> Option<&'a Fetch>
+    ensures { option_copied result ≡ fetch_for fetched.now block.now }
+{
+    for pair in fetched {
+        if same_location(&block.location, &pair.0) {
+            return Some(&pair.1);
+        }
+    }
+    None
+}
+
+/// Whether the fetch of a block failed.
+pub(crate) fn is_failed(fetch: Option<&Fetch>) -> bool
+    ensures { result ≡ is_failed (option_copied fetch.entry) }
+{
+    match fetch {
+        Some(Fetch::Failed) => true,
+        Some(Fetch::Got(_)) | Some(Fetch::Missing) | None => false,
+    }
+}
+
+/// The bytes that were fetched for a block, where they have its size and its reference.
+pub(crate) fn good_bytes<'a>(block: &Block, fetch: Option<&'a Fetch>) -> Option<&'a Bytes>
+    ensures { option_copied result ≡ good_bytes block.now (option_copied fetch.entry) }
+{
+    match fetch {
+        Some(Fetch::Got(bytes)) if is_block(block, bytes.as_slice()) => Some(bytes),
+        _ => None,
+    }
+}
+
+/// Whether bytes have a block's size and its reference.
+fn is_block(block: &Block, bytes: &[u8]) -> bool
+    ensures { result ≡ (length bytes.now == block.now.size && bytes_eq (sha256 bytes.now) block.now.location.reference) }
+{
+    bytes.len() as u64 == block.size && Reference::of(bytes) == block.location.reference
+}

@@ -1,0 +1,3 @@
+pub mod AskLemmas
+pub mod FormLemmas
+pub mod StepLemmas
