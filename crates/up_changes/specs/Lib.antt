@@ -1,3 +1,1 @@
 pub mod Routes
-pub mod Texts
-pub mod Trees

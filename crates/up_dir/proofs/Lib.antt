@@ -1,3 +1,1 @@
-pub mod AskLemmas
-pub mod FormLemmas
 pub mod StepLemmas

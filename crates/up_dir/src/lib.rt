@@ -1,7 +1,6 @@
-//! The answer to a request over a tree's log, as one step of a tree.
+//! A stand-in.
 #![tactic(auto)]
 
-mod adding;
 mod step;
 
 pub use step::step;

@@ -1,7 +1,6 @@
-//! Which groups of other owners have to be loaded for a request.
+//! A stand-in.
 #![tactic(auto)]
 
 mod foreign;
-mod items;
 
-pub use foreign::{foreign, foreign_in};
+pub use foreign::foreign;
