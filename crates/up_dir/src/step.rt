@@ -5,7 +5,6 @@ ghost use Rattle.up_ends.specs.Growing.{OnlyGrows};
 ghost use Rattle.up_tree.specs.States.{entries_of, fixed_of, log_of};
 ghost use Rattle.up_dir.specs.Steps.{Steps};
 
-use crate::adding::{change, replied, told};
 use std::alloc::Global;
 use up_changes::Fetched;
 use up_disk::Disk;
