@@ -1,0 +1,186 @@
+//! One request, and what comes of it.
+ghost use Rattle.std.specs.Prelude.{◌≡◌};
+
+use crate::event::Event;
+use crate::fetching::fetch_all;
+use crate::held::Held;
+use crate::host::Host;
+use crate::loading::{Texts, place_of};
+use crate::service::{Service, service_of};
+use std::alloc::{AllocError, Global};
+use std::hash::RandomState;
+use up_changes::{Fetched, Route, route_of};
+use up_dir::step;
+use up_disk::Disk;
+use up_entry::Location;
+use up_keys::key_step;
+use up_lists::Items;
+use up_names::User;
+use up_peer::Loader;
+use up_policy::Loaded;
+use up_sign::Session;
+use up_store::store_step;
+use up_tree::TreeState;
+use up_wire::{Reply, Request};
+
+impl<D: Disk> Host<D> {
+    /// Answers a user's request, at a moment in seconds since 1970.
+    pub fn ask<L: Loader>(
+        &mut self,
+        alloc: Global,
+        loader: &mut L,
+        session: &Session,
+        request: &Request,
+        now: u64,
+    ) -> Event
+    {
+        match service_of(request) {
+            Service::Directory => self.ask_tree(alloc, loader, session.user(), request, now),
+            Service::Store => self.ask_store(alloc, session.user(), request, now),
+            Service::Keys => self.ask_keys(alloc, session.user(), request, now),
+        }
+    }
+
+    // A request to a tree.
+    fn ask_tree<L: Loader>(
+        &mut self,
+        alloc: Global,
+        loader: &mut L,
+        user: &User,
+        request: &Request,
+        now: u64,
+    ) -> Event
+    {
+        let (place, locations) = match self.place_asked(alloc, user, request) {
+            Ok(there) => there,
+            Err(refusal) => return bare(alloc, self.random, refusal, now),
+        };
+        match self.make_ready(alloc, loader, place, locations, user, request) {
+            Ok((fetched, loaded)) => {
+                self.answer(alloc, place, user, request, fetched, loaded, now)
+            }
+            Err(_) => bare(alloc, self.random, Reply::OutOfMemory, now),
+        }
+    }
+
+    // The place of the tree that a request goes to, and the blocks that have to be fetched for it; or the reply for which no tree is
+    // looked at.
+    fn place_asked(
+        &self,
+        alloc: Global,
+        user: &User,
+        request: &Request,
+    ) -> Result<(usize, Items<Location>), Reply>
+    {
+        match route_of(alloc, user, request) {
+            Ok(Route::Refused(refusal)) => Err(refusal),
+            Ok(Route::Tree(owner, locations)) => match place_of(&self.trees, &owner) {
+                Some(place) => Ok((place, locations)),
+                None => Err(Reply::WrongHost),
+            },
+            Err(_) => Err(Reply::OutOfMemory),
+        }
+    }
+
+    // Fetches the blocks, and loads the groups.
+    fn make_ready<L: Loader>(
+        &mut self,
+        alloc: Global,
+        loader: &mut L,
+        place: usize,
+        locations: Items<Location>,
+        user: &User,
+        request: &Request,
+    ) -> Result<(Fetched, Loaded), AllocError>
+    {
+        let fetched = fetch_all(alloc, &mut self.store.state, loader, locations)?;
+        let loaded = self.load_for(alloc, loader, place, user, request)?;
+        Ok((fetched, loaded))
+    }
+
+    // Loads the groups for a request to the tree at a place.
+    fn load_for<L: Loader>(
+        &self,
+        alloc: Global,
+        loader: &mut L,
+        place: usize,
+        user: &User,
+        request: &Request,
+    ) -> Result<Loaded, AllocError>
+    {
+        let texts = Texts {
+            trees: &self.trees,
+            operator: &self.operator,
+            random: self.random,
+        };
+        texts.load_all(alloc, loader, &self.trees[place].state, user, request)
+    }
+
+    // The answer of the tree at a place.
+    fn answer(
+        &mut self,
+        alloc: Global,
+        place: usize,
+        user: &User,
+        request: &Request,
+        fetched: Fetched,
+        loaded: Loaded,
+        now: u64,
+    ) -> Event
+    {
+        let held = &mut self.trees[place];
+        let position = held.state.position();
+        let reply = step(alloc, &mut held.state, user, request, &loaded, &fetched, now);
+        Event {
+            reply,
+            position,
+            loaded,
+            fetched,
+            moment: now,
+        }
+    }
+
+    // A request to the store.
+    fn ask_store(&mut self, alloc: Global, user: &User, request: &Request, now: u64) -> Event
+    {
+        let position = self.store.state.position();
+        let reply = store_step(&mut self.store.state, &self.operator, user, request);
+        answered(alloc, self.random, reply, position, now)
+    }
+
+    // A request to the keys.
+    fn ask_keys(&mut self, alloc: Global, user: &User, request: &Request, now: u64) -> Event
+    {
+        let position = self.keys.state.position();
+        let reply = key_step(&mut self.keys.state, user, request);
+        answered(alloc, self.random, reply, position, now)
+    }
+}
+
+// An event with nothing loaded or fetched, for which no log was looked at.
+fn bare(alloc: Global, random: RandomState, reply: Reply, now: u64) -> Event
+    ensures { result ≡ record { reply = reply; position = 0; loaded = []; fetched = []; moment = now } }
+{
+    event_at(alloc, random, reply, 0, now)
+}
+
+// An event of the store or the keys: a malformed request is answered without a look at the log.
+fn answered(alloc: Global, random: RandomState, reply: Reply, position: u64, now: u64) -> Event
+{
+    match reply {
+        Reply::Invalid(what) => event_at(alloc, random, Reply::Invalid(what), 0, now),
+        reply => event_at(alloc, random, reply, position, now),
+    }
+}
+
+fn event_at(alloc: Global, random: RandomState, reply: Reply, position: u64, now: u64) -> Event
+    ensures { result ≡ record { reply = reply; position = position; loaded = []; fetched = []; moment = now } }
+{
+    Event {
+        reply,
+        position,
+        loaded: Loaded::new(alloc, random),
+        fetched: Items::new(alloc),
+        moment: now,
+    }
+}

@@ -1,0 +1,164 @@
+//! The group texts that are loaded for a request.
+ghost use Rattle.std.specs.Prelude.{◌≡◌, ◌≢◌, ◌<◌, ◌≤◌, [], length, IfOk, OnOk};
+ghost use Rattle.std.specs.Result.{result_ok};
+ghost use Rattle.up_answers.specs.Needs.{needs};
+ghost use Rattle.up_host.specs.Loads.{group_text_answer, load_of};
+ghost use Rattle.up_host.specs.Rounds.{Gathers, IsWhole, LoadsName, Tried, bound};
+ghost use Rattle.up_host.specs.Alone.{tree_for};
+ghost use Rattle.up_tree.specs.States.{log_of};
+
+use crate::held::Held;
+use std::alloc::{AllocError, Global};
+use std::hash::RandomState;
+use up_disk::Disk;
+use up_entry::What;
+use up_group::parse_group;
+use up_dir::foreign;
+use up_list::{TreeLook, group_text};
+use up_names::{Control, Path, TextFault, User};
+use up_peer::Loader;
+use up_policy::{LoadAnswer, Loaded, Names};
+use up_tree::TreeState;
+use up_wire::{Done, Reply, Request, bounded};
+
+/// The most names that one call loads.
+const BOUND: u64 = 1024;
+
+/// What one call loads with: the host's trees and its operator.
+pub(crate) struct Texts<'a, D: Disk> {
+    pub(crate) trees: &'a [Held<TreeState<D>>],
+    pub(crate) operator: &'a User,
+    pub(crate) random: RandomState,
+}
+
+impl<'a, D: Disk> Texts<'a, D> {
+    /// Loads in rounds, until nothing is missing or the bound is reached.
+    pub(crate) fn load_all<L: Loader>(
+        &self,
+        alloc: Global,
+        loader: &mut L,
+        state: &TreeState<D>,
+        user: &User,
+        request: &Request,
+    ) -> Result<Loaded, AllocError>
+    {
+        let mut loaded = Loaded::new(alloc, self.random);
+        loop {
+            let missing = foreign(alloc, state, user, request, &loaded)?;
+            if missing.len() == 0 || loaded.len() == BOUND {
+                return Ok(loaded);
+            }
+            self.load_round(alloc, loader, &missing, &mut loaded)?;
+        }
+    }
+
+    // Loads all that is missing, in order, up to the bound.
+    fn load_round<L: Loader>(
+        &self,
+        alloc: Global,
+        loader: &mut L,
+        missing: &Names,
+        loaded: &mut Loaded,
+    ) -> Result<(), AllocError>
+    {
+        for i in 0..missing.len() {
+            let Some(name) = missing.get(i) else {
+                return Ok(());
+            };
+            if loaded.len() == BOUND {
+                return Ok(());
+            }
+            self.load_new(alloc, loader, name, loaded)?;
+        }
+        Ok(())
+    }
+
+    // Loads a name that was not loaded.
+    fn load_new<L: Loader>(
+        &self,
+        alloc: Global,
+        loader: &mut L,
+        name: &Path,
+        loaded: &mut Loaded,
+    ) -> Result<(), AllocError>
+    {
+        let answer = self.load_one(alloc, loader, name)?;
+        loaded.add(name.clone()?, answer)
+    }
+
+    // Loads one name: from the host's own tree of its owner, or else by the loader.
+    fn load_one<L: Loader>(
+        &self,
+        alloc: Global,
+        loader: &mut L,
+        name: &Path,
+    ) -> Result<LoadAnswer, AllocError>
+    {
+        match tree_of(self.trees, name.owner()) {
+            Some(held) => {
+                let reply = group_text_of(alloc, self.random, &held.state, self.operator, name);
+                loaded(name.owner(), reply)
+            }
+            None => loader.load(alloc, self.operator, name),
+        }
+    }
+}
+
+/// The tree of an owner.
+pub(crate) fn tree_of<'a, D: Disk>(
+    trees: &'a [Held<TreeState<D>>],
+    owner: &User,
+) -> Option<&'a Held<TreeState<D>>>
+{
+    trees.iter().find(|held| held.state.owner() == owner)
+}
+
+/// The place of the tree of an owner.
+pub(crate) fn place_of<D: Disk>(trees: &[Held<TreeState<D>>], owner: &User) -> Option<usize>
+{
+    trees.iter().position(|held| held.state.owner() == owner)
+}
+
+/// What a tree answers a user who asks for the text of a group of its owner, with nothing loaded.
+pub(crate) fn group_text_of<D: Disk>(
+    alloc: Global,
+    random: RandomState,
+    state: &TreeState<D>,
+    user: &User,
+    path: &Path,
+) -> Reply
+{
+    if !is_group(path) {
+        return Reply::Invalid(What::GroupName);
+    }
+    let nothing = Loaded::new(alloc, random);
+    let look = TreeLook::new(state.memory(), &nothing, user);
+    match group_text(alloc, &look, path) {
+        Ok(reply) => bounded(reply),
+        Err(_) => Reply::OutOfMemory,
+    }
+}
+
+// Whether a path is for a Group file.
+fn is_group(path: &Path) -> bool
+{
+    match path.control_kind() {
+        Control::Group => true,
+        Control::Access | Control::Ordinary => false,
+    }
+}
+
+// What is loaded by the reply to a GroupText of this owner's tree.
+fn loaded(owner: &User, reply: Reply) -> Result<LoadAnswer, AllocError>
+{
+    match reply {
+        Reply::Ok(Done::Text(text)) => match parse_group(owner, text.as_slice()) {
+            Ok(text) => Ok(LoadAnswer::Text(text)),
+            Err(TextFault::BadText(line)) => Ok(LoadAnswer::BadText(line)),
+            Err(TextFault::OutOfMemory) => Err(AllocError),
+        },
+        Reply::Io => Ok(LoadAnswer::Failed),
+        Reply::OutOfMemory => Err(AllocError),
+        _ => Ok(LoadAnswer::Missing),
+    }
+}
