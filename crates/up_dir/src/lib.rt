@@ -1,8 +1,8 @@
 //! A stand-in.
 #![tactic(auto)]
 
-mod step;
+mod steps;
 
-pub use step::step;
+pub use steps::step;
 pub use up_changes::{Fetched, Route, route_of};
 pub use up_needs::foreign;

@@ -1,6 +1,6 @@
 //! A stand-in.
 #![tactic(auto)]
 
-mod foreign;
+mod needed;
 
-pub use foreign::foreign;
+pub use needed::foreign;
