@@ -1,7 +1,7 @@
 -- A host that is not shared: all that comes to its logs comes by its one caller. This project's own.
 use Rattle.std.specs.Prelude.{◌≡◌, ◌≢◌, ◌≤◌, ◌<◌, ◌+◌, ◌-◌, ◌^◌, ℕ, zero, suc, nat_le, if◌then◌else◌, List, [], ◌∷◌, ◌++◌, length, Option, Some, None}
 use Rattle.std.specs.Prelude as std
-use Rattle.std.specs.List.{find, sum_by}
+use Rattle.std.specs.List.{AllByRecursion, find, sum_by}
 use Rattle.std.specs.Option.{option_map}
 use Rattle.std.specs.Str.{bytes_eq}
 use Rattle.up_blocks.specs.declared.record.BlockRecord.{BlockRecord}
@@ -9,17 +9,13 @@ use Rattle.up_disk.specs.declared.disk.Disk.{Ghosts}
 use Rattle.up_host.specs.Routes.{LogName, Question, log_asked, refusal}
 use Rattle.up_host.specs.Views.{Seen, SeenKeys, SeenStore, SeenTree, Views}
 use Rattle.up_host.specs.declared.event.Event.{Event}
+use Rattle.up_host.specs.declared.held.Held.{Held}
 use Rattle.up_journal.specs.Logs.{LogState}
 use Rattle.up_names.specs.Texts.{UserName}
 use Rattle.up_tree.specs.States.{State, fixed_of}
 use Rattle.up_wire.specs.declared.keys.KeyRecord.{KeyRecord}
 use Rattle.up_wire.specs.declared.replies.Reply.{Reply}
 use Rattle.up_wire.specs.declared.replies.Reply.TheVariants as reply
-
--- a log's state, and how many records it had when the host was opened
-pub record Held (S : Type 0) : Type 0 where
-  pub state : S
-  pub base : ℕ
 
 -- a host: its name, its operator, its trees, its store and its keys
 pub record HostState (D : Type 0) : Type 0 where
@@ -85,6 +81,16 @@ pub record IsAlone (a b : Views) (q : Question) (e : Event) : Type 0 where
   pub tree_grown : (owner : UserName) (v w : SeenTree) → a.tree owner ≡ Some v → b.tree owner ≡ Some w → AddsOwn v w
   pub store_grown : AddsOwn a.store b.store
   pub keys_grown : AddsOwn a.keys b.keys
+
+-- what a host keeps: no base is past the end of its log, and there is room for the disk of each log
+abbrev pub IsBase : {D : Type 0} → Held (State D) → Type 0
+IsBase held = held.base ≤ length held.state.log
+
+pub record IsHost {D : Type 0} (trees : List (Held (State D))) (store : Held (LogState D BlockRecord)) (keys : Held (LogState D KeyRecord)) (spare : ℕ) : Type 0 where
+  pub trees_base : AllByRecursion IsBase trees
+  pub store_base : store.base ≤ length store.state.log
+  pub keys_base : keys.base ≤ length keys.state.log
+  pub room : length trees + 2 ≤ spare
 
 -- how often the disks of a host failed, together
 abbrev pub disk_faults : {D : Type 0} → Ghosts D → HostState D → ℕ

@@ -1,6 +1,6 @@
 -- Which blocks were fetched for a Put of a control file, and who gave them. This project's own.
 use Rattle.std.specs.Prelude.{◌≡◌, ◌≤◌, ◌⊎◌, ℕ, false, List, [], ◌∷◌, length, take, Option, Some, None}
-use Rattle.std.specs.List.{AllByRecursion, flat_map}
+use Rattle.std.specs.List.{AllByRecursion}
 use Rattle.up_answers.specs.Fetching.{Fetched}
 use Rattle.up_blocks.specs.Records.{holds}
 use Rattle.up_blocks.specs.declared.record.BlockRecord.{BlockRecord}
@@ -43,18 +43,18 @@ OwnBlock v w (endpoint.Address address) reference given = Unit {0}
 abbrev pub OwnBlocks : SeenStore → SeenStore → Fetched → Type 0
 OwnBlocks v w fetched = AllByRecursion (λ (got : Got). OwnBlock v w got.0.endpoint got.0.reference got.1) fetched
 
--- the loader was asked for those with an address, in order
+-- the loader is asked for those with an address
 abbrev pub question_of : List ℕ → Endpoint → List BlockQuestion
 question_of reference endpoint.Local = []
 question_of reference (endpoint.Address address) = record { address = address; reference = reference } ∷ []
 
-abbrev pub block_questions : Fetched → List BlockQuestion
-block_questions fetched = flat_map (λ (got : Got). question_of got.0.reference got.0.endpoint) fetched
+abbrev pub block_question : Got → List BlockQuestion
+block_question got = question_of got.0.reference got.0.endpoint
 
--- with its answers, which are none on want of memory
+-- its answer, which is none on want of memory
 abbrev pub answer_at : Fetch → Endpoint → List (Option Fetch)
 answer_at given endpoint.Local = []
 answer_at given (endpoint.Address address) = Some given ∷ []
 
-abbrev pub block_answers : Fetched → List (Option Fetch)
-block_answers fetched = flat_map (λ (got : Got). answer_at got.1 got.0.endpoint) fetched
+abbrev pub block_answer : Got → List (Option Fetch)
+block_answer got = answer_at got.1 got.0.endpoint

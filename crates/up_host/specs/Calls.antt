@@ -9,8 +9,9 @@ use Rattle.up_dir.specs.Steps.{is_changed}
 use Rattle.up_entry.specs.declared.fetch.Fetch.{Fetch}
 use Rattle.up_entry.specs.declared.records.Rec.{Rec}
 use Rattle.up_faults.specs.Counts.{HasCause}
-use Rattle.up_host.specs.Blocks.{Got, OwnBlocks, block_answers, block_questions}
-use Rattle.up_host.specs.Loads.{OwnTexts, elsewhere, group_answer, group_question, load_failed}
+use Rattle.up_host.specs.Asks.{Asks, Tries}
+use Rattle.up_host.specs.Blocks.{Got, OwnBlocks, block_answer, block_question}
+use Rattle.up_host.specs.Loads.{OwnTexts, group_answer, group_question, load_failed}
 use Rattle.up_host.specs.Routes.{OwnStays, Question, LogName, locations_on, log_asked, refusal}
 use Rattle.up_host.specs.Services.{KeysSay, NeedsDisk, StoreSays, key_leads, store_leads}
 use Rattle.up_host.specs.Turns.{IsFailed, IsReplied}
@@ -27,29 +28,23 @@ use Rattle.up_wire.specs.declared.replies.Reply.TheVariants as reply
 
 -- ---- what the loader was asked
 
--- for the blocks with an address, and then for the groups of owners that the host lacks: exactly these, in order, with their answers
+-- The loader was asked for the blocks with an address, and then for the groups of owners that the host lacks: exactly those of the
+-- event, in order, with their answers.
 pub record IsAskedFor {L : Type 0} (loader : Ghosts L) (operator : UserName) (a : Views) (old new : L) (e : Event) : Type 0 where
   pub between : L
-  pub blocks : Run loader.fetches old (block_questions e.fetched) (block_answers e.fetched) between
-  pub groups : Run loader.loads between (map (group_question operator) (elsewhere a e.loaded)) (map group_answer (elsewhere a e.loaded)) new
+  pub blocks : Asks loader.fetches loader.faults loader.tied is_failed block_question block_answer old between e.fetched
+  pub groups : Asks loader.loads loader.faults loader.tied load_failed (group_question operator a) (group_answer a) between new e.loaded
 
--- some blocks, and then some groups
-pub record IsAsked {L : Type 0} (loader : Ghosts L) (old new : L) : Type 0 where
+-- it was asked for some blocks, and then for some groups
+pub record IsTried {L : Type 0} (loader : Ghosts L) (old new : L) : Type 0 where
   pub between : L
-  pub block_list : List BlockQuestion
-  pub block_answers : List (Option Fetch)
-  pub blocks : Run loader.fetches old block_list block_answers between
-  pub group_list : List GroupQuestion
-  pub group_answers : List (Option LoadAnswer)
-  pub groups : Run loader.loads between group_list group_answers new
+  pub blocks : Tries loader.fetches loader.faults loader.tied old between
+  pub groups : Tries loader.loads loader.faults loader.tied between new
 
--- The loader was asked for what was fetched and loaded and nothing else; but where memory was wanting, for anything. Its count rose
--- where one of its answers was a failure.
+-- The loader was asked for what was fetched and loaded and nothing else; but where memory was wanting, for anything.
 pub record AsksLoader {L : Type 0} (loader : Ghosts L) (operator : UserName) (a : Views) (old new : L) (e : Event) : Type 0 where
   pub all : e.reply ≢ reply.OutOfMemory → IsAskedFor loader operator a old new e
-  pub some : IsAsked loader old new
-  pub counts : HasCause (loader.faults old) (loader.faults new) ((list_any is_failed (block_answers e.fetched) || list_any load_failed (map group_answer (elsewhere a e.loaded))) ≡ true)
-  pub tie : loader.tied old new
+  pub some : IsTried loader old new
 
 -- ---- a tree's answer
 

@@ -1,8 +1,12 @@
 pub mod Views
 pub mod Services
 pub mod Turns
+pub mod Done
+pub mod Asks
 pub mod Loads
 pub mod Blocks
+pub mod Fetches
+pub mod Rounds
 pub mod Routes
 pub mod Calls
 pub mod Alone

@@ -1,5 +1,5 @@
 -- What was loaded of the groups of other owners, and who gave it. This project's own.
-use Rattle.std.specs.Prelude.{◌≡◌, ◌≤◌, ℕ, Bool, true, false, List, [], length, map, filter, is_none, Option, Some, None}
+use Rattle.std.specs.Prelude.{◌≡◌, ◌≤◌, ℕ, Bool, true, false, List, [], ◌∷◌, length, Option, Some, None}
 use Rattle.std.specs.List.{AllByRecursion}
 use Rattle.up_answers.specs.Answers.{answer}
 use Rattle.up_group.specs.GroupTexts.{group_of}
@@ -47,16 +47,21 @@ abbrev pub OwnTexts : UserName → Views → Views → Loading → Type 0
 OwnTexts operator a b loaded =
     AllByRecursion (λ (pair : Pair). (v w : SeenTree) → a.tree pair.0.owner ≡ Some v → b.tree pair.0.owner ≡ Some w → IsFromOwn operator v w pair) loaded
 
--- the names whose owners' trees the host lacks, in order: of these the loader was asked, as the operator
-abbrev pub elsewhere : Views → Loading → Loading
-elsewhere a loaded = filter (λ (pair : Pair). is_none (a.tree pair.0.owner)) loaded
+-- the loader is asked, as the operator, for the names whose owners' trees the host lacks
+abbrev pub asked_of_others : UserName → Option SeenTree → PathName → List GroupQuestion
+asked_of_others operator None name = record { asker = operator; name = name } ∷ []
+asked_of_others operator (Some view) name = []
 
-abbrev pub group_question : UserName → Pair → GroupQuestion
-group_question operator pair = record { asker = operator; name = pair.0 }
+abbrev pub group_question : UserName → Views → Pair → List GroupQuestion
+group_question operator a pair = asked_of_others operator (a.tree pair.0.owner) pair.0
 
 -- its answer, which is none on want of memory
-abbrev pub group_answer : Pair → Option LoadAnswer
-group_answer pair = Some pair.1
+abbrev pub answered_by_others : Option SeenTree → LoadAnswer → List (Option LoadAnswer)
+answered_by_others None answer = Some answer ∷ []
+answered_by_others (Some view) answer = []
+
+abbrev pub group_answer : Views → Pair → List (Option LoadAnswer)
+group_answer a pair = answered_by_others (a.tree pair.0.owner) pair.1
 
 abbrev pub load_failed : Option LoadAnswer → Bool
 load_failed (Some loads.Failed) = true

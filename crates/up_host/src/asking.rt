@@ -1,15 +1,14 @@
 //! One request, and what comes of it.
-ghost use Rattle.std.specs.Prelude.{◌≡◌};
+ghost use Rattle.std.specs.Prelude.{◌≡◌, ◌<◌, [], length};
 
 use crate::event::Event;
 use crate::fetching::fetch_all;
-use crate::held::Held;
 use crate::host::Host;
-use crate::loading::{Texts, place_of};
+use crate::loading::place_of;
 use crate::service::{Service, service_of};
 use std::alloc::{AllocError, Global};
 use std::hash::RandomState;
-use up_changes::{Fetched, Route, route_of};
+use up_dir::{Fetched, Route, route_of};
 use up_dir::step;
 use up_disk::Disk;
 use up_entry::Location;
@@ -20,7 +19,6 @@ use up_peer::Loader;
 use up_policy::Loaded;
 use up_sign::Session;
 use up_store::store_step;
-use up_tree::TreeState;
 use up_wire::{Reply, Request};
 
 impl<D: Disk> Host<D> {
@@ -107,13 +105,9 @@ impl<D: Disk> Host<D> {
         user: &User,
         request: &Request,
     ) -> Result<Loaded, AllocError>
+        requires { place < length self.now.trees.items }
     {
-        let texts = Texts {
-            trees: &self.trees,
-            operator: &self.operator,
-            random: self.random,
-        };
-        texts.load_all(alloc, loader, &self.trees[place].state, user, request)
+        self.load_all(alloc, loader, &self.trees[place].state, user, request)
     }
 
     // The answer of the tree at a place.

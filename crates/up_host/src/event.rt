@@ -1,5 +1,5 @@
 //! What came of one request.
-use up_changes::Fetched;
+use up_dir::Fetched;
 use up_policy::Loaded;
 use up_wire::Reply;
 

@@ -1,6 +1,7 @@
 //! A host that is not shared.
 use crate::held::Held;
 use std::hash::RandomState;
+use std::marker::Model;
 use up_blocks::Blocks;
 use up_disk::{Disk, Disks};
 use up_keys::Keys;
@@ -18,4 +19,21 @@ pub struct Host<D: Disk> {
     // empty, with room for the disk of each log
     pub(crate) room: Disks<D>,
     pub(crate) random: RandomState,
+}
+
+impl<D: Disk> Model for Host<D> {
+    ghost use Rattle.std.specs.String.{string_bytes};
+    ghost use Rattle.up_host.specs.Alone.{HostState, IsHost};
+
+    ghost Value = { HostState D };
+
+    ghost view = { λ host. record {
+      name = string_bytes host.name;
+      operator = host.operator;
+      trees = host.trees.items;
+      store = host.store;
+      keys = host.keys;
+    } };
+
+    ghost invariant = { λ host. IsHost host.trees.items host.store host.keys host.room.spare };
 }

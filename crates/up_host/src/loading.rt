@@ -1,13 +1,18 @@
 //! The group texts that are loaded for a request.
-ghost use Rattle.std.specs.Prelude.{◌≡◌, ◌≢◌, ◌<◌, ◌≤◌, [], length, IfOk, OnOk};
+ghost use Rattle.std.specs.Prelude.{◌≡◌, ◌≢◌, ◌<◌, ◌≤◌, ◌∷◌, ◌++◌, ◌+◌, [], None, Some, length, position, IfOk, OnErr, OnOk};
+ghost use Rattle.std.specs.Option.{option_copied};
 ghost use Rattle.std.specs.Result.{result_ok};
 ghost use Rattle.up_answers.specs.Needs.{needs};
+ghost use Rattle.up_host.specs.Alone.{is_of, tree_for, views};
+ghost use Rattle.up_host.specs.Asks.{Tries};
 ghost use Rattle.up_host.specs.Loads.{group_text_answer, load_of};
-ghost use Rattle.up_host.specs.Rounds.{Gathers, IsWhole, LoadsName, Tried, bound};
-ghost use Rattle.up_host.specs.Alone.{tree_for};
+ghost use Rattle.up_host.specs.Rounds.{Gathers, IsFirst, IsMissing, IsNeeded, IsWhole, LoadsName, bound};
+ghost use Rattle.up_policy.specs.Loadings.{answer_for};
+ghost use Rattle.up_replay.specs.Rights.{is_group};
 ghost use Rattle.up_tree.specs.States.{log_of};
 
 use crate::held::Held;
+use crate::host::Host;
 use std::alloc::{AllocError, Global};
 use std::hash::RandomState;
 use up_disk::Disk;
@@ -24,14 +29,7 @@ use up_wire::{Done, Reply, Request, bounded};
 /// The most names that one call loads.
 const BOUND: u64 = 1024;
 
-/// What one call loads with: the host's trees and its operator.
-pub(crate) struct Texts<'a, D: Disk> {
-    pub(crate) trees: &'a [Held<TreeState<D>>],
-    pub(crate) operator: &'a User,
-    pub(crate) random: RandomState,
-}
-
-impl<'a, D: Disk> Texts<'a, D> {
+impl<D: Disk> Host<D> {
     /// Loads in rounds, until nothing is missing or the bound is reached.
     pub(crate) fn load_all<L: Loader>(
         &self,
@@ -41,6 +39,13 @@ impl<'a, D: Disk> Texts<'a, D> {
         user: &User,
         request: &Request,
     ) -> Result<Loaded, AllocError>
+        ensures gathers { IfOk result (λ loaded. Gathers L.Loader self.now.operator
+            (views D.Disk self.now) (IsNeeded (log_of state.now) user.now request.now)
+            loader.old loader.new [] loaded) }
+        ensures few { IfOk result (λ loaded. length loaded ≤ bound) }
+        ensures whole { IfOk result (λ loaded. IsWhole
+            (needs (log_of state.now) loaded user.now request.now) loaded) }
+        ensures tried { Tries L.loads L.faults L.tied loader.old loader.new }
     {
         let mut loaded = Loaded::new(alloc, self.random);
         loop {
@@ -60,6 +65,14 @@ impl<'a, D: Disk> Texts<'a, D> {
         missing: &Names,
         loaded: &mut Loaded,
     ) -> Result<(), AllocError>
+        requires room { length loaded.old < bound }
+        ensures gathers { OnOk result (Gathers L.Loader self.now.operator
+            (views D.Disk self.now) (IsMissing missing.now)
+            loader.old loader.new loaded.old loaded.new) }
+        ensures more { OnOk result (IsFirst missing.now loaded.old
+            → length loaded.old < length loaded.new) }
+        ensures few { OnOk result (length loaded.new ≤ bound) }
+        ensures tried { Tries L.loads L.faults L.tied loader.old loader.new }
     {
         for i in 0..missing.len() {
             let Some(name) = missing.get(i) else {
@@ -68,7 +81,9 @@ impl<'a, D: Disk> Texts<'a, D> {
             if loaded.len() == BOUND {
                 return Ok(());
             }
-            self.load_new(alloc, loader, name, loaded)?;
+            if loaded.answer(name).is_none() {
+                self.load_new(alloc, loader, name, loaded)?;
+            }
         }
         Ok(())
     }
@@ -81,9 +96,16 @@ impl<'a, D: Disk> Texts<'a, D> {
         name: &Path,
         loaded: &mut Loaded,
     ) -> Result<(), AllocError>
+        requires { answer_for loaded.old name.now ≡ None }
+        ensures gathers { OnOk result (Gathers L.Loader self.now.operator
+            (views D.Disk self.now) (λ so_far other. (other ≡ name.now)
+            × (so_far ≡ loaded.old)) loader.old loader.new loaded.old loaded.new) }
+        ensures one { OnOk result (length loaded.new ≡ length loaded.old + 1) }
+        ensures tried { Tries L.loads L.faults L.tied loader.old loader.new }
     {
         let answer = self.load_one(alloc, loader, name)?;
-        loaded.add(name.clone()?, answer)
+        let name = name.clone()?;
+        loaded.add(name, answer)
     }
 
     // Loads one name: from the host's own tree of its owner, or else by the loader.
@@ -93,13 +115,15 @@ impl<'a, D: Disk> Texts<'a, D> {
         loader: &mut L,
         name: &Path,
     ) -> Result<LoadAnswer, AllocError>
+        ensures { LoadsName L.Loader self.now.operator (tree_for self.now.trees name.now.owner)
+            loader.old loader.new name.now (result_ok result) }
     {
-        match tree_of(self.trees, name.owner()) {
+        match tree_of(&self.trees, name.owner()) {
             Some(held) => {
-                let reply = group_text_of(alloc, self.random, &held.state, self.operator, name);
+                let reply = group_text_of(alloc, self.random, &held.state, &self.operator, name);
                 loaded(name.owner(), reply)
             }
-            None => loader.load(alloc, self.operator, name),
+            None => loader.load(alloc, &self.operator, name),
         }
     }
 }
@@ -109,12 +133,14 @@ pub(crate) fn tree_of<'a, D: Disk>(
     trees: &'a [Held<TreeState<D>>],
     owner: &User,
 ) -> Option<&'a Held<TreeState<D>>>
+    ensures { option_copied result ≡ tree_for trees.now owner.now }
 {
     trees.iter().find(|held| held.state.owner() == owner)
 }
 
 /// The place of the tree of an owner.
 pub(crate) fn place_of<D: Disk>(trees: &[Held<TreeState<D>>], owner: &User) -> Option<usize>
+    ensures { result ≡ position (is_of owner.now) trees.now }
 {
     trees.iter().position(|held| held.state.owner() == owner)
 }
@@ -127,10 +153,14 @@ pub(crate) fn group_text_of<D: Disk>(
     user: &User,
     path: &Path,
 ) -> Reply
+    requires { path.now.owner ≡ state.now.owner }
+    ensures { result ≢ Reply.OutOfMemory
+        → result ≡ group_text_answer (log_of state.now) user.now path.now }
 {
     if !is_group(path) {
         return Reply::Invalid(What::GroupName);
     }
+    let _text = path.as_str();
     let nothing = Loaded::new(alloc, random);
     let look = TreeLook::new(state.memory(), &nothing, user);
     match group_text(alloc, &look, path) {
@@ -141,6 +171,7 @@ pub(crate) fn group_text_of<D: Disk>(
 
 // Whether a path is for a Group file.
 fn is_group(path: &Path) -> bool
+    ensures { result ≡ is_group path.now }
 {
     match path.control_kind() {
         Control::Group => true,
@@ -150,6 +181,8 @@ fn is_group(path: &Path) -> bool
 
 // What is loaded by the reply to a GroupText of this owner's tree.
 fn loaded(owner: &User, reply: Reply) -> Result<LoadAnswer, AllocError>
+    ensures { IfOk result (λ answer. (reply ≢ Reply.OutOfMemory)
+        × (answer ≡ load_of owner.now reply)) }
 {
     match reply {
         Reply::Ok(Done::Text(text)) => match parse_group(owner, text.as_slice()) {
