@@ -6,3 +6,6 @@ pub mod FetchLemmas
 pub mod LoadLemmas
 pub mod NeedLemmas
 pub mod PlaceLemmas
+pub mod AloneLemmas
+pub mod ServiceLemmas
+pub mod ServingLemmas

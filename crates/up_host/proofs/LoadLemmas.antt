@@ -4,6 +4,7 @@ use Rattle.std.specs.Prelude.{Contains, IfSome}
 use Rattle.std.specs.List.{AllByRecursion, find, flat_map, list_any}
 use Rattle.std.specs.Option.{option_map}
 use Rattle.std.proofs.Math.Seq.{take-length}
+use Rattle.std.proofs.lemmas.Bool.{false≢true}
 use Rattle.std.proofs.lemmas.Slice.Eq.{bytes_eq-Decides}
 use Rattle.up_disk.specs.declared.disk.Disk as disk
 use Rattle.up_faults.specs.Counts.{HasCause}
@@ -98,7 +99,7 @@ module _ {D L : Type 0} (disks : disk.Ghosts D) (loader : Ghosts L) (same : (l :
           given = h.1 ∙ ap (λ records. load_of name.owner (group_text_answer (record (log_of held.state) { records = records }) host.operator name)) (sym whole);
         } in
         subst (λ x. IsFromOwn host.operator x w (name, answer)) (sym q) (subst (λ x. IsFromOwn host.operator (tree_view disks held) x (name, answer)) (sym p) base),
-    subst (λ l. HasCause (loader.faults old) (loader.faults l) _) (sym h.0) (HasCause-same (loader.faults old) _ (λ e. absurd (cc))),
+    subst (λ l. HasCause (loader.faults old) (loader.faults l) (false ≡ true)) (sym h.0) (HasCause-same (loader.faults old) (false ≡ true) false≢true),
     subst (λ l. loader.tied old l) (sym h.0) (same old),
     h.0,
   )

@@ -10,3 +10,4 @@ pub mod Rounds
 pub mod Routes
 pub mod Calls
 pub mod Alone
+pub mod Serves

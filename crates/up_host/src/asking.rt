@@ -1,5 +1,9 @@
 //! One request, and what comes of it.
-ghost use Rattle.std.specs.Prelude.{◌≡◌, ◌<◌, [], length};
+ghost use Rattle.std.specs.Prelude.{◌≡◌, ◌≢◌, ◌<◌, ◌^◌, [], Some, length};
+ghost use Rattle.up_host.specs.Done.{is_invalid};
+ghost use Rattle.up_host.specs.Routes.{service_of};
+ghost use Rattle.up_host.specs.Serves.{KeysServe, StoreServes, position_by};
+ghost use Rattle.up_host.specs.declared.service.Service.TheVariants as service;
 
 use crate::event::Event;
 use crate::fetching::fetch_all;
@@ -105,7 +109,7 @@ impl<D: Disk> Host<D> {
         user: &User,
         request: &Request,
     ) -> Result<Loaded, AllocError>
-        requires { place < length self.now.trees.items }
+        requires { place < length self.now.trees }
     {
         self.load_all(alloc, loader, &self.trees[place].state, user, request)
     }
@@ -135,7 +139,11 @@ impl<D: Disk> Host<D> {
     }
 
     // A request to the store.
+    #[tactic(auto, using(crate::proofs::ServingLemmas::store_asked))]
     fn ask_store(&mut self, alloc: Global, user: &User, request: &Request, now: u64) -> Event
+        requires { service_of request.now ≡ service.Store }
+        ensures serves { StoreServes D.Disk self.old self.new user.now request.now result }
+        ensures moment { result.moment ≡ now }
     {
         let position = self.store.state.position();
         let reply = store_step(&mut self.store.state, &self.operator, user, request);
@@ -143,7 +151,11 @@ impl<D: Disk> Host<D> {
     }
 
     // A request to the keys.
+    #[tactic(auto, using(crate::proofs::ServingLemmas::keys_asked))]
     fn ask_keys(&mut self, alloc: Global, user: &User, request: &Request, now: u64) -> Event
+        requires { service_of request.now ≡ service.Keys }
+        ensures serves { KeysServe D.Disk self.old self.new user.now request.now result }
+        ensures moment { result.moment ≡ now }
     {
         let position = self.keys.state.position();
         let reply = key_step(&mut self.keys.state, user, request);
@@ -160,6 +172,13 @@ fn bare(alloc: Global, random: RandomState, reply: Reply, now: u64) -> Event
 
 // An event of the store or the keys: a malformed request is answered without a look at the log.
 fn answered(alloc: Global, random: RandomState, reply: Reply, position: u64, now: u64) -> Event
+    ensures { result ≡ record {
+      reply = reply;
+      position = position_by (is_invalid reply) position;
+      loaded = [];
+      fetched = [];
+      moment = now;
+    } }
 {
     match reply {
         Reply::Invalid(what) => event_at(alloc, random, Reply::Invalid(what), 0, now),
