@@ -9,3 +9,5 @@ pub mod PlaceLemmas
 pub mod AloneLemmas
 pub mod ServiceLemmas
 pub mod ServingLemmas
+pub mod TreeLemmas
+pub mod GroupTextLemmas

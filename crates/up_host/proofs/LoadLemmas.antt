@@ -1,6 +1,7 @@
 -- How loading goes on.
-use Rattle.std.proofs.Common.{◌≡◌, ◌≢◌, ◌≤◌, ◌||◌, ℕ, Bool, true, false, cond, List, [], ◌∷◌, ◌++◌, length, take, refl, sym, ap, subst, ◌∙◌, arith, append_assoc, append-nil, Option, Some, None, Decides, bytes_eq}
-use Rattle.std.specs.Prelude.{Contains, IfSome}
+use Rattle.std.proofs.Common.{◌≡◌, ◌≢◌, ◌≤◌, ◌||◌, ℕ, Bool, true, false, cond, List, [], ◌∷◌, ◌++◌, length, take, refl, sym, ap, subst, ◌∙◌, arith, append_assoc, append-nil, Option, Some, None, Result, Ok, Err, Decides, bytes_eq}
+use Rattle.std.specs.Prelude.{Contains, IfOk, IfSome, OnOk, is_ok, if◌then◌else◌}
+use Rattle.std.specs.Result.{result_ok}
 use Rattle.std.specs.List.{AllByRecursion, find, flat_map, list_any}
 use Rattle.std.specs.Option.{option_map}
 use Rattle.std.proofs.Math.Seq.{take-length}
@@ -21,8 +22,11 @@ use Rattle.up_names.specs.Texts.{UserName}
 use Rattle.up_peer.specs.declared.loader.Loader.{Ghosts}
 use Rattle.up_policy.specs.Loadings.{Loading}
 use Rattle.up_policy.specs.declared.load_answer.LoadAnswer.{LoadAnswer}
+use Rattle.up_policy.specs.declared.load_answer.LoadAnswer.TheVariants as loads
 use Rattle.up_replay.specs.Logs.{Log}
 use Rattle.up_tree.specs.States.{State, log_of}
+use Rattle.up_wire.specs.declared.replies.Reply.{Reply}
+use Rattle.up_wire.specs.declared.replies.Reply.TheVariants as reply
 
 or_false : (b : Bool) → (b || false) ≡ true → b ≡ true
 or_false true h = refl
@@ -128,3 +132,32 @@ module _ {D L : Type 0} (disks : disk.Ghosts D) (loader : Ghosts L) (same : (l :
   tries_name old new name given (Some held) h = subst (λ l. Tries loader.loads loader.faults loader.tied old l) (sym h.0) (Tries-none loader.loads loader.faults loader.tied same old)
   tries_name old new name given None h =
       Tries-one loader.loads loader.faults loader.tied old new (record { asker = host.operator; name = name }) given (load_failed given ≡ true) h.given_is h.counts h.tie
+
+  -- the name was added, or want of memory left all as it was
+  pub gathers_if : {X E : Type 0} (wanted : Loading → PathName → Type 0) (old new : L) (before after : Loading) (name : PathName) (answer : LoadAnswer) (result : Result X E)
+      → after ≡ (if is_ok result then before ++ (name, answer) ∷ [] else before) → wanted before name → LoadsName loader host.operator (tree_for host.trees name.owner) old new name (Some answer)
+      → OnOk result (Gathers loader host.operator (views disks host) wanted old new before after)
+  gathers_if wanted old new before after name answer (Ok x) grown want h =
+      subst (Gathers loader host.operator (views disks host) wanted old new before) (sym grown) (gathers_one wanted old new before name answer want h)
+  gathers_if wanted old new before after name answer (Err e) grown want h = tt
+
+-- what the host's own tree gave
+pub loads_own : {D L E : Type 0} (loader : Ghosts L) (operator : UserName) (held : Held (State D)) (now : L) (name : PathName) (answered : Reply) (result : Result LoadAnswer E)
+    → (answered ≢ reply.OutOfMemory → answered ≡ group_text_answer (log_of held.state) operator name) → IfOk result (λ answer. (answered ≢ reply.OutOfMemory) × (answer ≡ load_of name.owner answered))
+    → LoadsName loader operator (Some held) now now name (result_ok result)
+loads_own loader operator held now name answered (Ok answer) said h = (refl, h.1 ∙ ap (load_of name.owner) (said h.0))
+loads_own loader operator held now name answered (Err e) said h = (refl, tt)
+
+-- a load that failed is one
+pub load_cause : {E : Type 0} (before now : ℕ) (result : Result LoadAnswer E) → HasCause before now (result ≡ Ok loads.Failed) → HasCause before now (load_failed (result_ok result) ≡ true)
+load_cause {E} before now result h = HasCause-for before now (result ≡ Ok loads.Failed) (load_failed (result_ok result) ≡ true) (failed result) h
+  where
+    of_answer : (answer : LoadAnswer) → load_failed (Some answer) ≡ true → answer ≡ loads.Failed
+    of_answer loads.Failed e = refl
+    of_answer (loads.Text items) e = absurd (false≢true e)
+    of_answer loads.Missing e = absurd (false≢true e)
+    of_answer (loads.BadText line) e = absurd (false≢true e)
+
+    failed : (result : Result LoadAnswer E) → load_failed (result_ok result) ≡ true → result ≡ Ok loads.Failed
+    failed (Ok answer) e = ap Ok (of_answer answer e)
+    failed (Err x) e = absurd (false≢true e)

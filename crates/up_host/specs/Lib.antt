@@ -11,3 +11,4 @@ pub mod Routes
 pub mod Calls
 pub mod Alone
 pub mod Serves
+pub mod TreeCalls

@@ -157,10 +157,10 @@ pub(crate) fn group_text_of<D: Disk>(
     ensures { result ≢ Reply.OutOfMemory
         → result ≡ group_text_answer (log_of state.now) user.now path.now }
 {
+    let _text = path.as_str();
     if !is_group(path) {
         return Reply::Invalid(What::GroupName);
     }
-    let _text = path.as_str();
     let nothing = Loaded::new(alloc, random);
     let look = TreeLook::new(state.memory(), &nothing, user);
     match group_text(alloc, &look, path) {

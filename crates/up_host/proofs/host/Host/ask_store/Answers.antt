@@ -1,0 +1,5 @@
+use Rattle.std.proofs.Common.{◌≡◌, sym, subst}
+use Rattle.up_host.proofs.host.Host.ask_store.Goals as goal
+
+pub returns-clause-serves : goal.returns-clause-serves
+returns-clause-serves g c = ?
