@@ -11,3 +11,4 @@ pub mod ServiceLemmas
 pub mod ServingLemmas
 pub mod TreeLemmas
 pub mod GroupTextLemmas
+pub mod RoundLemmas

@@ -1,0 +1,31 @@
+-- How rounds of loads go on.
+use Rattle.std.proofs.Common.{◌≡◌, ◌≢◌, ◌<◌, ℕ, zero, suc, List, [], ◌∷◌, ◌++◌, length, refl, sym, ap, subst, ◌∙◌, arith, Some, None, slice_get}
+use Rattle.std.specs.Prelude.{Contains}
+use Rattle.up_answers.specs.Needs.{needs}
+use Rattle.up_host.proofs.NeedLemmas.{needs_more, needs_new}
+use Rattle.up_host.proofs.PlaceLemmas.{places_listed}
+use Rattle.up_host.specs.Rounds.{IsFirst, IsMissing, IsNeeded}
+use Rattle.up_names.specs.PathNames.{PathName}
+use Rattle.up_names.specs.Texts.{UserName}
+use Rattle.up_policy.proofs.PathLists.{Contains-at, Contains-head}
+use Rattle.up_policy.specs.Loadings.{Loading, answer_for}
+use Rattle.up_replay.specs.Logs.{Log}
+use Rattle.up_wire.specs.declared.requests.Request.{Request}
+
+-- a name of the list that has no answer yet
+pub one_missing : (names : List PathName) (i : ℕ) (name : PathName) (before : Loading) → slice_get names i ≡ Some name → answer_for before name ≡ None
+    → (more : Loading) (other : PathName) → ((other ≡ name) × (before ++ more ≡ before)) → IsMissing names (before ++ more) other
+one_missing names i name before at none more other h =
+    subst (IsMissing names (before ++ more)) (sym h.0) (Contains-at names i name at, ap (λ xs. answer_for xs name) h.1 ∙ none)
+
+-- what is missing is needed still
+pub missing_needed : (log : Log) (user : UserName) (request : Request) (names : List PathName) (before : Loading) → names ≡ needs log before user request
+    → (more : Loading) (name : PathName) → IsMissing names (before ++ more) name → IsNeeded log user request (before ++ more) name
+missing_needed log user request names before is more name h =
+    needs_more log user request (places_listed log user) before more name (subst (λ ns. Contains ns name) is h.0) h.1
+
+-- the first needed name was not loaded
+pub first_needed : (log : Log) (user : UserName) (request : Request) (names : List PathName) (before : Loading) → names ≡ needs log before user request → length names ≢ 0 → IsFirst names before
+first_needed log user request [] before is some = absurd (some refl)
+first_needed log user request (name ∷ names) before is some =
+    needs_new log user request (places_listed log user) before name (subst (λ ns. Contains ns name) is (Contains-head name names))
