@@ -81,11 +81,32 @@ impl<D: Disk> Host<D> {
             if loaded.len() == BOUND {
                 return Ok(());
             }
-            if loaded.answer(name).is_none() {
-                self.load_new(alloc, loader, name, loaded)?;
-            }
+            self.load_missing(alloc, loader, name, loaded)?;
         }
         Ok(())
+    }
+
+    // Loads a name, unless it was loaded.
+    fn load_missing<L: Loader>(
+        &self,
+        alloc: Global,
+        loader: &mut L,
+        name: &Path,
+        loaded: &mut Loaded,
+    ) -> Result<(), AllocError>
+        ensures gathers { OnOk result (Gathers L.Loader self.now.operator
+            (views D.Disk self.now) (λ so_far other. (other ≡ name.now)
+            × (answer_for so_far other ≡ None)) loader.old loader.new loaded.old loaded.new) }
+        ensures one { OnOk result (answer_for loaded.old name.now ≡ None
+            → length loaded.new ≡ length loaded.old + 1) }
+        ensures more { OnOk result (length loaded.old ≤ length loaded.new) }
+        ensures few { OnOk result (length loaded.new ≤ length loaded.old + 1) }
+        ensures tried { Tries L.loads L.faults L.tied loader.old loader.new }
+    {
+        if loaded.answer(name).is_some() {
+            return Ok(());
+        }
+        self.load_new(alloc, loader, name, loaded)
     }
 
     // Loads a name that was not loaded.
