@@ -12,3 +12,4 @@ pub mod ServingLemmas
 pub mod TreeLemmas
 pub mod GroupTextLemmas
 pub mod RoundLemmas
+pub mod PlacedLemmas

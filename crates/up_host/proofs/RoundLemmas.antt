@@ -1,6 +1,7 @@
 -- How rounds of loads go on.
-use Rattle.std.proofs.Common.{◌≡◌, ◌≢◌, ◌<◌, ◌≤◌, ◌+◌, ℕ, zero, suc, List, [], ◌∷◌, ◌++◌, length, refl, sym, ap, subst, ◌∙◌, arith, Some, None, slice_get}
-use Rattle.std.specs.Prelude.{Contains}
+use Rattle.std.proofs.Common.{◌≡◌, ◌≢◌, ◌<◌, ◌≤◌, ◌+◌, ℕ, zero, suc, List, [], ◌∷◌, ◌++◌, length, false, refl, sym, ap, subst, ◌∙◌, arith, Option, Some, None, Result, Ok, Err, slice_get}
+use Rattle.std.specs.Prelude.{Contains, OnOk, is_some}
+use Rattle.std.proofs.lemmas.Bool.{false≢true}
 use Rattle.up_answers.specs.Needs.{needs}
 use Rattle.up_host.proofs.NeedLemmas.{needs_more, needs_new}
 use Rattle.up_host.proofs.PlaceLemmas.{places_listed}
@@ -60,3 +61,11 @@ more_end [] i old now end more h = absurd h
 more_end (n ∷ names) i old now end more h =
     let long : length (n ∷ names) ≡ length names + 1 = omega arith in
     more (omega (arith, long, end)) h
+
+pub on_ok : {T E P Q : Type 0} (result : Result T E) → (P → Q) → OnOk result P → OnOk result Q
+on_ok (Ok x) f h = f h
+on_ok (Err e) f h = tt
+
+pub not_some : {X : Type 0} (found : Option X) → is_some found ≡ false → found ≡ None
+not_some None h = refl
+not_some (Some x) h = absurd (false≢true (sym h))

@@ -1,5 +1,5 @@
 -- What a request to a tree of a host that is not shared did. This project's own.
-use Rattle.std.specs.Prelude.{◌≡◌, ◌≤◌, ◌⊎◌, ℕ, List, [], length, map, position, slice_get, slice_set, Some}
+use Rattle.std.specs.Prelude.{◌≡◌, ◌≢◌, ◌≤◌, ◌⊎◌, ℕ, List, [], length, map, position, slice_get, slice_set, Some, Result, Ok, Err}
 use Rattle.std.specs.List.{IsDistinct}
 use Rattle.std.specs.Map.{keys_of}
 use Rattle.up_answers.specs.Answers.{added, answer}
@@ -14,7 +14,8 @@ use Rattle.up_entry.specs.declared.entries.Location.{Location}
 use Rattle.up_host.specs.Alone.{HostState, is_of, views}
 use Rattle.up_host.specs.Blocks.{Got}
 use Rattle.up_host.specs.Fetches.{Fetches}
-use Rattle.up_host.specs.Routes.{Question, service_of}
+use Rattle.up_answers.specs.Fetching.{Fetched}
+use Rattle.up_host.specs.Routes.{Question, route_refusal, service_of}
 use Rattle.up_host.specs.Rounds.{Gathers, IsNeeded, bound}
 use Rattle.up_host.specs.declared.event.Event.{Event}
 use Rattle.up_host.specs.declared.held.Held.{Held}
@@ -23,7 +24,11 @@ use Rattle.up_journal.specs.Logs.{LogState}
 use Rattle.up_names.specs.PathOrder.{path_eq}
 use Rattle.up_names.specs.Texts.{UserName}
 use Rattle.up_peer.specs.declared.loader.Loader.{Ghosts}
+use Rattle.up_policy.specs.Loadings.{Loading}
 use Rattle.up_tree.specs.States.{State, entries_of, fixed_of, log_of}
+use Rattle.up_wire.specs.declared.replies.Reply.{Reply}
+use Rattle.up_wire.specs.declared.replies.Reply.TheVariants as reply
+use Rattle.up_wire.specs.declared.requests.Request.{Request}
 
 -- the tree at a place was asked with what was fetched and loaded for it, and nothing else of the host changed but that blocks of the
 -- store were read
@@ -49,3 +54,28 @@ pub record TreeServes {D L : Type 0} (disks : disk.Ghosts D) (loader : Ghosts L)
   pub grows : OnlyGrows entries_of (λ (s : State D). disks.faults s.disk) fixed_of before.state state
   pub position_is : e.position ≡ length before.state.log
   pub fits : before.base ≤ length before.state.log
+
+-- where a directory request goes: the place of the tree, and the blocks to fetch
+pub record GoesTo {D : Type 0} (trees : List (Held (State D))) (user : UserName) (request : Request) (there : ℕ × List Location) : Type 0 where
+  pub owner : UserName
+  pub route_is : route_of user request ≡ route.Tree owner there.1
+  pub at : position (is_of owner) trees ≡ Some there.0
+
+-- or the reply for which no tree is looked at; want of memory may come at any place
+abbrev pub PlaceIs : {D : Type 0} → disk.Ghosts D → HostState D → UserName → Request → Result (ℕ × List Location) Reply → Type 0
+PlaceIs disks host user request (Ok there) = GoesTo host.trees user request there
+PlaceIs disks host user request (Err refusal) = refusal ≢ reply.OutOfMemory → route_refusal (views disks host) (route_of user request) ≡ Some refusal
+
+-- the tree at a place answered with what was fetched and loaded for it
+pub record TreeAnswers {D : Type 0} (disks : disk.Ghosts D) (place : ℕ) (host after : HostState D) (user : UserName) (request : Request) (loaded : Loading) (fetched : Fetched) (now : ℕ) (e : Event) : Type 0 where
+  pub before : Held (State D)
+  pub there : slice_get host.trees place ≡ Some before
+  pub state : State D
+  pub whole : after ≡ record host { trees = slice_set host.trees place (record { state = state; base = before.base }) }
+  pub steps : Steps disks (answer (log_of before.state) loaded fetched user request now) (added (log_of before.state) loaded fetched user request now) before.state state e.reply
+  pub grows : OnlyGrows entries_of (λ (s : State D). disks.faults s.disk) fixed_of before.state state
+  pub position_is : e.position ≡ length before.state.log
+  pub fits : before.base ≤ length before.state.log
+  pub loaded_is : e.loaded ≡ loaded
+  pub fetched_is : e.fetched ≡ fetched
+  pub moment_is : e.moment ≡ now

@@ -3,6 +3,7 @@ ghost use Rattle.std.specs.Prelude.{◌≡◌, ◌≢◌, ◌<◌, ◌^◌, [], 
 ghost use Rattle.up_host.specs.Done.{is_invalid};
 ghost use Rattle.up_host.specs.Routes.{service_of};
 ghost use Rattle.up_host.specs.Serves.{KeysServe, StoreServes, position_by};
+ghost use Rattle.up_host.specs.TreeCalls.{PlaceIs, TreeAnswers};
 ghost use Rattle.up_host.specs.declared.service.Service.TheVariants as service;
 
 use crate::event::Event;
@@ -67,12 +68,14 @@ impl<D: Disk> Host<D> {
 
     // The place of the tree that a request goes to, and the blocks that have to be fetched for it; or the reply for which no tree is
     // looked at.
+    #[tactic(auto, using(crate::proofs::PlacedLemmas::refused_for, crate::proofs::PlacedLemmas::wrong_host))]
     fn place_asked(
         &self,
         alloc: Global,
         user: &User,
         request: &Request,
     ) -> Result<(usize, Items<Location>), Reply>
+        ensures { PlaceIs D.Disk self.now user.now request.now result }
     {
         match route_of(alloc, user, request) {
             Ok(Route::Refused(refusal)) => Err(refusal),
@@ -125,6 +128,10 @@ impl<D: Disk> Host<D> {
         loaded: Loaded,
         now: u64,
     ) -> Event
+        requires place { place < length self.old.trees }
+        requires moment { now < 253402207200 }
+        ensures { TreeAnswers D.Disk place self.old self.new
+            user.now request.now loaded fetched now result }
     {
         let held = &mut self.trees[place];
         let position = held.state.position();
