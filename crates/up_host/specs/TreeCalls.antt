@@ -1,5 +1,5 @@
 -- What a request to a tree of a host that is not shared did. This project's own.
-use Rattle.std.specs.Prelude.{◌≡◌, ◌≢◌, ◌≤◌, ◌⊎◌, ℕ, List, [], length, map, position, slice_get, slice_set, Some, Result, Ok, Err}
+use Rattle.std.specs.Prelude.{◌≡◌, ◌≢◌, ◌≤◌, ◌⊎◌, ℕ, List, [], length, map, position, slice_get, slice_set, Option, Some, IfSome, Result, Ok, Err}
 use Rattle.std.specs.List.{IsDistinct}
 use Rattle.std.specs.Map.{keys_of}
 use Rattle.up_answers.specs.Answers.{added, answer}
@@ -12,11 +12,13 @@ use Rattle.up_disk.specs.declared.disk.Disk as disk
 use Rattle.up_ends.specs.Growing.{OnlyGrows}
 use Rattle.up_entry.specs.declared.entries.Location.{Location}
 use Rattle.up_host.specs.Alone.{HostState, is_of, views}
+use Rattle.up_host.specs.Asks.{Tries}
 use Rattle.up_host.specs.Blocks.{Got}
 use Rattle.up_host.specs.Fetches.{Fetches}
 use Rattle.up_answers.specs.Fetching.{Fetched}
 use Rattle.up_host.specs.Routes.{Question, route_refusal, service_of}
 use Rattle.up_host.specs.Rounds.{Gathers, IsNeeded, bound}
+use Rattle.up_host.specs.Views.{Views}
 use Rattle.up_host.specs.declared.event.Event.{Event}
 use Rattle.up_host.specs.declared.held.Held.{Held}
 use Rattle.up_host.specs.declared.service.Service.TheVariants as service
@@ -25,6 +27,7 @@ use Rattle.up_names.specs.PathOrder.{path_eq}
 use Rattle.up_names.specs.Texts.{UserName}
 use Rattle.up_peer.specs.declared.loader.Loader.{Ghosts}
 use Rattle.up_policy.specs.Loadings.{Loading}
+use Rattle.up_replay.specs.Logs.{Log}
 use Rattle.up_tree.specs.States.{State, entries_of, fixed_of, log_of}
 use Rattle.up_wire.specs.declared.replies.Reply.{Reply}
 use Rattle.up_wire.specs.declared.replies.Reply.TheVariants as reply
@@ -79,3 +82,16 @@ pub record TreeAnswers {D : Type 0} (disks : disk.Ghosts D) (place : ℕ) (host 
   pub loaded_is : e.loaded ≡ loaded
   pub fetched_is : e.fetched ≡ fetched
   pub moment_is : e.moment ≡ now
+
+-- what was loaded for a request to a tree: a loading over all of its log
+pub record IsLoaded {L : Type 0} (loader : Ghosts L) (operator : UserName) (a : Views) (log : Log) (user : UserName) (request : Request) (old new : L) (loaded : Loading) : Type 0 where
+  pub gathers : Gathers loader operator a (IsNeeded log user request) old new [] loaded
+  pub names : IsDistinct path_eq (keys_of loaded)
+  pub enough : (needs log loaded user request ≡ []) ⊎ (length loaded ≡ bound)
+
+-- the groups were loaded for a request to the tree at a place
+pub record LoadsFor {D L : Type 0} (disks : disk.Ghosts D) (loader : Ghosts L) (host : HostState D) (place : ℕ) (old new : L) (user : UserName) (request : Request) (given : Option Loading) : Type 0 where
+  pub before : Held (State D)
+  pub there : slice_get host.trees place ≡ Some before
+  pub loaded : IfSome given (IsLoaded loader host.operator (views disks host) (log_of before.state) user request old new)
+  pub tried : Tries loader.loads loader.faults loader.tied old new

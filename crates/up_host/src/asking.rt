@@ -3,7 +3,8 @@ ghost use Rattle.std.specs.Prelude.{◌≡◌, ◌≢◌, ◌<◌, ◌^◌, [], 
 ghost use Rattle.up_host.specs.Done.{is_invalid};
 ghost use Rattle.up_host.specs.Routes.{service_of};
 ghost use Rattle.up_host.specs.Serves.{KeysServe, StoreServes, position_by};
-ghost use Rattle.up_host.specs.TreeCalls.{PlaceIs, TreeAnswers};
+ghost use Rattle.up_host.specs.TreeCalls.{LoadsFor, PlaceIs, TreeAnswers};
+ghost use Rattle.std.specs.Result.{result_ok};
 ghost use Rattle.up_host.specs.declared.service.Service.TheVariants as service;
 
 use crate::event::Event;
@@ -113,8 +114,12 @@ impl<D: Disk> Host<D> {
         request: &Request,
     ) -> Result<Loaded, AllocError>
         requires { place < length self.now.trees }
+        ensures { LoadsFor D.Disk L.Loader self.now place
+            loader.old loader.new user.now request.now (result_ok result) }
     {
-        self.load_all(alloc, loader, &self.trees[place].state, user, request)
+        let loaded = self.load_all(alloc, loader, &self.trees[place].state, user, request)?;
+        let _names = loaded.len();
+        Ok(loaded)
     }
 
     // The answer of the tree at a place.

@@ -5,7 +5,9 @@ use Rattle.up_host.proofs.host.Host.answer.Goals as goal
 use Rattle.up_lists.proofs.BeginsLemmas.{length-Begins}
 
 pub index_mut-held-requires : goal.index_mut-held-requires
-index_mut-held-requires g c = subst (λ xs. c.args.place < length xs) (sym (ap (λ h. h.trees) c.self.view_is)) c.requires.place
+index_mut-held-requires g c =
+    let within : c.args.place < length c.self.inside.trees.items = subst (λ xs. c.args.place < length xs) (sym (ap (λ h. h.trees) c.self.view_is)) c.requires.place in
+    omega (arith, within, c.self.inside.trees.ok.0)
 
 pub invariant_of-self : goal.invariant_of-self
 invariant_of-self g c =
