@@ -1,6 +1,7 @@
 -- Where a directory request goes, and a tree that is set in its place.
-use Rattle.std.proofs.Common.{◌≡◌, ◌≢◌, ◌≤◌, ◌<◌, ℕ, zero, suc, List, [], ◌∷◌, length, refl, sym, ap, subst, ◌∙◌, arith, Option, Some, None, option_map, slice_get, slice_set}
-use Rattle.std.specs.Prelude.{if◌then◌else◌, is_some, position}
+use Rattle.std.proofs.Common.{◌≡◌, ◌≢◌, ◌≤◌, ◌<◌, ℕ, zero, suc, List, [], ◌∷◌, length, refl, sym, ap, subst, ◌∙◌, arith, Option, Some, None, Result, Ok, Err, option_map, slice_get, slice_set}
+use Rattle.std.specs.Prelude.{IfSome, IsErr, if◌then◌else◌, is_some, position}
+use Rattle.std.specs.Result.{result_ok}
 use Rattle.std.specs.List.{AllByRecursion}
 use Rattle.up_changes.specs.Routes.{route_of}
 use Rattle.up_changes.specs.declared.routes.Route.{Route}
@@ -43,3 +44,8 @@ pub length_set : {D : Type 0} (trees : List (Held (State D))) (place : ℕ) (hel
 length_set [] place held = refl
 length_set (tree ∷ trees) zero held = refl
 length_set (tree ∷ trees) (suc place) held = let rest : length (slice_set trees place held) ≡ length trees = length_set trees place held in omega (arith, rest)
+
+-- a refusal gives nothing
+pub if_err : {T E : Type 0} (result : Result T E) (P : T → Type 0) → IsErr result → IfSome (result_ok result) P
+if_err (Ok x) P h = absurd h
+if_err (Err e) P h = tt
