@@ -3,6 +3,7 @@ use Rattle.std.proofs.Common.{◌≡◌, ◌≢◌, ◌≤◌, ◌<◌, ℕ, zer
 use Rattle.std.specs.Prelude.{IfSome, IsErr, if◌then◌else◌, is_some, position}
 use Rattle.std.specs.Result.{result_ok}
 use Rattle.std.specs.List.{AllByRecursion}
+use Rattle.std.proofs.lemmas.Bool.{false≢true}
 use Rattle.up_changes.specs.Routes.{route_of}
 use Rattle.up_changes.specs.declared.routes.Route.{Route}
 use Rattle.up_changes.specs.declared.routes.Route.TheVariants as route
@@ -47,5 +48,5 @@ length_set (tree ∷ trees) (suc place) held = let rest : length (slice_set tree
 
 -- a refusal gives nothing
 pub if_err : {T E : Type 0} (result : Result T E) (P : T → Type 0) → IsErr result → IfSome (result_ok result) P
-if_err (Ok x) P h = absurd h
+if_err (Ok x) P h = absurd (false≢true h)
 if_err (Err e) P h = tt
