@@ -110,7 +110,6 @@ module _ (less more : PathName → Option (List Item)) (kept : (group : PathName
   ]
   reaches (suc n) group h = step n group h (reaches n)
 
-
 -- ---- loadings that grow
 
 answer_cond : (b : Bool) (x : LoadAnswer) (rest : Option LoadAnswer) (answer : LoadAnswer) (rest_more : Option LoadAnswer) → (rest ≡ Some answer → rest_more ≡ Some answer) → cond b (Some x) rest ≡ Some answer → cond b (Some x) rest_more ≡ Some answer
@@ -197,8 +196,8 @@ module _ (log : Log) (user : UserName) (request : Request) (lists : (asked : Ask
     | inr there ↦
         let at = in_flat (needed_at log before) (places_for log user asked) name there in
         with_paths-has [] (flat_map (needed_at log (before ++ more)) (places_for log user asked)) name
-            (Contains-flat_map (needed_at log (before ++ more)) (places_for log user asked) at.0 name at.1
-            (needed_more (facts_of log.owner at.0.0) (group_paths at.0.0) (lists asked at.0 at.1) before more at.0.1 name at.2 none))
+        (Contains-flat_map (needed_at log (before ++ more)) (places_for log user asked) at.0 name at.1
+        (needed_more (facts_of log.owner at.0.0) (group_paths at.0.0) (lists asked at.0 at.1) before more at.0.1 name at.2 none))
   ]
 
   asked_new : (asked : Asked) (before : Loading) (name : PathName) → Contains (needs_asked log before user asked) name → answer_for before name ≡ None

@@ -89,9 +89,9 @@ module _ (log : Log) where
       ]
 
       by : (found : Option Change) → Contains (elim found as (λ _. List Place) [
-            | None ↦ []
-            | Some change ↦ if nat_lt sequence (suc n) && is_under change.entry.name path then (tree_of log.records, change.entry.name) ∷ (tree_at log.records (suc n), change.entry.name) ∷ [] else []
-          ]) place → IsTree place
+        | None ↦ []
+        | Some change ↦ if nat_lt sequence (suc n) && is_under change.entry.name path then (tree_of log.records, change.entry.name) ∷ (tree_at log.records (suc n), change.entry.name) ∷ [] else []
+      ]) place → IsTree place
       by None h = absurd (no_member place h)
       by (Some change) h = two change (nat_lt sequence (suc n) && is_under change.entry.name path) h
 

@@ -112,7 +112,7 @@ module _ {D : Type 0} (disks : Ghosts D) (old new : LogState D BlockRecord) (tol
   module _ (bytes : List ℕ) (answer : Reply) (put : Result (List ℕ) BlockWhy) (said : answer ≡ put_reply put) (puts : PutsBlock disks bytes old new put) where
     kept : (held : Bool) → holds old.log (sha256 bytes) ≡ held
         → Done None (if held then Leads.Says (reply.Ok (done.Reference (sha256 bytes)))
-            else adding (is_full old.limits (sizes_of old.log) (size_of (put_record true bytes))) (length old.log) (put_record true bytes) (reply.Ok (done.Reference (sha256 bytes)))) answer
+        else adding (is_full old.limits (sizes_of old.log) (size_of (put_record true bytes))) (length old.log) (put_record true bytes) (reply.Ok (done.Reference (sha256 bytes)))) answer
     kept true h =
         let both = puts.held h in
         let is : answer ≡ reply.Ok (done.Reference (sha256 bytes)) = said ∙ ap put_reply both.0 in
@@ -136,7 +136,7 @@ module _ {D : Type 0} (disks : Ghosts D) (old new : LogState D BlockRecord) (tol
   module _ (reference : List ℕ) (answer : Reply) (deleted : Result ℕ BlockWhy) (said : answer ≡ deleted_reply deleted) (deletes : DeletesBlock disks reference old new deleted) where
     taken : (held : Bool) → holds old.log reference ≡ held
         → Done None (if not held then Leads.Says reply.NotExist
-            else adding (is_full old.limits (sizes_of old.log) (size_of (block.Delete reference))) (length old.log) (block.Delete reference) (reply.Ok (done.Changed (length old.log + 1)))) answer
+        else adding (is_full old.limits (sizes_of old.log) (size_of (block.Delete reference))) (length old.log) (block.Delete reference) (reply.Ok (done.Changed (length old.log + 1)))) answer
     taken false h =
         let both = deletes.missing h in
         let is : answer ≡ reply.NotExist = said ∙ ap deleted_reply both.0 in
@@ -148,8 +148,8 @@ module _ {D : Type 0} (disks : Ghosts D) (old new : LogState D BlockRecord) (tol
 
   by_operator : (is_operator : Bool) (reference : List ℕ) (answer : Reply) → DeletesBy disks is_operator reference old new answer
       → Done None (if not is_operator then Leads.Says (reply.Permission right.Delete)
-          else if not (holds old.log reference) then Leads.Says reply.NotExist
-          else adding (is_full old.limits (sizes_of old.log) (size_of (block.Delete reference))) (length old.log) (block.Delete reference) (reply.Ok (done.Changed (length old.log + 1)))) answer
+      else if not (holds old.log reference) then Leads.Says reply.NotExist
+      else adding (is_full old.limits (sizes_of old.log) (size_of (block.Delete reference))) (length old.log) (block.Delete reference) (reply.Ok (done.Changed (length old.log + 1)))) answer
   by_operator false reference answer h = IsDone.Said refl (ap is_invalid h.1) [] (h.1, refl) (same_log h.0 ∙ sym (append-nil old.log))
   by_operator true reference answer h = taken reference answer h.0 h.1 h.2 (holds old.log reference) refl
 

@@ -299,7 +299,7 @@ module _ {D L : Type 0} (disks : disk.Ghosts D) (loader : Ghosts L) (joined : (x
   says : e.reply ≡ meant → TreeSays (tree_view disks then_held) q e p.before.state.log e.reply (if is_changed e.reply then would_add else [])
   says is =
       let same : log_of p.before.state ≡ record (log_seen (tree_view disks then_held)) { records = p.before.state.log } =
-          sym (ap (λ fixed. let log : Log = record { owner = fixed.0; limits = fixed.1; records = p.before.state.log } in log) p.grows.stays) in
+      sym (ap (λ fixed. let log : Log = record { owner = fixed.0; limits = fixed.1; records = p.before.state.log } in log) p.grows.stays) in
       record {
         reply = is ∙ ap (λ log. answer log e.loaded e.fetched q.user q.request e.moment) same;
         added = ap (λ log. if is_changed e.reply then added log e.loaded e.fetched q.user q.request e.moment else []) same;
@@ -317,7 +317,7 @@ module _ {D L : Type 0} (disks : disk.Ghosts D) (loader : Ghosts L) (joined : (x
   failed io change rose =
       let stays : p.state.log ≡ p.before.state.log = no_record (ap is_changed io) in
       let same : log_of p.before.state ≡ record (log_seen (tree_view disks then_held)) { records = p.before.state.log } =
-          sym (ap (λ fixed. let log : Log = record { owner = fixed.0; limits = fixed.1; records = p.before.state.log } in log) p.grows.stays) in
+      sym (ap (λ fixed. let log : Log = record { owner = fixed.0; limits = fixed.1; records = p.before.state.log } in log) p.grows.stays) in
       inr (
         failed_at p.before.state.log p.state.log p.before.base (disks.faults p.before.state.disk) (disks.faults p.state.disk) (tree_view disks p.before).fixed (tree_view disks then_held).fixed
             (TreeNeedsDisk (tree_view disks then_held) q e) e io rose stays (ap (λ log. is_changed (answer log e.loaded e.fetched q.user q.request e.moment)) (sym same) ∙ change),

@@ -13,7 +13,7 @@ returns-then-not-is_group g c = λ n.
 pub returns-in-Ok : goal.returns-in-Ok
 returns-in-Ok g c = λ n.
     let look : c.new-look.result ≡ look_now (log_of c.args.state.now) [] c.args.user.now =
-        let a = c.new-look.ensures in let b = c.memory.ensures.owner in let d = c.memory.ensures.log in let e = c.new-nothing.ensures in cc
+    let a = c.new-look.ensures in let b = c.memory.ensures.owner in let d = c.memory.ensures.log in let e = c.new-nothing.ensures in cc
     in
     c.bounded.ensures ∙ ap bounded (c.in-Ok.ensures ∙ ap (λ l. group_text_reply l c.args.path.now) look)
     ∙ sym (group_text_is (log_of c.args.state.now) c.args.user.now c.args.path.now c.as_str-text.ensures.again (sym c.is_group.ensures ∙ c.if-not-is_group.false) c.requires)

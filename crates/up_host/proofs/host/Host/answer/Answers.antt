@@ -13,7 +13,7 @@ pub invariant_of-self : goal.invariant_of-self
 invariant_of-self g c =
     let within : c.args.place < length c.self.inside.trees.items = subst (λ xs. c.args.place < length xs) (sym (ap (λ h. h.trees) c.self.view_is)) c.requires.place in
     let there : slice_get c.self.inside.trees.items c.args.place ≡ Some c.index_mut-held.result.now =
-        slice_get-get_or c.self.inside.trees.items c.args.place c.index_mut-held.result.now within ∙ ap Some (sym c.index_mut-held.ensures.value) in
+    slice_get-get_or c.self.inside.trees.items c.args.place c.index_mut-held.result.now within ∙ ap Some (sym c.index_mut-held.ensures.value) in
     let fits : c.index_mut-held.result.now.base ≤ length c.index_mut-held.result.now.state.log = base_at c.self.inside.trees.items c.args.place c.index_mut-held.result.now c.self.invariant.trees_base there in
     let grown : length c.index_mut-held.result.now.state.log ≤ length c.step-reply.new.state.log = length-Begins c.step-reply.ensures.grows.begins in
     let long = length_set c.self.inside.trees.items c.args.place (record { state = c.step-reply.new.state; base = c.index_mut-held.result.now.base }) in
@@ -29,7 +29,7 @@ pub returns : goal.returns
 returns g c =
     let within : c.args.place < length c.self.inside.trees.items = subst (λ xs. c.args.place < length xs) (sym (ap (λ h. h.trees) c.self.view_is)) c.requires.place in
     let there : slice_get c.self.inside.trees.items c.args.place ≡ Some c.index_mut-held.result.now =
-        slice_get-get_or c.self.inside.trees.items c.args.place c.index_mut-held.result.now within ∙ ap Some (sym c.index_mut-held.ensures.value) in
+    slice_get-get_or c.self.inside.trees.items c.args.place c.index_mut-held.result.now within ∙ ap Some (sym c.index_mut-held.ensures.value) in
     rw (← c.self.view_is) (record {
       before = c.index_mut-held.result.now;
       there = there;

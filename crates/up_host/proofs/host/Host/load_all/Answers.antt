@@ -19,7 +19,7 @@ pub loop-loaded-smaller : goal.loop-loaded-smaller
 loop-loaded-smaller g c =
     let some : length c.in_ok-missing.missing ≢ 0 = omega (arith, c.if-len-eq0.false, c.len.ensures.len) in
     let more : length c.loop-loaded.loaded < length c.load_round.new.loaded =
-        c.in_ok-load_round.ensures.more (first_needed (log_of c.args.state.now) c.args.user.now c.args.request.now c.in_ok-missing.missing c.loop-loaded.loaded c.in_ok-missing.ensures some) in
+    c.in_ok-load_round.ensures.more (first_needed (log_of c.args.state.now) c.args.user.now c.args.request.now c.in_ok-missing.missing c.loop-loaded.loaded c.in_ok-missing.ensures some) in
     let few : length c.load_round.new.loaded ≤ 1024 = c.in_ok-load_round.ensures.few in
     omega (arith, more, few)
 

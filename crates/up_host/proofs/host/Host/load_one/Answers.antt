@@ -17,7 +17,7 @@ pub returns-in-Some : goal.returns-in-Some
 returns-in-Some g c =
     let trees = c.deref.ensures.value ∙ ap (λ h. h.trees) c.self.view_is in
     let found : tree_for c.args.self.now.trees c.args.name.now.owner ≡ Some c.in-Some.held.now =
-        sym (ap (λ ts. tree_for ts c.args.name.now.owner) trees) ∙ sym (ap (tree_for c.deref.result.now) c.owner.ensures) ∙ sym c.tree_of.ensures ∙ ap option_copied c.in-Some.is in
+    sym (ap (λ ts. tree_for ts c.args.name.now.owner) trees) ∙ sym (ap (tree_for c.deref.result.now) c.owner.ensures) ∙ sym c.tree_of.ensures ∙ ap option_copied c.in-Some.is in
     subst (λ f. LoadsName g.L.Loader c.args.self.now.operator f c.args.loader.now c.args.loader.now c.args.name.now (result_ok c.loaded.result)) (sym found)
     (loads_own g.L.Loader c.args.self.now.operator c.in-Some.held.now c.args.loader.now c.args.name.now c.group_text_of-reply.result c.loaded.result
     (λ n. c.group_text_of-reply.ensures n ∙ ap (λ operator. group_text_answer (log_of c.in-Some.held.now.state) operator c.args.name.now) (ap (λ h. h.operator) c.self.view_is))
@@ -27,7 +27,7 @@ pub returns-in-None : goal.returns-in-None
 returns-in-None g c =
     let trees = c.deref.ensures.value ∙ ap (λ h. h.trees) c.self.view_is in
     let found : tree_for c.args.self.now.trees c.args.name.now.owner ≡ None =
-        sym (ap (λ ts. tree_for ts c.args.name.now.owner) trees) ∙ sym (ap (tree_for c.deref.result.now) c.owner.ensures) ∙ sym c.tree_of.ensures ∙ ap option_copied c.in-None.is in
+    sym (ap (λ ts. tree_for ts c.args.name.now.owner) trees) ∙ sym (ap (tree_for c.deref.result.now) c.owner.ensures) ∙ sym c.tree_of.ensures ∙ ap option_copied c.in-None.is in
     subst (λ f. LoadsName g.L.Loader c.args.self.now.operator f c.args.loader.now c.load.new.self c.args.name.now (result_ok c.load.result)) (sym found)
     (record {
       given_is = subst (λ operator. g.L.Loader.loads c.args.loader.now (record { asker = operator; name = c.args.name.now }) (result_ok c.load.result) c.load.new.self) (ap (λ h. h.operator) c.self.view_is) c.load.ensures.given;
