@@ -10,7 +10,10 @@ use Rattle.up_host.specs.Routes.{LogName, Question, log_asked, refusal}
 use Rattle.up_host.specs.Views.{Seen, SeenKeys, SeenStore, SeenTree, Views}
 use Rattle.up_host.specs.declared.event.Event.{Event}
 use Rattle.up_host.specs.declared.held.Held.{Held}
+use Rattle.up_ends.specs.Growing.{OnlyGrows}
 use Rattle.up_journal.specs.Logs.{LogState}
+use Rattle.up_journal.specs.declared.fault.AppendWhy.{AppendWhy}
+use Rattle.up_keys.specs.Keys.{PutsRecord, limits_of, log_of}
 use Rattle.up_names.specs.Texts.{UserName}
 use Rattle.up_tree.specs.States.{State, fixed_of}
 use Rattle.up_wire.specs.declared.keys.KeyRecord.{KeyRecord}
@@ -107,3 +110,10 @@ pub record Counts (disks_before disks_after loader_before loader_after : ℕ) (e
   pub disks : disks_before ≤ disks_after
   pub loader : loader_before ≤ loader_after
   pub io : disks_after + loader_after < 2 ^ 64 - 1 → disks_before + loader_before + io_of e.reply ≤ disks_after + loader_after
+
+-- a record was put to the keys, and nothing else of the host changed
+pub record Enrols {D : Type 0} (disks : Ghosts D) (card : KeyRecord) (host after : HostState D) (result : std.Result ℕ AppendWhy) : Type 0 where
+  pub state : LogState D KeyRecord
+  pub whole : after ≡ record host { keys = record { state = state; base = host.keys.base } }
+  pub puts : PutsRecord disks card host.keys.state state result
+  pub grows : OnlyGrows log_of (λ (k : LogState D KeyRecord). disks.faults k.disk) limits_of host.keys.state state

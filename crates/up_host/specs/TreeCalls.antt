@@ -14,7 +14,7 @@ use Rattle.up_entry.specs.declared.entries.Location.{Location}
 use Rattle.up_host.specs.Alone.{HostState, is_of, views}
 use Rattle.up_host.specs.Asks.{Tries}
 use Rattle.up_host.specs.Blocks.{Got}
-use Rattle.up_host.specs.Fetches.{Fetches}
+use Rattle.up_host.specs.Fetches.{Fetches, StoreReads}
 use Rattle.up_answers.specs.Fetching.{Fetched}
 use Rattle.up_host.specs.Routes.{Question, route_refusal, service_of}
 use Rattle.up_host.specs.Rounds.{Gathers, IsNeeded, bound}
@@ -95,3 +95,20 @@ pub record LoadsFor {D L : Type 0} (disks : disk.Ghosts D) (loader : Ghosts L) (
   pub there : slice_get host.trees place ≡ Some before
   pub loaded : IfSome given (IsLoaded loader host.operator (views disks host) (log_of before.state) user request old new)
   pub tried : Tries loader.loads loader.faults loader.tied old new
+
+-- blocks of the store were read for a request, and nothing else of the host changed
+pub record Touches {D : Type 0} (disks : disk.Ghosts D) (host after : HostState D) : Type 0 where
+  pub store : LogState D BlockRecord
+  pub whole : after ≡ record host { store = record { state = store; base = host.store.base } }
+  pub reads : StoreReads disks host.store.state store
+
+-- what was fetched and loaded for a request to the tree at a place
+pub record IsPrepared {D L : Type 0} (disks : disk.Ghosts D) (loader : Ghosts L) (host after : HostState D) (place : ℕ) (old new : L) (user : UserName) (request : Request) (locations : List Location) (ready : Fetched × Loading) : Type 0 where
+  pub store : LogState D BlockRecord
+  pub whole : after ≡ record host { store = record { state = store; base = host.store.base } }
+  pub before : Held (State D)
+  pub there : slice_get host.trees place ≡ Some before
+  pub between : L
+  pub fetches : Fetches disks loader host.store.state store old between [] ready.0
+  pub located : map (λ (got : Got). got.0) ready.0 ≡ locations
+  pub loaded : IsLoaded loader host.operator (views disks host) (log_of before.state) user request between new ready.1

@@ -1,13 +1,15 @@
 //! One request, and what comes of it.
-ghost use Rattle.std.specs.Prelude.{◌≡◌, ◌≢◌, ◌<◌, ◌^◌, [], Some, length};
+ghost use Rattle.std.specs.Prelude.{◌≡◌, ◌≢◌, ◌<◌, ◌^◌, [], Some, IfOk, length};
+ghost use Rattle.up_host.specs.Calls.{IsTried};
 ghost use Rattle.up_host.specs.Done.{is_invalid};
 ghost use Rattle.up_host.specs.Routes.{service_of};
 ghost use Rattle.up_host.specs.Serves.{KeysServe, StoreServes, position_by};
-ghost use Rattle.up_host.specs.TreeCalls.{LoadsFor, PlaceIs, TreeAnswers};
+ghost use Rattle.up_host.specs.TreeCalls.{IsPrepared, LoadsFor, PlaceIs, Touches, TreeAnswers};
 ghost use Rattle.std.specs.Result.{result_ok};
 ghost use Rattle.up_host.specs.declared.service.Service.TheVariants as service;
 
 use crate::event::Event;
+use crate::fetching::fetch_all;
 use crate::host::Host;
 use crate::loading::place_of;
 use std::alloc::{AllocError, Global};
@@ -43,6 +45,27 @@ impl<D: Disk> Host<D> {
             },
             Err(_) => Err(Reply::OutOfMemory),
         }
+    }
+
+    // Fetches the blocks, and loads the groups.
+    fn make_ready<L: Loader>(
+        &mut self,
+        alloc: Global,
+        loader: &mut L,
+        place: usize,
+        locations: Items<Location>,
+        user: &User,
+        request: &Request,
+    ) -> Result<(Fetched, Loaded), AllocError>
+        requires { place < length self.old.trees }
+        ensures prepared { IfOk result (IsPrepared D.Disk L.Loader self.old self.new place
+            loader.old loader.new user.now request.now locations) }
+        ensures touches { Touches D.Disk self.old self.new }
+        ensures tried { IsTried L.Loader loader.old loader.new }
+    {
+        let fetched = fetch_all(alloc, &mut self.store.state, loader, locations)?;
+        let loaded = self.load_for(alloc, loader, place, user, request)?;
+        Ok((fetched, loaded))
     }
 
     // Loads the groups for a request to the tree at a place.

@@ -17,6 +17,7 @@ mod held;
 mod host;
 mod loading;
 mod service;
+mod users;
 
 pub use event::Event;
 pub use held::Held;
