@@ -17,6 +17,7 @@ returns-in_err-loaded-clause-touches g c = rw (← c.self.view_is) (record { sto
 
 pub returns-clause-prepared : goal.returns-clause-prepared
 returns-clause-prepared g c =
+    let l = c.in_ok-loaded.ensures.loaded in
     rw (← c.self.view_is) (record {
       store = c.fetch_all.new.store;
       whole = refl;
@@ -25,7 +26,17 @@ returns-clause-prepared g c =
       between = c.fetch_all.new.loader;
       fetches = c.in_ok-fetched.ensures.fetches;
       located = c.in_ok-fetched.ensures.locations;
-      loaded = c.in_ok-loaded.ensures.loaded;
+      loaded = record {
+        gathers = record {
+          more = l.gathers.more;
+          whole = l.gathers.whole;
+          needed = l.gathers.needed;
+          own = l.gathers.own;
+          asks = record { asked = l.gathers.asks.asked; counts = l.gathers.asks.counts; tie = l.gathers.asks.tie };
+        };
+        names = l.names;
+        enough = l.enough;
+      };
     })
 
 pub returns-clause-touches : goal.returns-clause-touches
