@@ -12,6 +12,7 @@ use crate::event::Event;
 use crate::fetching::fetch_all;
 use crate::host::Host;
 use crate::loading::place_of;
+use crate::service::{Service, service_of};
 use std::alloc::{AllocError, Global};
 use std::hash::RandomState;
 use up_dir::{Fetched, Route, route_of, step};
@@ -22,10 +23,50 @@ use up_lists::Items;
 use up_names::User;
 use up_peer::Loader;
 use up_policy::Loaded;
+use up_sign::Session;
 use up_store::store_step;
 use up_wire::{Reply, Request};
 
 impl<D: Disk> Host<D> {
+    /// Answers a user's request, at a moment in seconds since 1970.
+    pub fn ask<L: Loader>(
+        &mut self,
+        alloc: Global,
+        loader: &mut L,
+        session: &Session,
+        request: &Request,
+        now: u64,
+    ) -> Event
+    {
+        match service_of(request) {
+            Service::Directory => self.ask_tree(alloc, loader, session.user(), request, now),
+            Service::Store => self.ask_store(alloc, session.user(), request, now),
+            Service::Keys => self.ask_keys(alloc, session.user(), request, now),
+        }
+    }
+
+    // A request to a tree.
+    fn ask_tree<L: Loader>(
+        &mut self,
+        alloc: Global,
+        loader: &mut L,
+        user: &User,
+        request: &Request,
+        now: u64,
+    ) -> Event
+    {
+        let (place, locations) = match self.place_asked(alloc, user, request) {
+            Ok(there) => there,
+            Err(refusal) => return bare(alloc, self.random, refusal, now),
+        };
+        match self.make_ready(alloc, loader, place, locations, user, request) {
+            Ok((fetched, loaded)) => {
+                self.answer(alloc, place, user, request, fetched, loaded, now)
+            }
+            Err(_) => bare(alloc, self.random, Reply::OutOfMemory, now),
+        }
+    }
+
     // The place of the tree that a request goes to, and the blocks that have to be fetched for it; or the reply for which no tree is
     // looked at.
     #[tactic(auto, using(crate::proofs::PlacedLemmas::refused_for, crate::proofs::PlacedLemmas::wrong_host))]
@@ -145,6 +186,13 @@ impl<D: Disk> Host<D> {
         let reply = key_step(&mut self.keys.state, user, request);
         answered(alloc, self.random, reply, position, now)
     }
+}
+
+// An event with nothing loaded or fetched, for which no log was looked at.
+fn bare(alloc: Global, random: RandomState, reply: Reply, now: u64) -> Event
+    ensures { result ≡ record { reply = reply; position = 0; loaded = []; fetched = []; moment = now } }
+{
+    event_at(alloc, random, reply, 0, now)
 }
 
 // An event of the store or the keys: a malformed request is answered without a look at the log.

@@ -1,0 +1,255 @@
+//! A host is opened over its disks, and hands them back.
+ghost use Rattle.std.specs.Prelude.{◌≡◌, ◌<◌, ◌≤◌, ◌+◌, ◌∷◌, ◌++◌, ◌-◌, false, length, vec_capacity, vec_len};
+ghost use Rattle.std.specs.List.{AllByRecursion, IsDistinct};
+ghost use Rattle.std.specs.Str.{bytes_eq};
+ghost use Rattle.up_journal.specs.Journal.{AreLimits};
+ghost use Rattle.up_keys.specs.Records.{largest_room};
+ghost use Rattle.up_policy.specs.Trees.{owns_snapshots};
+
+use crate::fault::HostFault;
+use crate::held::Held;
+use crate::host::Host;
+use std::alloc::Global;
+use std::collections::VecDeque;
+use std::hash::RandomState;
+use up_blocks::Blocks;
+use up_disk::{Disk, Disks};
+use up_journal::{AppendWhy, Limits, OpenFault, OpenWhy};
+use up_keys::Keys;
+use up_lists::Items;
+use up_names::User;
+use up_tree::TreeState;
+use up_wire::KeyRecord;
+
+// How many bytes a record of the store may have: a block, and what stands before it.
+const STORE_LARGEST: u64 = 1_048_640;
+
+impl<D: Disk> Host<D> {
+    /// Opens the disks of a host in their order: those of the trees of these owners, that of the store, and that of the keys. The limits
+    /// are those of the trees and the keys; a record of the store may have 1,048,640 bytes.
+    ///
+    /// A refusal hands all disks back, in their order, with the place of the first one that was refused, and why.
+    pub fn open(
+        alloc: Global,
+        random: RandomState,
+        name: &str,
+        operator: User,
+        owners: Items<User>,
+        disks: Disks<D>,
+        limits: Limits,
+    ) -> Result<Host<D>, HostFault<D>>
+        requires limits { AreLimits limits }
+        requires least { largest_room ≤ limits.largest }
+        requires most { limits.largest ≤ 1048000 }
+        requires disks { length disks.disks ≡ length owners + 2 }
+        requires owners { IsDistinct bytes_eq owners }
+        requires plain { AllByRecursion (λ owner. owns_snapshots owner ≡ false) owners }
+    {
+        let mut room = disks;
+        let mut trees = Vec::new(alloc);
+        let name = match String::from_str(alloc, name) {
+            Ok(name) => name,
+            Err(_) => return Err(wanting(room)),
+        };
+        if trees.reserve(owners.len() as usize).is_err() {
+            return Err(wanting(room));
+        }
+        if let Err(refused) = open_trees(alloc, &mut room, &mut trees, owners, limits) {
+            return Err(refusal(room, trees, refused));
+        }
+        let store = match open_store(alloc, &mut room, limits) {
+            Ok(store) => store,
+            Err(refused) => return Err(refusal(room, trees, refused)),
+        };
+        match open_keys(alloc, &mut room, limits) {
+            Ok(keys) => Ok(Host {
+                name,
+                operator,
+                trees,
+                store,
+                keys,
+                room,
+                random,
+            }),
+            Err(refused) => Err(refusal_of_keys(room, trees, store, refused)),
+        }
+    }
+
+    /// The disks, in the order in which they were opened.
+    pub fn into_disks(self) -> Disks<D> {
+        let Host {
+            name: _,
+            operator: _,
+            trees,
+            store,
+            keys,
+            mut room,
+            random: _,
+        } = self;
+        put_trees(&mut room, trees);
+        put_back(&mut room, store.state.into_disk());
+        put_back(&mut room, keys.state.into_disk());
+        room
+    }
+
+    /// Adds the record of a user, which is its one from then on, and answers the record's position, from 1.
+    pub fn enrol(&mut self, card: KeyRecord) -> Result<u64, AppendWhy> {
+        self.keys.state.put(card)
+    }
+
+    /// The record of a user: its last one, or `None` exactly where it has none.
+    pub fn key_record(&self, user: &User) -> Option<&KeyRecord> {
+        self.keys.state.lookup(user)
+    }
+}
+
+// No disk was opened, for want of memory.
+fn wanting<D>(room: Disks<D>) -> HostFault<D> {
+    HostFault {
+        disks: room,
+        which: 0,
+        why: OpenWhy::OutOfMemory,
+    }
+}
+
+// Opens the trees of these owners, each over the first disk that is left.
+fn open_trees<D: Disk>(
+    alloc: Global,
+    room: &mut Disks<D>,
+    trees: &mut Vec<Held<TreeState<D>>>,
+    owners: Items<User>,
+    limits: Limits,
+) -> Result<(), OpenFault<D>> {
+    let mut left = VecDeque::from(owners.into_vec());
+    loop {
+        let Some(owner) = left.pop_front() else {
+            return Ok(());
+        };
+        let state = open_tree(alloc, room, owner, limits)?;
+        trees.push_reserved(state);
+    }
+}
+
+// Opens the tree of one owner.
+fn open_tree<D: Disk>(
+    alloc: Global,
+    room: &mut Disks<D>,
+    owner: User,
+    limits: Limits,
+) -> Result<Held<TreeState<D>>, OpenFault<D>> {
+    let Some(disk) = room.take() else {
+        unreachable!()
+    };
+    let state = TreeState::open(alloc, disk, owner, limits)?;
+    let base = state.position();
+    Ok(Held { state, base })
+}
+
+fn open_store<D: Disk>(
+    alloc: Global,
+    room: &mut Disks<D>,
+    limits: Limits,
+) -> Result<Held<Blocks<D>>, OpenFault<D>> {
+    let Some(disk) = room.take() else {
+        unreachable!()
+    };
+    let limits = Limits {
+        records: limits.records,
+        device: limits.device,
+        largest: STORE_LARGEST,
+    };
+    let state = Blocks::open(alloc, disk, limits)?;
+    let base = state.position();
+    Ok(Held { state, base })
+}
+
+fn open_keys<D: Disk>(
+    alloc: Global,
+    room: &mut Disks<D>,
+    limits: Limits,
+) -> Result<Held<Keys<D>>, OpenFault<D>> {
+    let Some(disk) = room.take() else {
+        unreachable!()
+    };
+    let state = Keys::open(alloc, disk, limits)?;
+    let base = state.position();
+    Ok(Held { state, base })
+}
+
+// The disk after those of the opened trees was refused.
+fn refusal<D: Disk>(
+    room: Disks<D>,
+    trees: Vec<Held<TreeState<D>>>,
+    refused: OpenFault<D>,
+) -> HostFault<D> {
+    let mut disks = room;
+    let left = disks.len();
+    let which = trees.len() as u64;
+    put_trees(&mut disks, trees);
+    put_back(&mut disks, refused.disk);
+    turn(&mut disks, left);
+    HostFault {
+        disks,
+        which: place_of_refusal(which, refused.why),
+        why: refused.why,
+    }
+}
+
+// The last disk was refused.
+fn refusal_of_keys<D: Disk>(
+    room: Disks<D>,
+    trees: Vec<Held<TreeState<D>>>,
+    store: Held<Blocks<D>>,
+    refused: OpenFault<D>,
+) -> HostFault<D> {
+    let mut disks = room;
+    let which = trees.len() as u64 + 1;
+    put_trees(&mut disks, trees);
+    put_back(&mut disks, store.state.into_disk());
+    put_back(&mut disks, refused.disk);
+    HostFault {
+        disks,
+        which: place_of_refusal(which, refused.why),
+        why: refused.why,
+    }
+}
+
+// Want of memory has no place.
+fn place_of_refusal(which: u64, why: OpenWhy) -> u64 {
+    match why {
+        OpenWhy::OutOfMemory => 0,
+        OpenWhy::Damaged(_) | OpenWhy::Chain(_, _, _) | OpenWhy::OldFormat | OpenWhy::Fault => which,
+    }
+}
+
+// Puts the disks of trees behind the others, in their order.
+fn put_trees<D: Disk>(room: &mut Disks<D>, trees: Vec<Held<TreeState<D>>>) {
+    let mut left = VecDeque::from(trees);
+    loop {
+        let Some(held) = left.pop_front() else {
+            return;
+        };
+        put_back(room, held.state.into_disk());
+    }
+}
+
+// Puts a disk behind the others, for which there is room.
+fn put_back<D>(room: &mut Disks<D>, disk: D)
+    requires { 0 < room.old.spare }
+    ensures disks { room.new.disks ≡ room.old.disks ++ disk ∷ [] }
+    ensures spare { room.new.spare ≡ room.old.spare - 1 }
+{
+    let Ok(()) = room.push(disk) else {
+        unreachable!()
+    };
+}
+
+// Puts the first disks behind the others, one after the other, so many times.
+fn turn<D>(room: &mut Disks<D>, times: u64) {
+    for _turn in 0..times {
+        let Some(disk) = room.take() else {
+            return;
+        };
+        put_back(room, disk);
+    }
+}
