@@ -10,6 +10,10 @@ pub mod AloneLemmas
 pub mod ServiceLemmas
 pub mod ServingLemmas
 pub mod TreeLemmas
+pub mod CallLemmas
+pub mod CameLemmas
+pub mod QuietLemmas
+pub mod CountLemmas
 pub mod GroupTextLemmas
 pub mod RoundLemmas
 pub mod PlacedLemmas

@@ -59,7 +59,7 @@ nat_lt-true a b e = grind (arith, nat_tests)
 nat_lt-false : (a b : ℕ) → nat_lt a b ≡ false → b ≤ a
 nat_lt-false a b e = grind (arith, nat_tests)
 
-position-place : {X : Type 0} (p : X → Bool) (xs : List X) (i : ℕ) → position p xs ≡ Some i → (i ≡ position_or_len p xs) × (i < length xs)
+pub position-place : {X : Type 0} (p : X → Bool) (xs : List X) (i : ℕ) → position p xs ≡ Some i → (i ≡ position_or_len p xs) × (i < length xs)
 position-place p xs i h = by_test (nat_lt (position_or_len p xs) (length xs)) refl where
   by_test : (b : Bool) → nat_lt (position_or_len p xs) (length xs) ≡ b → (i ≡ position_or_len p xs) × (i < length xs)
   by_test true e = let k : Some i ≡ Some (position_or_len p xs) = sym h ∙ ap (λ b. cond b (Some (position_or_len p xs)) None) e in let same : i ≡ position_or_len p xs = cc in (same, let lt : position_or_len p xs < length xs = nat_lt-true (position_or_len p xs) (length xs) e in omega arith)
@@ -87,12 +87,12 @@ find_other q (z ∷ zs) (suc i) x y h k l = ap (λ r. cond (q z) (Some z) r) (fi
 
 -- ---- the reply is one of three
 
-data Kind (answered : Reply) : Type 0 where
+pub data Kind (answered : Reply) : Type 0 where
   Wants : answered ≡ reply.OutOfMemory → Kind answered
   Fails : answered ≡ reply.Io → Kind answered
   Exact : answered ≢ reply.OutOfMemory → answered ≢ reply.Io → Kind answered
 
-kind_of : (answered : Reply) → Kind answered
+pub kind_of : (answered : Reply) → Kind answered
 kind_of reply.OutOfMemory = Kind.Wants refl
 kind_of reply.Io = Kind.Fails refl
 kind_of (reply.Ok what) = Kind.Exact (λ e. cc) (λ e. cc)
@@ -162,25 +162,25 @@ module _ {D L : Type 0} (disks : disk.Ghosts D) (loader : Ghosts L) (joined : (x
   abbrev would_add : List Rec
   would_add = added (log_of p.before.state) e.loaded e.fetched q.user q.request e.moment
 
-  found : tree_for host.trees p.owner ≡ Some p.before
+  pub found : tree_for host.trees p.owner ≡ Some p.before
   found = found_at (is_of p.owner) host.trees p.place p.at ∙ p.there
 
-  owner_is : p.before.state.owner ≡ p.owner
+  pub owner_is : p.before.state.owner ≡ p.owner
   owner_is = found_is host.trees p.owner p.before found
 
-  owner_then : p.state.owner ≡ p.owner
+  pub owner_then : p.state.owner ≡ p.owner
   owner_then = ap (λ fixed. fixed.0) p.grows.stays ∙ owner_is
 
   after_trees : after.trees ≡ slice_set host.trees p.place then_held
   after_trees = ap (λ (h : HostState D). h.trees) p.whole
 
-  found_then : tree_for after.trees p.owner ≡ Some then_held
+  pub found_then : tree_for after.trees p.owner ≡ Some then_held
   found_then = ap (λ trees. tree_for trees p.owner) after_trees ∙ found_set (is_of p.owner) host.trees p.place then_held p.at ((bytes_eq-Decides p.state.owner p.owner).1 owner_then)
 
-  view_before : (views disks host).tree p.owner ≡ Some (tree_view disks p.before)
+  pub view_before : (views disks host).tree p.owner ≡ Some (tree_view disks p.before)
   view_before = ap (option_map (tree_view disks)) found
 
-  view_after : (views disks after).tree p.owner ≡ Some (tree_view disks then_held)
+  pub view_after : (views disks after).tree p.owner ≡ Some (tree_view disks then_held)
   view_after = ap (option_map (tree_view disks)) found_then
 
   not_of : (owner : UserName) → owner ≢ p.owner → (held : Held (State D)) → held.state.owner ≡ p.owner → is_of owner held ≡ false
@@ -191,12 +191,12 @@ module _ {D L : Type 0} (disks : disk.Ghosts D) (loader : Ghosts L) (joined : (x
       by true h = absurd (differs (sym ((bytes_eq-Decides held.state.owner owner).0 h) ∙ is))
 
   -- another owner's tree stays
-  other_tree : (owner : UserName) → owner ≢ p.owner → (views disks after).tree owner ≡ (views disks host).tree owner
+  pub other_tree : (owner : UserName) → owner ≢ p.owner → (views disks after).tree owner ≡ (views disks host).tree owner
   other_tree owner differs =
       ap (option_map (tree_view disks)) (ap (λ trees. tree_for trees owner) after_trees
       ∙ find_other (is_of owner) host.trees p.place p.before then_held p.there (not_of owner differs p.before owner_is) (not_of owner differs then_held owner_then))
 
-  tree_later : LaterSeen (tree_view disks p.before) (tree_view disks then_held)
+  pub tree_later : LaterSeen (tree_view disks p.before) (tree_view disks then_held)
   tree_later = record { begins = p.grows.begins; failed = p.grows.later; fixed = p.grows.stays }
 
   each_later : (owner : UserName) → LaterTree ((views disks host).tree owner) ((views disks after).tree owner)
@@ -209,7 +209,7 @@ module _ {D L : Type 0} (disks : disk.Ghosts D) (loader : Ghosts L) (joined : (x
           (subst (λ v. LaterTree v ((views disks after).tree p.owner)) (sym view_before) (subst (λ w. LaterTree (Some (tree_view disks p.before)) w) (sym view_after) tree_later))
       by false h = subst (LaterTree ((views disks host).tree owner)) (sym (other_tree owner (λ same. false≢true (sym h ∙ (bytes_eq-Decides owner p.owner).1 same)))) (later_tree ((views disks host).tree owner))
 
-  store_same : (views disks after).store.seen ≡ (views disks host).store.seen
+  pub store_same : (views disks after).store.seen ≡ (views disks host).store.seen
   store_same = ap (λ (h : HostState D). h.store.state.log) p.whole ∙ p.fetches.reads.log
 
   store_later : LaterSeen (views disks host).store (views disks after).store
@@ -219,16 +219,16 @@ module _ {D L : Type 0} (disks : disk.Ghosts D) (loader : Ghosts L) (joined : (x
     fixed = ap (λ (h : HostState D). h.store.state.limits) p.whole ∙ p.fetches.reads.limits;
   }
 
-  store_own : (views disks after).store.own ≡ (views disks host).store.own
+  pub store_own : (views disks after).store.own ≡ (views disks host).store.own
   store_own = ap (λ (h : HostState D). positions h.store.base (length h.store.state.log)) p.whole ∙ ap (λ (xs : List BlockRecord). positions host.store.base (length xs)) p.fetches.reads.log
 
-  keys_same : (views disks after).keys ≡ (views disks host).keys
+  pub keys_same : (views disks after).keys ≡ (views disks host).keys
   keys_same = ap (λ (h : HostState D). (views disks h).keys) p.whole
 
-  to_tree : log_asked q ≡ Some (LogName.OfTree p.owner)
+  pub to_tree : log_asked q ≡ Some (LogName.OfTree p.owner)
   to_tree = ap (λ (s : Service). log_by s (route_of q.user q.request)) p.serves ∙ ap tree_on p.route_is
 
-  not_refused : refusal (views disks host) q ≡ None
+  pub not_refused : refusal (views disks host) q ≡ None
   unfolding refusal
   not_refused = ap (refusal_by (views disks host) q) p.serves ∙ ap (route_refusal (views disks host)) p.route_is
       ∙ ap (λ (v : Option SeenTree). if is_some v then None else Some reply.WrongHost) view_before

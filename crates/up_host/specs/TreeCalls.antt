@@ -14,9 +14,10 @@ use Rattle.up_entry.specs.declared.entries.Location.{Location}
 use Rattle.up_host.specs.Alone.{HostState, is_of, views}
 use Rattle.up_host.specs.Asks.{Tries}
 use Rattle.up_host.specs.Blocks.{Got}
+use Rattle.up_host.specs.Calls.{IsPlain, IsTried}
 use Rattle.up_host.specs.Fetches.{Fetches, StoreReads}
 use Rattle.up_answers.specs.Fetching.{Fetched}
-use Rattle.up_host.specs.Routes.{Question, route_refusal, service_of}
+use Rattle.up_host.specs.Routes.{Question, refusal, route_refusal, service_of}
 use Rattle.up_host.specs.Rounds.{Gathers, IsNeeded, bound}
 use Rattle.up_host.specs.Views.{Views}
 use Rattle.up_host.specs.declared.event.Event.{Event}
@@ -112,3 +113,9 @@ pub record IsPrepared {D L : Type 0} (disks : disk.Ghosts D) (loader : Ghosts L)
   pub fetches : Fetches disks loader host.store.state store old between [] ready.0
   pub located : map (λ (got : Got). got.0) ready.0 ≡ locations
   pub loaded : IsLoaded loader host.operator (views disks host) (log_of before.state) user request between new ready.1
+
+-- What a directory request came to: a tree was asked; or none was looked at; or memory was wanting.
+pub data TreeCame {D L : Type 0} (disks : disk.Ghosts D) (loader : Ghosts L) (host after : HostState D) (old new : L) (q : Question) (e : Event) : Type 0 where
+  Served : TreeServes disks loader host after old new q e → TreeCame disks loader host after old new q e
+  Refused : after ≡ host → new ≡ old → refusal (views disks host) q ≡ Some e.reply → e.position ≡ 0 → IsPlain e → TreeCame disks loader host after old new q e
+  Wanting : e.reply ≡ reply.OutOfMemory → Touches disks host after → IsTried loader old new → TreeCame disks loader host after old new q e

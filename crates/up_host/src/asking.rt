@@ -1,10 +1,12 @@
 //! One request, and what comes of it.
 ghost use Rattle.std.specs.Prelude.{◌≡◌, ◌≢◌, ◌<◌, ◌^◌, [], Some, IfOk, length};
-ghost use Rattle.up_host.specs.Calls.{IsTried};
+ghost use Rattle.up_host.specs.Alone.{Counts, IsAlone, disk_faults, views};
+ghost use Rattle.up_host.specs.Calls.{Asked, IsTried};
+ghost use Rattle.up_host.specs.Came.{Came};
 ghost use Rattle.up_host.specs.Done.{is_invalid};
 ghost use Rattle.up_host.specs.Routes.{service_of};
 ghost use Rattle.up_host.specs.Serves.{KeysServe, StoreServes, position_by};
-ghost use Rattle.up_host.specs.TreeCalls.{IsPrepared, LoadsFor, PlaceIs, Touches, TreeAnswers};
+ghost use Rattle.up_host.specs.TreeCalls.{GoesTo, IsPrepared, LoadsFor, PlaceIs, Touches, TreeAnswers, TreeCame};
 ghost use Rattle.std.specs.Result.{result_ok};
 ghost use Rattle.up_host.specs.declared.service.Service.TheVariants as service;
 
@@ -37,11 +39,39 @@ impl<D: Disk> Host<D> {
         request: &Request,
         now: u64,
     ) -> Event
+        requires moment { now < 253402207200 }
+        ensures asked { Asked L.Loader self.old.operator (views D.Disk self.old) loader.old
+            (record { user = session.now.user; request = request.now }) result
+            (views D.Disk self.new) loader.new }
+        ensures alone { IsAlone (views D.Disk self.old) (views D.Disk self.new)
+            (record { user = session.now.user; request = request.now }) result }
+        ensures counts { Counts (disk_faults D.Disk self.old) (disk_faults D.Disk self.new)
+            (L.faults loader.old) (L.faults loader.new) result }
+        ensures moment { result.moment ≡ now }
+        ensures operator { self.new.operator ≡ self.old.operator }
+        ensures name { self.new.name ≡ self.old.name }
+    {
+        self.ask_by(alloc, loader, session.user(), request, now)
+    }
+
+    // The same for a user, whoever has signed on.
+    fn ask_by<L: Loader>(
+        &mut self,
+        alloc: Global,
+        loader: &mut L,
+        user: &User,
+        request: &Request,
+        now: u64,
+    ) -> Event
+        requires moment { now < 253402207200 }
+        ensures came { Came D.Disk L.Loader self.old self.new loader.old loader.new
+            (record { user = user.now; request = request.now }) result }
+        ensures moment { result.moment ≡ now }
     {
         match service_of(request) {
-            Service::Directory => self.ask_tree(alloc, loader, session.user(), request, now),
-            Service::Store => self.ask_store(alloc, session.user(), request, now),
-            Service::Keys => self.ask_keys(alloc, session.user(), request, now),
+            Service::Directory => self.ask_tree(alloc, loader, user, request, now),
+            Service::Store => self.ask_store(alloc, user, request, now),
+            Service::Keys => self.ask_keys(alloc, user, request, now),
         }
     }
 
@@ -54,11 +84,38 @@ impl<D: Disk> Host<D> {
         request: &Request,
         now: u64,
     ) -> Event
+        requires directory { service_of request.now ≡ service.Directory }
+        requires moment { now < 253402207200 }
+        ensures came { TreeCame D.Disk L.Loader self.old self.new loader.old loader.new
+            (record { user = user.now; request = request.now }) result }
+        ensures moment { result.moment ≡ now }
     {
-        let (place, locations) = match self.place_asked(alloc, user, request) {
-            Ok(there) => there,
-            Err(refusal) => return bare(alloc, self.random, refusal, now),
-        };
+        match self.place_asked(alloc, user, request) {
+            Ok((place, locations)) => {
+                self.ask_at(alloc, loader, place, locations, user, request, now)
+            }
+            Err(refusal) => bare(alloc, self.random, refusal, now),
+        }
+    }
+
+    // A request to the tree at a place, for which these blocks have to be fetched.
+    fn ask_at<L: Loader>(
+        &mut self,
+        alloc: Global,
+        loader: &mut L,
+        place: usize,
+        locations: Items<Location>,
+        user: &User,
+        request: &Request,
+        now: u64,
+    ) -> Event
+        requires there { GoesTo self.old.trees user.now request.now (place, locations) }
+        requires directory { service_of request.now ≡ service.Directory }
+        requires moment { now < 253402207200 }
+        ensures came { TreeCame D.Disk L.Loader self.old self.new loader.old loader.new
+            (record { user = user.now; request = request.now }) result }
+        ensures moment { result.moment ≡ now }
+    {
         match self.make_ready(alloc, loader, place, locations, user, request) {
             Ok((fetched, loaded)) => {
                 self.answer(alloc, place, user, request, fetched, loaded, now)
