@@ -100,3 +100,10 @@ module _ {D L : Type 0} (disks : disk.Ghosts D) (loader : Ghosts L) (same : (l :
       by (Kind.Wants wants) = TreeCame.Wanting wants (touches_nothing disks host) tries_nothing
       by (Kind.Fails io) = refused (λ wants. let k : reply.Io ≡ reply.OutOfMemory = sym io ∙ wants in cc)
       by (Kind.Exact wants fails) = refused wants
+
+-- so with an event that has nothing loaded or fetched
+pub came_to_bare : {D L : Type 0} (disks : disk.Ghosts D) (loader : Ghosts L) (same : (l : L) → loader.tied l l) (host : HostState D) (l : L) (q : Question) (e : Event) (given : Reply) (now : ℕ) → service_of q.request ≡ service.Directory
+    → (given ≢ reply.OutOfMemory → route_refusal (views disks host) (route_of q.user q.request) ≡ Some given) → e ≡ record { reply = given; position = 0; loaded = []; fetched = []; moment = now } → TreeCame disks loader host host l l q e
+came_to_bare disks loader same host l q e given now serves is at =
+    let bare : Event = record { reply = given; position = 0; loaded = []; fetched = []; moment = now } in
+    subst (TreeCame disks loader host host l l q) (sym at) (came_to_none disks loader same host l q bare serves is refl (record { loaded = refl; fetched = refl }))
