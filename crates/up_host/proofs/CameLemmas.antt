@@ -103,7 +103,7 @@ alone_refused a q e is = record {
 -- ---- a tree was asked
 
 module _ {D L : Type 0} (disks : disk.Ghosts D) (loader : Ghosts L) (joined : (x y z : L) → loader.tied x y → loader.tied y z → loader.tied x z) (host after : HostState D) (old new : L) (q : Question) (e : Event) (p : TreeServes disks loader host after old new q e) where
-  then_view : SeenTree
+  abbrev then_view : SeenTree
   then_view = tree_view disks (record { state = p.state; base = p.before.base })
 
   own_grown : AddsOwn (tree_view disks p.before) (tree_view disks (record { state = p.state; base = p.before.base }))

@@ -183,7 +183,7 @@ get_quiet : (log : List BlockRecord) (found : Option (List ℕ)) → QuietLeads 
 get_quiet log None = refl
 get_quiet log (Some reference) = go (holds log reference)
   where
-    go : (b : Bool) → QuietLeads (if b then Leads.Reads {E = BlockRecord} reference else Leads.Says reply.NotExist)
+    go : (b : Bool) → QuietLeads {E = BlockRecord} (if b then Leads.Reads reference else Leads.Says reply.NotExist)
     go true = tt
     go false = refl
 

@@ -35,6 +35,7 @@ use Rattle.up_replay.specs.declared.node.Node.{Node}
 use Rattle.up_replay.specs.Trees.{children, is_file, kind_of, node_at, tree_of}
 use Rattle.up_replay.specs.Snapshots.{snap_at}
 use Rattle.up_replay.specs.Logs.{Log}
+use Rattle.up_replay.specs.Sizes.{size_of}
 use Rattle.up_list.specs.declared.asking.Asked.{Asked}
 use Rattle.up_list.specs.declared.asking.Asked.TheVariants.{Lookup, WhichAccess, GroupText, Delete, Put, Glob, Watch}
 use Rattle.up_list.specs.Asking.{owner_asked}
@@ -44,7 +45,6 @@ use Rattle.up_list.specs.Entries.{entry_at}
 use Rattle.up_list.specs.Globs.{glob_reply, is_whole, literal_path, one_row, rows, rows_reply, whole_reply}
 use Rattle.up_list.specs.Looks.{Look, has_some, look_now, rights, shown}
 use Rattle.up_list.specs.Reads.{access_reply, entry_reply, file_text, group_text_reply, lookup_reply, text_reply}
-use Rattle.up_pattern.specs.Patterns.{PatternName}
 use Rattle.up_answers.specs.Answers.{answer, asked_outcome, fault_reply, log_owner, outcome, tree_outcome}
 use Rattle.up_entry.specs.declared.fault.EntryFault.{EntryFault}
 use Rattle.up_entry.specs.declared.fault.EntryFault.TheVariants as entry_fault
@@ -171,7 +171,7 @@ text_quiet look path =
     go None = refl
     go (Some text) = refl
 
-glob_quiet : (look : Look) (pattern : PatternName) → is_io (glob_reply look pattern) ≡ false
+glob_quiet : (look : Look) (pattern : _) → is_io (glob_reply look pattern) ≡ false
 unfolding glob_reply whole_reply
 glob_quiet look pattern = go (is_whole pattern)
   where
