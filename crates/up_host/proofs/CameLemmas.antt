@@ -181,7 +181,7 @@ module _ {D : Type 0} (disks : disk.Ghosts D) (host after : HostState D) (q : Qu
         let grown : length host.store.state.log ≤ length p.new.log = length-Begins p.grows.begins in
         let fits = p.fits in
         subst (λ (h : HostState D). AddsOwn (views disks host).store (views disks h).store) (sym p.whole)
-            (grown_own host.store.state.log p.new.log host.store.base (disks.faults host.store.state.disk) (disks.faults p.new.disk) host.store.state.limits p.new.limits fits (omega (arith, fits, grown)));
+        (grown_own host.store.state.log p.new.log host.store.base (disks.faults host.store.state.disk) (disks.faults p.new.disk) host.store.state.limits p.new.limits fits (omega (arith, fits, grown)));
     keys_grown = subst (λ (h : HostState D). AddsOwn (views disks host).keys (views disks h).keys) (sym p.whole) refl;
   }
 
@@ -197,7 +197,7 @@ module _ {D : Type 0} (disks : disk.Ghosts D) (host after : HostState D) (q : Qu
         let grown : length host.keys.state.log ≤ length p.new.log = length-Begins p.grows.begins in
         let fits = p.fits in
         subst (λ (h : HostState D). AddsOwn (views disks host).keys (views disks h).keys) (sym p.whole)
-            (grown_own host.keys.state.log p.new.log host.keys.base (disks.faults host.keys.state.disk) (disks.faults p.new.disk) host.keys.state.limits p.new.limits fits (omega (arith, fits, grown)));
+        (grown_own host.keys.state.log p.new.log host.keys.base (disks.faults host.keys.state.disk) (disks.faults p.new.disk) host.keys.state.limits p.new.limits fits (omega (arith, fits, grown)));
   }
 
 -- ---- any request

@@ -30,7 +30,8 @@ use up_store::store_step;
 use up_wire::{Reply, Request};
 
 impl<D: Disk> Host<D> {
-    /// Answers a user's request, at a moment in seconds since 1970.
+    /// Answers the request of whoever has signed on, at a moment in seconds since 1970, before the year 10000. The answer is at the end of
+    /// its log, and the host's operator asks for what has to be loaded.
     pub fn ask<L: Loader>(
         &mut self,
         alloc: Global,

@@ -5,9 +5,7 @@
 //! loaded is a loading of the needed groups, and what the host has itself came from its own trees and store. The loader was asked
 //! exactly for the rest, in order. `specs/Alone.antt` says what a caller learns besides who alone writes to the logs.
 //!
-//! Proved so far are the parts of a call: what is made ready for it (blocks, and rounds of loads), and the answers of a tree, the store
-//! and the keys; and that one call made of them is `Asked` (`tree_asked`, `store_asked`, `keys_asked`, `asked_refused` of
-//! `proofs/`). The call itself is not there yet.
+//! Proved so far: enrolling, key records, and the call itself. Opening a host, and a host as a peer, are not there yet.
 #![tactic(auto)]
 
 mod asking;
