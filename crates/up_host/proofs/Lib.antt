@@ -14,6 +14,7 @@ pub mod CallLemmas
 pub mod CameLemmas
 pub mod QuietLemmas
 pub mod CountLemmas
+pub mod RunLemmas
 pub mod GroupTextLemmas
 pub mod RoundLemmas
 pub mod PlacedLemmas

@@ -13,3 +13,4 @@ pub mod Alone
 pub mod Serves
 pub mod TreeCalls
 pub mod Came
+pub mod Runs

@@ -14,10 +14,12 @@ mod fetching;
 mod held;
 mod host;
 mod loading;
+mod run;
 mod service;
 mod users;
 
 pub use event::Event;
 pub use held::Held;
 pub use host::Host;
+pub use run::{Call, ask_all};
 pub use service::Service;
