@@ -13,3 +13,4 @@ pub mod TreeLemmas
 pub mod GroupTextLemmas
 pub mod RoundLemmas
 pub mod PlacedLemmas
+pub mod OpeningLemmas

@@ -12,3 +12,4 @@ pub mod Calls
 pub mod Alone
 pub mod Serves
 pub mod TreeCalls
+pub mod Opens

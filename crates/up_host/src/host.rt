@@ -1,9 +1,10 @@
 //! A host that is not shared.
 use crate::held::Held;
+use crate::room::Room;
 use std::hash::RandomState;
 use std::marker::Model;
 use up_blocks::Blocks;
-use up_disk::{Disk, Disks};
+use up_disk::Disk;
 use up_keys::Keys;
 use up_names::User;
 use up_tree::TreeState;
@@ -16,8 +17,8 @@ pub struct Host<D: Disk> {
     pub(crate) trees: Vec<Held<TreeState<D>>>,
     pub(crate) store: Held<Blocks<D>>,
     pub(crate) keys: Held<Keys<D>>,
-    // empty, with room for the disk of each log
-    pub(crate) room: Disks<D>,
+    // for the disk of each log
+    pub(crate) room: Room<D>,
     pub(crate) random: RandomState,
 }
 

@@ -12,14 +12,18 @@
 
 mod asking;
 mod event;
+mod fault;
 mod fetching;
 mod held;
 mod host;
 mod loading;
+mod opening;
+mod room;
 mod service;
 mod users;
 
 pub use event::Event;
+pub use fault::HostFault;
 pub use held::Held;
 pub use host::Host;
 pub use service::Service;
