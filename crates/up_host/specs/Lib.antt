@@ -13,3 +13,4 @@ pub mod Alone
 pub mod Serves
 pub mod TreeCalls
 pub mod Opens
+pub mod Peers

@@ -18,12 +18,15 @@ mod held;
 mod host;
 mod loading;
 mod opening;
+mod peer;
 mod room;
 mod service;
+mod texts;
 mod users;
 
 pub use event::Event;
 pub use fault::HostFault;
 pub use held::Held;
 pub use host::Host;
+pub use peer::TreePeer;
 pub use service::Service;
