@@ -14,3 +14,4 @@ pub mod GroupTextLemmas
 pub mod RoundLemmas
 pub mod PlacedLemmas
 pub mod OpeningLemmas
+pub mod HandingLemmas

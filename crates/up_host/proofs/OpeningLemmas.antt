@@ -5,8 +5,8 @@ use Rattle.std.specs.List.{AllByRecursion}
 use Rattle.up_disk.specs.declared.disk.Disk.{Ghosts}
 use Rattle.up_blocks.specs.Records as blocks
 use Rattle.up_blocks.specs.declared.record.BlockRecord.{BlockRecord}
-use Rattle.up_host.specs.Alone.{HostState, IsBase}
-use Rattle.up_host.specs.Opens.{IsNoLog, OpensHeld, OpensHost, OpensTree, OpensTrees, RefusesHost, StopsAtOne, StopsAtTree, TakesOne, TakesTrees, WereOpened, WasOpenedAs, disk_of, logs_of, place_by, store_limits}
+use Rattle.up_host.specs.Alone.{IsBase}
+use Rattle.up_host.specs.Opens.{IsNoLog, OpensHeld, OpensLogs, OpensTree, OpensTrees, RefusesHost, StopsAtOne, StopsAtTree, TakesOne, TakesTrees, WereOpened, WasOpenedAs, disk_of, logs_of, place_by, store_limits}
 use Rattle.up_host.specs.Routes.{LogName}
 use Rattle.up_host.specs.declared.fault.HostFault.{HostFault}
 use Rattle.up_host.specs.declared.held.Held.{Held}
@@ -44,12 +44,17 @@ pub turned : {X : Type 0} (xs ys : List X) → drop (length xs) (xs ++ ys) ++ ta
 turned [] ys = refl
 turned (x ∷ xs) ys = ap (λ zs. drop (length xs) (xs ++ ys) ++ x ∷ zs) (take_front xs ys) ∙ ap (λ zs. zs ++ x ∷ xs) (drop_front xs ys)
   where
-    take_front : (as bs : List _) → take (length as) (as ++ bs) ≡ as
+    take_front : (fs bs : List _) → take (length fs) (fs ++ bs) ≡ fs
     take_front [] bs = refl
-    take_front (a ∷ as) bs = ap (λ zs. a ∷ zs) (take_front as bs)
-    drop_front : (as bs : List _) → drop (length as) (as ++ bs) ≡ bs
+    take_front (f ∷ fs) bs = ap (λ zs. f ∷ zs) (take_front fs bs)
+
+    drop_front : (fs bs : List _) → drop (length fs) (fs ++ bs) ≡ bs
     drop_front [] bs = refl
-    drop_front (a ∷ as) bs = drop_front as bs
+    drop_front (f ∷ fs) bs = drop_front fs bs
+
+-- a list that is not turned yet
+pub turn_none : {X : Type 0} (xs : List X) → xs ≡ drop 0 xs ++ take 0 xs
+turn_none xs = sym (append-nil xs)
 
 -- ---- trees, one more
 
@@ -135,9 +140,8 @@ module _ {D : Type 0} (disks : Ghosts D) (limits : Limits) where
     opened = subst (λ os. OpensTrees disks limits os so_far.used trees) (sym (so_far.owners_are ∙ ap (λ xs. so_far.before ++ xs) none ∙ append-nil so_far.before)) so_far.opened;
   }
 
-
   pub one_opened : (owners : List UserName) (old new after : List D) (left rest : List UserName) (owner : UserName) (trees : List (Held (tree.State D))) (held : Held (tree.State D)) → SoFar owners old new left trees → left ≡ owner ∷ rest
-      → TakesOne {D} {Held (tree.State D)} (OpensTree disks limits owner) (IsNoLog disks (tree.records_in owner) limits) new after (Ok held) → SoFar owners old after rest (trees ++ held ∷ [])
+      → TakesOne (OpensTree disks limits owner) (IsNoLog disks (tree.records_in owner) limits) new after (Ok held) → SoFar owners old after rest (trees ++ held ∷ [])
   one_opened owners old new after left rest owner trees held so_far is takes = record {
     before = so_far.before ++ owner ∷ [];
     owners_are = so_far.owners_are ∙ ap (λ xs. so_far.before ++ xs) is ∙ sym (append_assoc so_far.before (owner ∷ []) rest);
@@ -147,7 +151,7 @@ module _ {D : Type 0} (disks : Ghosts D) (limits : Limits) where
   }
 
   pub one_refused : (owners : List UserName) (old new after : List D) (left rest : List UserName) (owner : UserName) (trees : List (Held (tree.State D))) (fault : OpenFault D) → SoFar owners old new left trees → left ≡ owner ∷ rest
-      → TakesOne {D} {Held (tree.State D)} (OpensTree disks limits owner) (IsNoLog disks (tree.records_in owner) limits) new after (Err fault) → StopsAtTree disks limits owners old after trees fault
+      → TakesOne (OpensTree disks limits owner) (IsNoLog disks (tree.records_in owner) limits) new after (Err fault) → StopsAtTree disks limits owners old after trees fault
   one_refused owners old new after left rest owner trees fault so_far is takes = record {
     before = so_far.before;
     owner = owner;
@@ -192,7 +196,7 @@ module _ {D : Type 0} (disks : Ghosts D) (limits : Limits) where
   })
 
   pub store_refused : (owners : List UserName) (given room rest : List D) (trees : List (Held (tree.State D))) (refused : OpenFault D) (fault : HostFault D) → TakesTrees disks limits owners given room trees
-      → TakesOne {D} {Held (LogState D BlockRecord)} (OpensHeld disks blocks.blocks_in (store_limits limits)) (IsNoLog disks blocks.blocks_in (store_limits limits)) room rest (Err refused)
+      → TakesOne (OpensHeld disks blocks.blocks_in (store_limits limits)) (IsNoLog disks blocks.blocks_in (store_limits limits)) room rest (Err refused)
       → fault.disks.disks ≡ map disk_of trees ++ refused.disk ∷ rest → fault.which ≡ place_by (length trees) refused.why → fault.why ≡ refused.why → RefusesHost disks limits owners given fault
   store_refused owners given room rest trees refused fault takes one handed which why = inr (record {
     before = map LogName.OfTree owners;
@@ -213,8 +217,8 @@ module _ {D : Type 0} (disks : Ghosts D) (limits : Limits) where
   })
 
   pub keys_refused : (owners : List UserName) (given room rest last : List D) (trees : List (Held (tree.State D))) (store : Held (LogState D BlockRecord)) (refused : OpenFault D) (fault : HostFault D) → TakesTrees disks limits owners given room trees
-      → TakesOne {D} {Held (LogState D BlockRecord)} (OpensHeld disks blocks.blocks_in (store_limits limits)) (IsNoLog disks blocks.blocks_in (store_limits limits)) room rest (Ok store)
-      → TakesOne {D} {Held (LogState D KeyRecord)} (OpensHeld disks keys.records_in limits) (IsNoLog disks keys.records_in limits) rest last (Err refused)
+      → TakesOne (OpensHeld disks blocks.blocks_in (store_limits limits)) (IsNoLog disks blocks.blocks_in (store_limits limits)) room rest (Ok store)
+      → TakesOne (OpensHeld disks keys.records_in limits) (IsNoLog disks keys.records_in limits) rest last (Err refused)
       → last ≡ [] → fault.disks.disks ≡ map disk_of trees ++ store.state.disk ∷ refused.disk ∷ [] → fault.which ≡ place_by (length trees + 1) refused.why → fault.why ≡ refused.why → RefusesHost disks limits owners given fault
   keys_refused owners given room rest last trees store refused fault takes one two none handed which why = inr (record {
     before = map LogName.OfTree owners ++ LogName.OfStore ∷ [];
@@ -235,18 +239,16 @@ module _ {D : Type 0} (disks : Ghosts D) (limits : Limits) where
     which_is = which ∙ ap (λ n. place_by n refused.why) (sym (length-append (map LogName.OfTree owners) (LogName.OfStore ∷ []) ∙ ap (λ n. n + 1) (length_map LogName.OfTree owners ∙ as_many_owners owners takes.used trees takes.opened)));
   })
 
-  pub host_opened : (name : List ℕ) (owners : List UserName) (given room rest last : List D) (host : HostState D) → TakesTrees disks limits owners given room host.trees
-      → TakesOne {D} {Held (LogState D BlockRecord)} (OpensHeld disks blocks.blocks_in (store_limits limits)) (IsNoLog disks blocks.blocks_in (store_limits limits)) room rest (Ok host.store)
-      → TakesOne {D} {Held (LogState D KeyRecord)} (OpensHeld disks keys.records_in limits) (IsNoLog disks keys.records_in limits) rest last (Ok host.keys)
-      → last ≡ [] → host.name ≡ name → OpensHost disks limits name host.operator owners given host
-  host_opened name owners given room rest last host takes one two none named = record {
-    name_is = named;
-    operator_is = refl;
+  pub logs_opened : (owners : List UserName) (given room rest last : List D) (trees : List (Held (tree.State D))) (store : Held (LogState D BlockRecord)) (key_log : Held (LogState D KeyRecord)) → TakesTrees disks limits owners given room trees
+      → TakesOne (OpensHeld disks blocks.blocks_in (store_limits limits)) (IsNoLog disks blocks.blocks_in (store_limits limits)) room rest (Ok store)
+      → TakesOne (OpensHeld disks keys.records_in limits) (IsNoLog disks keys.records_in limits) rest last (Ok key_log)
+      → last ≡ [] → OpensLogs disks limits owners given trees store key_log
+  logs_opened owners given room rest last trees store key_log takes one two none = record {
     of_trees = takes.used;
     of_store = one.disk;
     of_keys = two.disk;
     given_is = takes.taken ∙ ap (λ xs. takes.used ++ xs) (one.taken ∙ ap (λ xs. one.disk ∷ xs) (two.taken ∙ ap (λ xs. two.disk ∷ xs) none));
-    trees = takes.opened;
-    store = one.opened;
-    keys = two.opened;
+    trees_are = takes.opened;
+    store_is = one.opened;
+    keys_are = two.opened;
   }

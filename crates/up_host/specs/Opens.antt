@@ -1,6 +1,7 @@
 -- How the disks of a host are opened, one after the other. This project's own.
 use Rattle.std.specs.Prelude.{◌≡◌, ◌⊎◌, ℕ, List, [], ◌∷◌, ◌++◌, length, map, Result, IfErr, IfOk}
 use Rattle.up_blocks.specs.Records as blocks
+use Rattle.up_blocks.specs.declared.record.BlockRecord.{BlockRecord}
 use Rattle.up_disk.specs.Spare.{Spared}
 use Rattle.up_disk.specs.declared.disk.Disk.{Ghosts}
 use Rattle.up_faults.specs.Counts.{HasCause}
@@ -18,6 +19,7 @@ use Rattle.up_journal.specs.declared.limits.Limits.{Limits}
 use Rattle.up_keys.specs.Records as keys
 use Rattle.up_names.specs.Texts.{UserName}
 use Rattle.up_tree.specs.States as tree
+use Rattle.up_wire.specs.declared.keys.KeyRecord.{KeyRecord}
 
 -- the records of an image of at most so many bytes each, or its damage
 abbrev pub Reader : Type 0 → Type 0
@@ -87,17 +89,21 @@ WereOpened disks limits [] [] [] = Unit {0}
 WereOpened disks limits (log ∷ logs) (disk ∷ more) (after ∷ rest) = WasOpenedAs disks limits log disk after × WereOpened disks limits logs more rest
 WereOpened disks limits logs more rest = ⊥
 
--- A host was opened: its trees over the first disks, its store over the next, its keys over the last.
-pub record OpensHost {D : Type 0} (disks : Ghosts D) (limits : Limits) (name : List ℕ) (operator : UserName) (owners : List UserName) (given : List D) (host : HostState D) : Type 0 where
-  pub name_is : host.name ≡ name
-  pub operator_is : host.operator ≡ operator
+-- All were opened: the trees over the first disks, the store over the next, the keys over the last.
+pub record OpensLogs {D : Type 0} (disks : Ghosts D) (limits : Limits) (owners : List UserName) (given : List D) (trees : List (Held (tree.State D))) (store : Held (LogState D BlockRecord)) (key_log : Held (LogState D KeyRecord)) : Type 0 where
   pub of_trees : List D
   pub of_store : D
   pub of_keys : D
   pub given_is : given ≡ of_trees ++ of_store ∷ of_keys ∷ []
-  pub trees : OpensTrees disks limits owners of_trees host.trees
-  pub store : OpensHeld disks blocks.blocks_in (store_limits limits) of_store host.store
-  pub keys : OpensHeld disks keys.records_in limits of_keys host.keys
+  pub trees_are : OpensTrees disks limits owners of_trees trees
+  pub store_is : OpensHeld disks blocks.blocks_in (store_limits limits) of_store store
+  pub keys_are : OpensHeld disks keys.records_in limits of_keys key_log
+
+-- a host was opened
+pub record OpensHost {D : Type 0} (disks : Ghosts D) (limits : Limits) (name : List ℕ) (operator : UserName) (owners : List UserName) (given : List D) (host : HostState D) : Type 0 where
+  pub name_is : host.name ≡ name
+  pub operator_is : host.operator ≡ operator
+  pub logs : OpensLogs disks limits owners given host.trees host.store host.keys
 
 -- where a refusal is: want of memory has no place
 abbrev pub place_by : ℕ → OpenWhy → ℕ

@@ -3,7 +3,7 @@ ghost use Rattle.std.specs.Prelude.{◌≡◌, ◌<◌, ◌≤◌, ◌+◌, [], 
 ghost use Rattle.std.specs.List.{AllByRecursion, IsDistinct};
 ghost use Rattle.std.specs.Str.{bytes_eq};
 ghost use Rattle.up_blocks.specs.Records as blocks;
-ghost use Rattle.up_host.specs.Opens.{IsNoLog, OpensHeld, OpensHost, OpensTree, RefusesHost, StopsAtTree, TakesOne, TakesTrees, disk_of, disks_of, place_by, store_limits};
+ghost use Rattle.up_host.specs.Opens.{IsNoLog, OpensHeld, OpensHost, OpensLogs, OpensTree, RefusesHost, StopsAtTree, TakesOne, TakesTrees, disk_of, disks_of, place_by, store_limits};
 ghost use Rattle.up_journal.specs.Journal.{AreLimits};
 ghost use Rattle.up_journal.specs.declared.fault.OpenWhy.TheVariants as why;
 ghost use Rattle.up_keys.specs.Records as keys;
@@ -29,11 +29,21 @@ use up_tree::TreeState;
 // How many bytes a record of the store may have: a block, and what stands before it.
 const STORE_LARGEST: u64 = 1_048_640;
 
+// The logs of a host, and the room for their disks.
+#[derive(Drop)]
+struct Logs<D: Disk> {
+    trees: Vec<Held<TreeState<D>>>,
+    store: Held<Blocks<D>>,
+    keys: Held<Keys<D>>,
+    room: Room<D>,
+}
+
 impl<D: Disk + Drop> Host<D> {
     /// Opens the disks of a host in their order: those of the trees of these owners, that of the store, and that of the keys. The limits
     /// are those of the trees and the keys; a record of the store may have 1,048,640 bytes.
     ///
     /// A refusal hands all disks back, in their order, with the place of the first one that was refused, and why.
+    #[tactic(auto, using(crate::proofs::HandingLemmas::bases))]
     pub fn open(
         alloc: Global,
         random: RandomState,
@@ -53,37 +63,25 @@ impl<D: Disk + Drop> Host<D> {
         ensures refuses { IfErr result (RefusesHost D.Disk limits owners disks.disks) }
         ensures spare { IfErr result (λ fault. fault.disks.spare ≡ disks.spare) }
     {
-        let mut room = disks;
-        let mut trees = Vec::new(alloc);
-        let name = match String::from_str(alloc, name) {
-            Ok(name) => name,
-            Err(_) => return Err(wanting(room)),
+        let Ok(name) = String::from_str(alloc, name) else {
+            return Err(wanting(disks));
         };
-        if trees.reserve(owners.len() as usize).is_err() {
-            return Err(wanting(room));
-        }
-        if let Err(refused) = open_trees(alloc, &mut room, &mut trees, owners, limits) {
-            return Err(refusal(room, trees, refused));
-        }
-        let store = match open_store(alloc, &mut room, limits) {
-            Ok(store) => store,
-            Err(refused) => return Err(refusal(room, trees, refused)),
-        };
-        match open_keys(alloc, &mut room, limits) {
-            Ok(keys) => Ok(Host {
+        match open_logs(alloc, owners, disks, limits) {
+            Ok(logs) => Ok(Host {
                 name,
                 operator,
-                trees,
-                store,
-                keys,
-                room: Room::of(room),
+                trees: logs.trees,
+                store: logs.store,
+                keys: logs.keys,
+                room: logs.room,
                 random,
             }),
-            Err(refused) => Err(refusal_of_keys(room, trees, store, refused)),
+            Err(fault) => Err(fault),
         }
     }
 
     /// The disks, in the order in which they were opened.
+    #[tactic(auto, using(crate::proofs::HandingLemmas::behind))]
     pub fn into_disks(self) -> Disks<D>
         ensures { result.disks ≡ disks_of self }
     {
@@ -104,6 +102,47 @@ impl<D: Disk + Drop> Host<D> {
     }
 }
 
+// Opens all disks, in their order.
+#[tactic(auto, using(crate::proofs::OpeningLemmas::tree_refused, crate::proofs::OpeningLemmas::store_refused, crate::proofs::OpeningLemmas::keys_refused, crate::proofs::OpeningLemmas::logs_opened, crate::proofs::HandingLemmas::stops_spare, crate::proofs::HandingLemmas::takes_spare, crate::proofs::HandingLemmas::two_left, crate::proofs::HandingLemmas::one_left, crate::proofs::HandingLemmas::none_left))]
+fn open_logs<D: Disk + Drop>(
+    alloc: Global,
+    owners: Items<User>,
+    disks: Disks<D>,
+    limits: Limits,
+) -> Result<Logs<D>, HostFault<D>>
+    requires limits { AreLimits limits }
+    requires least { largest_room ≤ limits.largest }
+    requires disks { length disks.disks ≡ length owners + 2 }
+    requires plain { AllByRecursion (λ owner. owns_snapshots owner ≡ false) owners }
+    ensures opens { IfOk result (λ logs. OpensLogs D.Disk limits owners disks.disks
+        logs.trees.items logs.store logs.keys) }
+    ensures room { IfOk result (λ logs. length logs.trees.items + 2 ≤ logs.room.spare) }
+    ensures refuses { IfErr result (RefusesHost D.Disk limits owners disks.disks) }
+    ensures spare { IfErr result (λ fault. fault.disks.spare ≡ disks.spare) }
+{
+    let mut room = disks;
+    let mut trees = Vec::new(alloc);
+    if trees.reserve(owners.len() as usize).is_err() {
+        return Err(wanting(room));
+    }
+    if let Err(refused) = open_trees(alloc, &mut room, &mut trees, owners, limits) {
+        return Err(refusal(room, trees, refused));
+    }
+    let store = match open_store(alloc, &mut room, limits) {
+        Ok(store) => store,
+        Err(refused) => return Err(refusal(room, trees, refused)),
+    };
+    match open_keys(alloc, &mut room, limits) {
+        Ok(keys) => Ok(Logs {
+            trees,
+            store,
+            keys,
+            room: Room::of(room),
+        }),
+        Err(refused) => Err(refusal_of_keys(room, trees, store, refused)),
+    }
+}
+
 // No disk was opened, for want of memory.
 fn wanting<D: Drop>(room: Disks<D>) -> HostFault<D>
     ensures { result ≡ record { disks = room; which = 0; why = why.OutOfMemory } }
@@ -116,6 +155,7 @@ fn wanting<D: Drop>(room: Disks<D>) -> HostFault<D>
 }
 
 // Opens the trees of these owners, each over the first disk that is left.
+#[tactic(auto, using(crate::proofs::OpeningLemmas::none_opened, crate::proofs::OpeningLemmas::all_opened, crate::proofs::OpeningLemmas::one_opened, crate::proofs::OpeningLemmas::one_refused))]
 fn open_trees<D: Disk + Drop>(
     alloc: Global,
     room: &mut Disks<D>,
@@ -213,6 +253,7 @@ fn open_keys<D: Disk + Drop>(
 }
 
 // The disk after those of the opened trees was refused.
+#[tactic(auto, using(crate::proofs::HandingLemmas::in_order))]
 fn refusal<D: Disk + Drop>(
     room: Disks<D>,
     trees: Vec<Held<TreeState<D>>>,
@@ -239,6 +280,7 @@ fn refusal<D: Disk + Drop>(
 }
 
 // The last disk was refused.
+#[tactic(auto, using(crate::proofs::HandingLemmas::behind))]
 fn refusal_of_keys<D: Disk + Drop>(
     room: Disks<D>,
     trees: Vec<Held<TreeState<D>>>,
@@ -271,7 +313,8 @@ fn place_of_refusal(which: u64, why: OpenWhy) -> u64
 {
     match why {
         OpenWhy::OutOfMemory => 0,
-        OpenWhy::Damaged(_) | OpenWhy::Chain(_, _, _) | OpenWhy::OldFormat | OpenWhy::Fault => which,
+        OpenWhy::Damaged(_) | OpenWhy::Chain(_, _, _) | OpenWhy::OldFormat | OpenWhy::Fault =>
+            which,
     }
 }
 
@@ -302,6 +345,7 @@ fn put_back<D: Drop>(room: &mut Disks<D>, disk: D)
 }
 
 // Puts the first disks behind the others, one after the other, so many times.
+#[tactic(auto, using(crate::proofs::OpeningLemmas::turn_none, crate::proofs::OpeningLemmas::turn_step))]
 fn turn<D: Drop>(room: &mut Disks<D>, times: u64)
     requires { times ≤ length room.old.disks }
     ensures disks { room.new.disks
@@ -310,7 +354,7 @@ fn turn<D: Drop>(room: &mut Disks<D>, times: u64)
 {
     for _turn in 0..times {
         let Some(disk) = room.take() else {
-            return;
+            unreachable!()
         };
         put_back(room, disk);
     }
