@@ -16,8 +16,8 @@ use Rattle.up_wire.specs.declared.keys.KeyRecord.{KeyRecord}
 -- those of the opened trees and the refused one, and then the others
 pub in_order : {X : Type 0} (front rest given back all : List X) (x : X) (n : ℕ) → given ≡ front ++ rest → back ≡ given ++ x ∷ [] → n ≡ length front → all ≡ drop n back ++ take n back → all ≡ rest ++ x ∷ front
 in_order front rest given back all x n is then many turn =
-    let whole : back ≡ front ++ rest ++ x ∷ [] = then ∙ ap (λ xs. xs ++ x ∷ []) is ∙ append_assoc front rest (x ∷ []) in
-    turn ∙ ap (λ xs. drop n xs ++ take n xs) whole ∙ ap (λ m. drop m (front ++ rest ++ x ∷ []) ++ take m (front ++ rest ++ x ∷ [])) many
+    let whole : back ≡ front ++ (rest ++ x ∷ []) = then ∙ ap (λ xs. xs ++ x ∷ []) is ∙ append_assoc front rest (x ∷ []) in
+    turn ∙ ap (λ xs. drop n xs ++ take n xs) whole ∙ ap (λ m. drop m (front ++ (rest ++ x ∷ [])) ++ take m (front ++ (rest ++ x ∷ []))) many
     ∙ turned front (rest ++ x ∷ []) ∙ append_assoc rest (x ∷ []) front
 
 -- those of the trees, and two more

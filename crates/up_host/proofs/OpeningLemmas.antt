@@ -24,33 +24,32 @@ use Rattle.up_wire.specs.declared.keys.KeyRecord.{KeyRecord}
 next_of : {X : Type 0} (xs : List X) (i : ℕ) → i < length xs → (x : X) × (drop i xs ≡ x ∷ drop (suc i) xs) × (take (suc i) xs ≡ take i xs ++ x ∷ [])
 next_of [] i h = absurd (omega (arith, h))
 next_of (x ∷ xs) zero h = (x, refl, refl)
-next_of (x ∷ xs) (suc i) h = let rest = next_of xs i (omega (arith, h)) in (rest.0, rest.1.0, ap (λ ys. x ∷ ys) rest.1.1)
+next_of (x ∷ xs) (suc i) h = let rest = next_of xs i (omega (arith, h)) in (rest.0, rest.1, ap (λ ys. x ∷ ys) rest.2)
 
 -- a list that is turned by i elements is turned by one more
 pub turn_step : {X : Type 0} (xs room rest : List X) (i : ℕ) (x : X) → i < length xs → room ≡ drop i xs ++ take i xs → room ≡ x ∷ rest → rest ++ x ∷ [] ≡ drop (i + 1) xs ++ take (i + 1) xs
 turn_step xs room rest i x h is taken =
     let next = next_of xs i h in
-    let whole : x ∷ rest ≡ next.0 ∷ (drop (suc i) xs ++ take i xs) = sym taken ∙ is ∙ ap (λ ys. ys ++ take i xs) next.1.0 in
+    let whole : x ∷ rest ≡ next.0 ∷ (drop (suc i) xs ++ take i xs) = sym taken ∙ is ∙ ap (λ ys. ys ++ take i xs) next.1 in
     let first : x ≡ next.0 = cc in
     let others : rest ≡ drop (suc i) xs ++ take i xs = cc in
     ap (λ ys. ys ++ x ∷ []) others
     ∙ append_assoc (drop (suc i) xs) (take i xs) (x ∷ [])
-    ∙ ap (λ y. drop (suc i) xs ++ take i xs ++ y ∷ []) first
-    ∙ ap (λ ys. drop (suc i) xs ++ ys) (sym next.1.1)
+    ∙ ap (λ y. drop (suc i) xs ++ (take i xs ++ y ∷ [])) first
+    ∙ ap (λ ys. drop (suc i) xs ++ ys) (sym next.2)
     ∙ ap (λ n. drop n xs ++ take n xs) (sym (add-one i))
+
+take_front : {X : Type 0} (fs bs : List X) → take (length fs) (fs ++ bs) ≡ fs
+take_front [] bs = refl
+take_front (f ∷ fs) bs = ap (λ zs. f ∷ zs) (take_front fs bs)
+
+drop_front : {X : Type 0} (fs bs : List X) → drop (length fs) (fs ++ bs) ≡ bs
+drop_front [] bs = refl
+drop_front (f ∷ fs) bs = drop_front fs bs
 
 -- a list that has another behind it is turned to it
 pub turned : {X : Type 0} (xs ys : List X) → drop (length xs) (xs ++ ys) ++ take (length xs) (xs ++ ys) ≡ ys ++ xs
-turned [] ys = refl
-turned (x ∷ xs) ys = ap (λ zs. drop (length xs) (xs ++ ys) ++ x ∷ zs) (take_front xs ys) ∙ ap (λ zs. zs ++ x ∷ xs) (drop_front xs ys)
-  where
-    take_front : (fs bs : List _) → take (length fs) (fs ++ bs) ≡ fs
-    take_front [] bs = refl
-    take_front (f ∷ fs) bs = ap (λ zs. f ∷ zs) (take_front fs bs)
-
-    drop_front : (fs bs : List _) → drop (length fs) (fs ++ bs) ≡ bs
-    drop_front [] bs = refl
-    drop_front (f ∷ fs) bs = drop_front fs bs
+turned xs ys = ap (λ zs. drop (length xs) (xs ++ ys) ++ zs) (take_front xs ys) ∙ ap (λ zs. zs ++ xs) (drop_front xs ys)
 
 -- a list that is not turned yet
 pub turn_none : {X : Type 0} (xs : List X) → xs ≡ drop 0 xs ++ take 0 xs
@@ -175,6 +174,7 @@ module _ {D : Type 0} (disks : Ghosts D) (limits : Limits) where
 
   pub tree_refused : (owners : List UserName) (given room : List D) (trees : List (Held (tree.State D))) (refused : OpenFault D) (fault : HostFault D) → StopsAtTree disks limits owners given room trees refused
       → fault.disks.disks ≡ map disk_of trees ++ refused.disk ∷ room → fault.which ≡ place_by (length trees) refused.why → fault.why ≡ refused.why → RefusesHost disks limits owners given fault
+  unfolding others
   tree_refused owners given room trees refused fault stops handed which why = inr (record {
     before = map LogName.OfTree stops.before;
     log = LogName.OfTree stops.owner;

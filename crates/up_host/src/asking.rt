@@ -36,7 +36,8 @@ impl<D: Disk> Host<D> {
         session: &Session,
         request: &Request,
         now: u64,
-    ) -> Event {
+    ) -> Event
+    {
         match service_of(request) {
             Service::Directory => self.ask_tree(alloc, loader, session.user(), request, now),
             Service::Store => self.ask_store(alloc, session.user(), request, now),
@@ -52,7 +53,8 @@ impl<D: Disk> Host<D> {
         user: &User,
         request: &Request,
         now: u64,
-    ) -> Event {
+    ) -> Event
+    {
         let (place, locations) = match self.place_asked(alloc, user, request) {
             Ok(there) => there,
             Err(refusal) => return bare(alloc, self.random, refusal, now),
