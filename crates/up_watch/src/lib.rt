@@ -13,6 +13,7 @@
 
 mod batch;
 mod changed;
+mod decided;
 mod events;
 mod items;
 mod watcher;
