@@ -1,0 +1,2 @@
+//! Begun.
+#![tactic(auto)]
