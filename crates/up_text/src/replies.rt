@@ -27,7 +27,7 @@ pub fn reply_lines(alloc: Global, reply: &Reply) -> Result<Items<Bytes>, AllocEr
 
 /// Adds the lines of a reply.
 #[tactic(auto, unfolding(crate::specs::Replies::reply_words))]
-fn add_lines(alloc: Global, lines: &mut Vec<Bytes>, reply: &Reply) -> Result<(), AllocError>
+pub(crate) fn add_lines(alloc: Global, lines: &mut Vec<Bytes>, reply: &Reply) -> Result<(), AllocError>
     ensures { OnOk result (lines.new.items ≡ lines.old.items
         ++ map (λ words. spaced words) (reply_words reply.now)) }
 {
@@ -57,7 +57,7 @@ fn add_lines(alloc: Global, lines: &mut Vec<Bytes>, reply: &Reply) -> Result<(),
 }
 
 /// Adds a line.
-fn add_line(lines: &mut Vec<Bytes>, line: Vec<u8>) -> Result<(), AllocError>
+pub(crate) fn add_line(lines: &mut Vec<Bytes>, line: Vec<u8>) -> Result<(), AllocError>
     ensures { OnOk result (lines.new.items ≡ lines.old.items ++ line.items ∷ []) }
 {
     lines.push(Items::from_vec(line))?;
@@ -65,7 +65,7 @@ fn add_line(lines: &mut Vec<Bytes>, line: Vec<u8>) -> Result<(), AllocError>
 }
 
 /// Adds a line of this word alone.
-fn add_word(alloc: Global, lines: &mut Vec<Bytes>, word: &[u8]) -> Result<(), AllocError>
+pub(crate) fn add_word(alloc: Global, lines: &mut Vec<Bytes>, word: &[u8]) -> Result<(), AllocError>
     ensures { OnOk result (lines.new.items ≡ lines.old.items ++ spaced (word.now ∷ []) ∷ []) }
 {
     let line = Vec::from_slice(alloc, word)?;
@@ -73,7 +73,7 @@ fn add_word(alloc: Global, lines: &mut Vec<Bytes>, word: &[u8]) -> Result<(), Al
 }
 
 /// Adds a line of a word and a number.
-fn add_counted(
+pub(crate) fn add_counted(
     alloc: Global,
     lines: &mut Vec<Bytes>,
     word: &[u8],

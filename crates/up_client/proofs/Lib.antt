@@ -1,0 +1,5 @@
+mod Fetching
+mod Files
+mod Following
+mod Holding
+mod Pieces

@@ -1,0 +1,54 @@
+-- How a client follows links. The limit on their number is this project's own.
+use Rattle.std.specs.Prelude.{ℕ, Bool, zero, suc, true, false, ◌&&◌, nat_lt, if◌then◌else◌, List, ◌++◌, length, drop, Option, Some, None, option_map, Result, Ok, Err}
+use Rattle.up_names.specs.declared.fault.NameFault.{NameFault}
+use Rattle.up_names.specs.declared.fault.NameFault.TheVariants as names
+use Rattle.up_names.specs.PathNames.{PathName, canonical, is_under}
+use Rattle.up_entry.specs.declared.entries.Entry.{Entry}
+use Rattle.up_entry.specs.declared.entries.Kind.{Kind}
+use Rattle.up_entry.specs.declared.entries.Kind.TheVariants as kinds
+use Rattle.up_wire.specs.declared.requests.Request.{Request}
+use Rattle.up_wire.specs.declared.replies.Done.{Done}
+use Rattle.up_wire.specs.declared.replies.Reply.{Reply}
+use Rattle.up_wire.specs.declared.replies.Reply.TheVariants as replies
+use Rattle.up_client.specs.declared.fault.ClientFault.{ClientFault}
+use Rattle.up_client.specs.declared.fault.ClientFault.TheVariants.{OutOfMemory, TooManyLinks, TooLong}
+use Rattle.up_client.specs.Replies.{outcome}
+use Rattle.up_client.specs.Talks.{Talking, done, and_then, reply_to}
+
+abbrev pub is_link : Kind → Bool
+is_link kinds.Link = true
+is_link kinds.File = false
+is_link kinds.Directory = false
+
+-- the target, and behind it what stands in the path behind its first n elements
+abbrev pub behind : ℕ → PathName → PathName → PathName
+behind n path target = record { owner = target.owner; elements = target.elements ++ drop n path.elements }
+
+-- Where a reply leads: a link that stands at the path or above it leads to its target and what stands behind the link.
+abbrev pub leads_to : PathName → Reply → Option PathName
+leads_to path (replies.FollowLink entry) =
+    if is_link entry.attr.kind && is_under path entry.name
+    then option_map (behind (length entry.name.elements) path) entry.link
+    else None
+leads_to path reply = None
+
+-- what is done where a reply leads; one that leads nowhere is the outcome
+abbrev pub led : Option PathName → (PathName → Talking Done) → Reply → Talking Done
+led (Some next) go reply = go next
+led None go reply = done (outcome reply)
+
+-- a path of at most 4,096 bytes
+abbrev pub short : PathName → Result PathName ClientFault
+short path = if nat_lt 4096 (length (canonical path)) then Err TooLong else Ok path
+
+-- why a path cannot take an element of another path: it grows too long
+abbrev pub fault_of : NameFault → ClientFault
+fault_of names.OutOfMemory = OutOfMemory
+fault_of fault = TooLong
+
+-- Asks at a path, and where a link is met, at the path to which it leads, of at most so many links.
+unfoldable pub following : (PathName → Request) → ℕ → PathName → Talking Done
+following request zero path =
+    and_then (reply_to (request path)) (λ reply. led (leads_to path reply) (λ next. done (Err TooManyLinks)) reply)
+following request (suc more) path =
+    and_then (reply_to (request path)) (λ reply. led (leads_to path reply) (λ next. and_then (done (short next)) (following request more)) reply)

@@ -1,0 +1,115 @@
+//! Links that are followed.
+ghost use Rattle.std.specs.Prelude.{◌≡◌, ◌≤◌, IfOk, IfSome, length, option_map, true};
+ghost use Rattle.up_names.specs.PathNames.{PathName, extended, is_name};
+ghost use Rattle.up_wire.specs.declared.requests.Request.{Request as Requests};
+ghost use Rattle.up_client.specs.Links.{behind, fault_of, following, leads_to, short};
+ghost use Rattle.up_client.specs.Talks.{Meant, Talks};
+
+use crate::ask::Ask;
+use crate::fault::ClientFault;
+use crate::replies::{outcome, reply_to};
+use std::alloc::{AllocError, Global};
+use up_entry::Kind;
+use up_names::{NameFault, Path};
+use up_wire::{Done, Reply, Request};
+
+/// How many links are followed.
+const MOST_LINKS: u64 = 20;
+
+/// A request that is made for a path.
+pub(crate) trait AtPath {
+    /// The request for a path.
+    ghost request: { Self → PathName → Requests };
+
+    fn at(&self, alloc: Global, path: &Path) -> Result<Request, AllocError>
+        ensures { IfOk result (λ made. made ≡ request self.now path.now) };
+}
+
+/// Asks at a path, and at those to which links lead.
+pub(crate) fn follow<A: Ask, R: AtPath>(
+    alloc: Global,
+    ask: &mut A,
+    request: &R,
+    path: &Path,
+) -> Result<Done, ClientFault>
+    ensures { Talks A.Ask (following (R.request request.now) 20 path.now) ask.old result ask.new }
+{
+    follow_on(alloc, ask, request, MOST_LINKS, path)
+}
+
+// The same where so many links may still be followed.
+fn follow_on<A: Ask, R: AtPath>(
+    alloc: Global,
+    ask: &mut A,
+    request: &R,
+    more: u64,
+    path: &Path,
+) -> Result<Done, ClientFault>
+    ensures { Talks A.Ask (following (R.request request.now) more path.now) ask.old result ask.new }
+{
+    let asked = request.at(alloc, path)?;
+    let reply = reply_to(alloc, ask, &asked)?;
+    let Some((n, target)) = link_in(path, &reply) else {
+        return outcome(reply);
+    };
+    if more == 0 {
+        return Err(ClientFault::TooManyLinks);
+    }
+    let next = behind(n, path, target)?;
+    follow_on(alloc, ask, request, more - 1, &next)
+}
+
+// Where a reply leads: of a link that stands at the path or above it, the number of its elements and its target.
+fn link_in<'a>(path: &Path, reply: &'a Reply) -> Option<(u64, &'a Path)>
+    ensures led { option_map (λ link. behind link.0 path.now link.1.now) result
+        ≡ leads_to path.now reply.now }
+    ensures within { IfSome result (λ link. link.0 ≤ length path.now.elements) }
+{
+    let Reply::FollowLink(entry) = reply else {
+        return None;
+    };
+    if !matches!(entry.attr.kind, Kind::Link) || !path.is_under(&entry.name) {
+        return None;
+    }
+    match &entry.link {
+        Some(target) => Some((entry.name.len(), target)),
+        None => None,
+    }
+}
+
+// The target, and behind it what stands in the path behind its first n elements.
+fn behind(n: u64, path: &Path, target: &Path) -> Result<Path, ClientFault>
+    requires { n ≤ length path.now.elements }
+    ensures { Meant result (short (behind n path.now target.now)) }
+{
+    // The text of a path parses to that path, so each of its elements is a name.
+    let _text = path.as_str();
+    let mut next = target.clone()?;
+    for i in n..path.len() {
+        if let Some(element) = path.element(i) {
+            next = joined(&next, element)?;
+        }
+    }
+    Ok(next)
+}
+
+// The path with an element of a path at its end.
+fn joined(path: &Path, element: &str) -> Result<Path, ClientFault>
+    requires { is_name element.now ≡ true }
+    ensures { Meant result (short (extended path.now element.now)) }
+{
+    match path.join(element) {
+        Ok(longer) => Ok(longer),
+        Err(fault) => Err(fault_of(fault)),
+    }
+}
+
+// Why a path could not take an element of another path.
+fn fault_of(fault: NameFault) -> ClientFault
+    ensures { result ≡ fault_of fault }
+{
+    match fault {
+        NameFault::OutOfMemory => ClientFault::OutOfMemory,
+        _ => ClientFault::TooLong,
+    }
+}

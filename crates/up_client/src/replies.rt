@@ -1,0 +1,66 @@
+//! What is made of one reply.
+ghost use Rattle.std.specs.Prelude.{◌≡◌};
+ghost use Rattle.up_client.specs.Replies.{bytes_in, outcome, position_in, reference_in};
+ghost use Rattle.up_client.specs.Talks.{Talks, reply_to};
+
+use crate::ask::{Ask, Failed};
+use crate::fault::ClientFault;
+use std::alloc::Global;
+use up_bytes::Bytes;
+use up_refs::Reference;
+use up_wire::{Done, Reply, Request};
+
+/// Asks one request.
+pub(crate) fn reply_to<A: Ask>(
+    alloc: Global,
+    ask: &mut A,
+    request: &Request,
+) -> Result<Reply, ClientFault>
+    ensures { Talks A.Ask (reply_to request.now) ask.old result ask.new }
+{
+    match ask.ask(alloc, request) {
+        Ok(reply) => Ok(reply),
+        Err(Failed) => Err(ClientFault::Failed),
+    }
+}
+
+/// What was done, or why nothing was.
+pub(crate) fn outcome(reply: Reply) -> Result<Done, ClientFault>
+    ensures { result ≡ outcome reply }
+{
+    match reply {
+        Reply::Ok(done) => Ok(done),
+        Reply::OutOfMemory => Err(ClientFault::OutOfMemory),
+        reply => Err(ClientFault::Refused(reply)),
+    }
+}
+
+/// The bytes of a block.
+pub(crate) fn bytes_in(done: Done) -> Result<Bytes, ClientFault>
+    ensures { result ≡ bytes_in done }
+{
+    match done {
+        Done::Bytes(bytes) => Ok(bytes),
+        _ => Err(ClientFault::Odd),
+    }
+}
+
+/// The reference of a block that was kept.
+pub(crate) fn reference_in(done: Done) -> Result<Reference, ClientFault>
+    ensures { result ≡ reference_in done }
+{
+    match done {
+        Done::Reference(reference) => Ok(reference),
+        _ => Err(ClientFault::Odd),
+    }
+}
+
+/// The position of a change.
+pub(crate) fn position_in(done: Done) -> Result<u64, ClientFault>
+    ensures { result ≡ position_in done }
+{
+    match done {
+        Done::Changed(position) => Ok(position),
+        _ => Err(ClientFault::Odd),
+    }
+}
