@@ -4,6 +4,7 @@ use std::hash::RandomState;
 use std::random::RandomSource;
 use std::rt::Files;
 use std::{fs, io};
+use up_case_files::ClientLines;
 use up_case_lines::{File, Tally, run_lines};
 use up_case_logs::{Crashes, Fields, Logs, Moves, Records};
 use up_case_texts::{
@@ -53,6 +54,7 @@ fn run_file<R: Files + RandomSource + AllocGlobal + Print>(
         text: text.as_str(),
     };
     match topic_of(name) {
+        "client" => run_lines(rt, file, ClientLines::new(), tally),
         "names" => run_lines(rt, file, Names, tally),
         "texts" => run_lines(rt, file, Texts, tally),
         "tree" => run_lines(rt, file, Trees, tally),

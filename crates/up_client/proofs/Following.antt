@@ -1,6 +1,6 @@
 -- Links that are followed.
-use Rattle.std.proofs.Common.{◌≡◌, ℕ, suc, zero, Option, Some, None, Result, Ok, Err, refl, sym, subst}
-use Rattle.up_names.specs.PathNames.{PathName}
+use Rattle.std.proofs.Common.{◌≡◌, ℕ, suc, zero, Bool, true, false, nat_lt, if◌then◌else◌, length, Option, Some, None, Result, Ok, Err, refl, sym, subst}
+use Rattle.up_names.specs.PathNames.{PathName, canonical}
 use Rattle.up_wire.specs.declared.requests.Request.{Request}
 use Rattle.up_wire.specs.declared.replies.Done.{Done}
 use Rattle.up_wire.specs.declared.replies.Reply.{Reply}
@@ -69,3 +69,11 @@ module _ {S : Type 0} (asked : Ghosts S) (same : (a : S) → asked.tied a a) (jo
       let led_on = talks_then asked same joined (done (short next)) (following request less) b b c fit result
       (talks_meant asked same joined (Ok fit) (short next) b (λ failed. cc) meant) after in
       subst (λ m. Talks asked (following request m path) a result c) (sym is) (follow_led less path next a b c reply result first some led_on)
+
+-- no path is a want of an answer
+short_tested : (long : Bool) (path : PathName) (fault : ClientFault) → (if long then Err faults.TooLong else Ok path) ≡ Err fault → fault ≡ faults.Failed → ⊥
+short_tested true path fault is failed = cc
+short_tested false path fault is failed = cc
+
+pub short_answered : (next : PathName) (fault : ClientFault) → Meant (Err fault) (short next) → IsAnswered {X = Done} (Err fault)
+short_answered next fault meant failed = short_tested (nat_lt 4096 (length (canonical next))) next fault (meant (λ none. cc)) (cc)

@@ -3,3 +3,4 @@ mod Files
 mod Following
 mod Holding
 mod Pieces
+mod Storing

@@ -1,8 +1,8 @@
 //! To put a file.
-ghost use Rattle.std.specs.Prelude.{◌≡◌, [], ◌<◌, length, IfOk, IsErrOf};
+ghost use Rattle.std.specs.Prelude.{◌≡◌, [], drop, take, IfOk, IsErrOf};
 ghost use Rattle.up_faults.specs.Counts.{HasCause};
 ghost use Rattle.up_client.specs.declared.fault.ClientFault.TheVariants as client_fault;
-ghost use Rattle.up_client.specs.Putting.{block_at, entering, pieces_of, put_file_at, put_talk, reference_from, stored, storing};
+ghost use Rattle.up_client.specs.Putting.{block_at, block_size, entering, pieces_of, put_file_at, put_talk, reference_from, stored, storing};
 ghost use Rattle.up_client.specs.Talks.{Held, Talks};
 
 use crate::ask::Ask;
@@ -87,14 +87,23 @@ fn store_all<A: Ask>(alloc: Global, ask: &mut A, bytes: &[u8]) -> Result<Items<B
     let mut rest = bytes;
     let mut offset = 0;
     while !rest.is_empty() {
-        let size = rest.len().min(BLOCK_SIZE);
-        let (piece, behind) = rest.split_at(size);
+        let (piece, behind) = first_piece(rest);
+        let size = piece.len() as u64;
         let reference = store(alloc, ask, piece)?;
-        blocks.push(block_at(alloc, offset, size as u64, reference))?;
-        offset += size as u64;
+        blocks.push(block_at(alloc, offset, size, reference))?;
+        offset += size;
         rest = behind;
     }
     Ok(Items::from_vec(blocks))
+}
+
+// The first piece of bytes, of at most the size of a block, and what is behind it.
+fn first_piece(bytes: &[u8]) -> (&[u8], &[u8])
+    ensures piece { result.0.now ≡ take block_size bytes.now }
+    ensures behind { result.1.now ≡ drop block_size bytes.now }
+{
+    let size = bytes.len().min(BLOCK_SIZE);
+    bytes.split_at(size)
 }
 
 // Keeps one piece, and answers its reference.
