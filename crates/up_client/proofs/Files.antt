@@ -56,7 +56,7 @@ module _ {S : Type 0} (answers : S → Request → Option Reply → S → Type 0
       → Held answers (and_then talk more) a (Ok y) c → Parted answers talk more a y c
   parted (done (Ok x)) more a y c held = record { x = x; between = a; first = ended; after = held }
   parted {X} {Y} (done (Err fault)) more a y c held = let none : Err fault ≡ Ok y = held_done (Err fault) a y c held in absurd (cc)
-  parted (asking request hear) more a y c (heard {_} {_} {_} {_} {next} {_} reply answer rest) =
+  parted (asking request hear) more a y c (heard {next = next} reply answer rest) =
       let p = parted (hear reply) more next y c rest in
       record { x = p.x; between = p.between; first = heard reply answer p.first; after = p.after }
 
@@ -137,14 +137,14 @@ module _ {S : Type 0} (answers : S → Request → Option Reply → S → Type 0
   such_after : {X : Type 0} (talk : Talking X) (result : Result X ClientFault) (a b : S) → such a → Held answers talk a result b → such b
   such_after talk result a b is ended = is
   such_after talk result a b is wanting = is
-  such_after talk result a b is (unanswered {request} none) = steady.stays a b request None is none
-  such_after talk result a b is (heard {_} {hear} {_} {request} {next} {_} reply answer rest) =
+  such_after talk result a b is (unanswered {request = request} none) = steady.stays a b request None is none
+  such_after talk result a b is (heard {request = request} {hear = hear} {next = next} reply answer rest) =
       such_after (hear reply) result next b (steady.stays a next _ (Some reply) is answer) rest
 
   -- the reply to one request, other than want of memory, is the table's
   answered : (request : Request) (reply : Reply) (a b : S) → such a → Held answers (reply_to request) a (Ok reply) b
       → reply ≢ replies.OutOfMemory → IsReplyIn rows request reply
-  answered request reply a b is (heard {_} {_} {_} {_} {next} {_} given answer rest) known =
+  answered request reply a b is (heard {next = next} given answer rest) known =
       let ok : Ok given ≡ Ok reply = held_done answers (Ok given) next reply b rest in
       let same : given ≡ reply = cc in
       subst (λ r. IsReplyIn rows request r) same (steady.replies a next request given is answer (λ wanted. known (sym same ∙ wanted)))

@@ -2,7 +2,7 @@
 use Rattle.std.proofs.Common.{◌≡◌, ◌≢◌, ℕ, Option, Some, None, Result, Ok, Err, refl, sym, subst}
 use Rattle.std.specs.Prelude.{IsErrOf}
 use Rattle.up_faults.specs.Counts.{HasCause}
-use Rattle.up_faults.proofs.Causes.{HasCause-then, HasCause-same}
+use Rattle.up_faults.proofs.Causes.{HasCause-then, HasCause-same, HasCause-weaker}
 use Rattle.up_wire.specs.declared.requests.Request.{Request}
 use Rattle.up_wire.specs.declared.replies.Reply.{Reply}
 use Rattle.up_wire.specs.declared.replies.Reply.TheVariants as replies
@@ -18,7 +18,7 @@ module _ {S : Type 0} (answers : S → Request → Option Reply → S → Type 0
   pub held_then : {X Y : Type 0} (talk : Talking X) (more : X → Talking Y) (a b c : S) (x : X) (result : Result Y ClientFault)
       → Held answers talk a (Ok x) b → Held answers (more x) b result c → Held answers (and_then talk more) a result c
   held_then talk more a b c x result ended after = after
-  held_then talk more a b c x result (heard {request} {hear} {_} {_} {next} {_} reply answer rest) after =
+  held_then talk more a b c x result (heard {request = request} {hear = hear} {next = next} reply answer rest) after =
       heard reply answer (held_then (hear reply) more next b c x result rest after)
 
   -- the one ended with a fault, and so do both
@@ -27,7 +27,7 @@ module _ {S : Type 0} (answers : S → Request → Option Reply → S → Type 0
   held_stop talk more a b fault ended = ended
   held_stop talk more a b fault wanting = wanting
   held_stop talk more a b fault (unanswered none) = unanswered none
-  held_stop talk more a b fault (heard {request} {hear} {_} {_} {next} {_} reply answer rest) =
+  held_stop talk more a b fault (heard {request = request} {hear = hear} {next = next} reply answer rest) =
       heard reply answer (held_stop (hear reply) more next b fault rest)
 
 -- what is meant is no want of an answer
@@ -89,9 +89,9 @@ module _ {S : Type 0} (asked : Ghosts S) (same : (a : S) → asked.tied a a) (jo
   -- the one ended with a fault, and so do both
   pub talks_stop : {X Y : Type 0} (talk : Talking X) (more : X → Talking Y) (a b : S) (fault : ClientFault)
       → Talks asked talk a (Err fault) b → Talks asked (and_then talk more) a (Err fault) b
-  talks_stop talk more a b fault first = record {
+  talks_stop {X} {Y} talk more a b fault first = record {
     held = held_stop asked.answers talk more a b fault first.held;
-    cause = first.cause;
+    cause = HasCause-weaker (asked.faults a) (asked.faults b) (IsErrOf {T = X} (Err fault) Failed) (IsErrOf {T = Y} (Err fault) Failed) first.cause (λ failed. cc);
     tie = first.tie;
   }
 

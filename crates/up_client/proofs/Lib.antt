@@ -1,3 +1,4 @@
+mod Exits
 mod Fetching
 mod Files
 mod Following

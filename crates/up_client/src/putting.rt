@@ -2,7 +2,7 @@
 ghost use Rattle.std.specs.Prelude.{◌≡◌, [], drop, take, IfOk, IsErrOf};
 ghost use Rattle.up_faults.specs.Counts.{HasCause};
 ghost use Rattle.up_client.specs.declared.fault.ClientFault.TheVariants as client_fault;
-ghost use Rattle.up_client.specs.Putting.{block_at, block_size, entering, pieces_of, put_file_at, put_talk, reference_from, stored, storing};
+ghost use Rattle.up_client.specs.Putting.{block_at, entering, pieces_of, put_file_at, put_talk, reference_from, stored, storing};
 ghost use Rattle.up_client.specs.Talks.{Held, Talks};
 
 use crate::ask::Ask;
@@ -87,7 +87,7 @@ fn store_all<A: Ask>(alloc: Global, ask: &mut A, bytes: &[u8]) -> Result<Items<B
     let mut rest = bytes;
     let mut offset = 0;
     while !rest.is_empty() {
-        let (piece, behind) = first_piece(rest);
+        let (piece, behind) = first_piece(rest, BLOCK_SIZE);
         let size = piece.len() as u64;
         let reference = store(alloc, ask, piece)?;
         blocks.push(block_at(alloc, offset, size, reference))?;
@@ -97,13 +97,13 @@ fn store_all<A: Ask>(alloc: Global, ask: &mut A, bytes: &[u8]) -> Result<Items<B
     Ok(Items::from_vec(blocks))
 }
 
-// The first piece of bytes, of at most the size of a block, and what is behind it.
-fn first_piece(bytes: &[u8]) -> (&[u8], &[u8])
-    ensures piece { result.0.now ≡ take block_size bytes.now }
-    ensures behind { result.1.now ≡ drop block_size bytes.now }
+// The first bytes, so many or all of them, and what is behind them.
+#[tactic(auto, using(std::proofs::lemmas::List::take_min, std::proofs::lemmas::List::drop_min))]
+fn first_piece(bytes: &[u8], most: usize) -> (&[u8], &[u8])
+    ensures piece { result.0.now ≡ take most bytes.now }
+    ensures behind { result.1.now ≡ drop most bytes.now }
 {
-    let size = bytes.len().min(BLOCK_SIZE);
-    bytes.split_at(size)
+    bytes.split_at(most.min(bytes.len()))
 }
 
 // Keeps one piece, and answers its reference.

@@ -7,5 +7,5 @@ use Rattle.up_client.proofs.blocks.fetch_all.Given as goal
 abbrev pub invariant-loop-block : goal.invariant-loop-block
 invariant-loop-block g l = record {
   at : l.i ≡ l.block-index;
-  on : GoesOn g.A.Ask (fetching 0 l.blocks []) l.fn.ask (fetching l.i (drop l.i l.blocks) l.read.items) l.ask;
+  on : GoesOn g.A.Ask (fetching 0 l.blocks []) l.fn.ask (fetching l.i (drop l.block-index l.blocks) l.read.items) l.ask;
 }
