@@ -1,3 +1,4 @@
+mod Behind
 mod Exits
 mod Fetching
 mod Files

@@ -82,13 +82,15 @@ fn behind(n: u64, path: &Path, target: &Path) -> Result<Path, ClientFault>
     requires { n ≤ length path.now.elements }
     ensures { Meant result (short (behind n path.now target.now)) }
 {
-    // The text of a path parses to that path, so each of its elements is a name.
-    let _text = path.as_str();
+    // The text of a path parses to that path: so each of its elements is a name, and it is not too long.
+    let _path = path.as_str();
+    let _target = target.as_str();
     let mut next = target.clone()?;
     for i in n..path.len() {
-        if let Some(element) = path.element(i) {
-            next = joined(&next, element)?;
-        }
+        let Some(element) = path.element(i) else {
+            return Ok(next);
+        };
+        next = joined(&next, element)?;
     }
     Ok(next)
 }
