@@ -4,7 +4,8 @@ use Rattle.std.proofs.lemmas.Bool.Decides.{nat_tests}
 use Rattle.std.proofs.lemmas.Bool.{and_parts}
 use Rattle.std.proofs.lemmas.List.{append-nil, drop_all, drop_more}
 use Rattle.std.proofs.lemmas.Option.{get_or_from_slice_get, slice_get_within}
-use Rattle.std.specs.List.{join_with_byte, list_all, slice_get}
+use Rattle.std.specs.List.{list_all, slice_get}
+use Rattle.std.specs.Result.{IsErrAnd}
 use Rattle.up_names.specs.PathNames.{IsCanonical, PathName, canonical, extended, is_name}
 use Rattle.up_names.proofs.Joined.{joined-front, joined_text}
 use Rattle.up_names.proofs.PathLaws.{canonical-proper}
@@ -72,7 +73,7 @@ too_long n m path longer fault le is = by_test (nat_lt 4096 n) (nat_lt 4096 m) r
 -- where the path so far grows too long, so does the whole one
 pub whole_fault : (n i : ℕ) (path target next : PathName) (e : List ℕ) (fault : ClientFault) → slice_get path.elements i ≡ Some e → next.owner ≡ target.owner
     → next.elements ++ drop i path.elements ≡ target.elements ++ drop n path.elements
-    → Meant (Err fault) (short (extended next e)) → Meant (Err fault) (short (behind n path target))
+    → Meant {X = PathName} (Err fault) (short (extended next e)) → Meant {X = PathName} (Err fault) (short (behind n path target))
 whole_fault n i path target next e fault is owner whole meant other =
     let more = whole_more next.elements path.elements (target.elements ++ drop n path.elements) i e is whole in
     let same : record { owner = next.owner; elements = (next.elements ++ e ∷ []) ++ drop (i + 1) path.elements } ≡ behind n path target = (λ j. record { owner = owner j; elements = more j }) in
@@ -88,3 +89,8 @@ whole_end n i path target next above owner whole fits =
     let all : next.elements ≡ target.elements ++ drop n path.elements = sym (append-nil next.elements) ∙ ap (λ (rest : List (List ℕ)). next.elements ++ rest) (sym (drop_all i path.elements above)) ∙ whole in
     let same : next ≡ behind n path target = (λ j. record { owner = owner j; elements = all j }) in
     subst (λ (p : PathName). short p ≡ Ok next) same fits
+
+-- a fault that is handed on means the same
+pub meant_handed : {X : Type 0} (result : Result X ClientFault) (fault : ClientFault) (meant : Result X ClientFault) → Meant {X = X} (Err fault) meant → IsErrAnd result (λ other. other ≡ fault) → Meant result meant
+meant_handed (Ok x) fault meant is same = absurd same
+meant_handed {X} (Err other) fault meant is same = subst (λ (f : ClientFault). Meant {X = X} (Err f) meant) (sym same) is

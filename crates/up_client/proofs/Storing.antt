@@ -1,5 +1,6 @@
 -- Pieces that are kept in order.
-use Rattle.std.proofs.Common.{◌≡◌, ℕ, ◌+◌, ◌<◌, ◌≤◌, List, [], ◌∷◌, ◌++◌, length, take, drop, Ok, Err, sym, subst, ◌∙◌}
+use Rattle.std.proofs.Common.{◌≡◌, ◌==◌, ℕ, zero, suc, ◌+◌, ◌-◌, ◌<◌, ◌≤◌, min, Bool, true, false, List, [], ◌∷◌, ◌++◌, length, take, drop, Ok, Err, sym, subst, ap, ◌∙◌, length-take, length-drop, arith}
+use Rattle.std.proofs.lemmas.Bool.{eqb-true}
 use Rattle.std.proofs.lemmas.List.{nil_from_length}
 use Rattle.up_entry.specs.declared.entries.Block.{Block}
 use Rattle.up_client.specs.declared.ask.Ask.{Ghosts}
@@ -41,3 +42,23 @@ module _ {S : Type 0} (asked : Ghosts S) (same : (a : S) → asked.tied a a) (jo
       → length rest ≡ 0 → GoesOn asked from a (storing offset (pieces_of rest) blocks) b → Talks asked from a (Ok blocks) b
   store_end from rest offset blocks a b none on =
       goes_done asked same joined from a b blocks (subst (λ (left : List ℕ). GoesOn asked from a (storing offset (pieces_of left) blocks) b) (nil_from_length rest none) on)
+
+-- what is not empty has a byte
+pub some_left : (empty : Bool) (n : ℕ) → empty ≡ false → empty ≡ (n == 0) → 0 < n
+some_left empty zero not_so is = absurd (let both : true ≡ false = sym is ∙ not_so in cc)
+some_left empty (suc n) not_so is = omega arith
+
+pub none_left : (empty : Bool) (n : ℕ) → empty ≡ true → empty ≡ (n == 0) → n ≡ 0
+none_left empty n so is = eqb-true n 0 (sym is ∙ so)
+
+-- the first piece and what is behind it are all there is
+pub piece_lengths : (n : ℕ) (rest piece behind : List ℕ) → piece ≡ take n rest → behind ≡ drop n rest → length piece + length behind ≡ length rest
+piece_lengths n rest piece behind front back =
+    let one : length piece ≡ min n (length rest) = ap length front ∙ length-take n rest in
+    let two : length behind ≡ length rest - n = ap length back ∙ length-drop n rest in
+    omega (arith, one, two)
+
+pub piece_smaller : (n : ℕ) (rest behind : List ℕ) → 0 < n → 0 < length rest → behind ≡ drop n rest → suc (length behind) ≤ length rest
+piece_smaller n rest behind big some back =
+    let two : length behind ≡ length rest - n = ap length back ∙ length-drop n rest in
+    omega (arith, big, some, two)

@@ -42,4 +42,4 @@ pub returns-in-Ok : goal.returns-in-Ok
 returns-in-Ok c = ok_short c.args.path.now c.args.element.now c.in-Ok.longer c.requires c.in-Ok.ensures
 
 pub returns-in-Err : goal.returns-in-Err
-returns-in-Err c = meant_short c.args.path.now c.args.element.now c.in-Err.fault c.requires c.in-Err.ensures
+returns-in-Err c = rw c.fault_of.ensures (meant_short c.args.path.now c.args.element.now c.in-Err.fault c.requires c.in-Err.ensures)
