@@ -121,11 +121,7 @@ fn kept_line(
     Ok(())
 }
 
-fn add_block(
-    alloc: Global,
-    rows: &mut Items<(Request, Reply)>,
-    block: &[u8],
-) -> Result<(), Fault> {
+fn add_block(alloc: Global, rows: &mut Items<(Request, Reply)>, block: &[u8]) -> Result<(), Fault> {
     let reference = Reference::of(block);
     let kept = Reply::Ok(Done::Reference(reference));
     rows.push((Request::StorePut(copy_of(alloc, block)?), kept))?;
@@ -264,9 +260,7 @@ fn put_text(
 
 fn told_text<'a>(alloc: Global, word: &'a str) -> Result<CowSlice<'a, u8>, Fault> {
     match word.strip_prefix('=') {
-        Some(size) => Ok(CowSlice::Owned(
-            long_text(alloc, number_of(size)?)?.into_vec(),
-        )),
+        Some(size) => Ok(CowSlice::Owned(long_text(alloc, number_of(size)?)?.into_vec())),
         None => text_of(alloc, word),
     }
 }

@@ -26,11 +26,7 @@ pub fn fault_lines(alloc: Global, fault: &ClientFault) -> Result<Items<Bytes>, A
 
 /// Adds the lines of a fault.
 #[tactic(auto, unfolding(crate::specs::ClientFaults::fault_words))]
-fn add_fault(
-    alloc: Global,
-    lines: &mut Vec<Bytes>,
-    fault: &ClientFault,
-) -> Result<(), AllocError>
+fn add_fault(alloc: Global, lines: &mut Vec<Bytes>, fault: &ClientFault) -> Result<(), AllocError>
     ensures { OnOk result
         (lines.new.items ≡ lines.old.items ++ map (λ words. spaced words) (fault_words fault.now)) }
 {

@@ -27,7 +27,11 @@ pub fn reply_lines(alloc: Global, reply: &Reply) -> Result<Items<Bytes>, AllocEr
 
 /// Adds the lines of a reply.
 #[tactic(auto, unfolding(crate::specs::Replies::reply_words))]
-pub(crate) fn add_lines(alloc: Global, lines: &mut Vec<Bytes>, reply: &Reply) -> Result<(), AllocError>
+pub(crate) fn add_lines(
+    alloc: Global,
+    lines: &mut Vec<Bytes>,
+    reply: &Reply,
+) -> Result<(), AllocError>
     ensures { OnOk result (lines.new.items ≡ lines.old.items
         ++ map (λ words. spaced words) (reply_words reply.now)) }
 {
