@@ -26,6 +26,7 @@ use Rattle.up_client.specs.Getting.{block_from, blocks_in, fetched_at, fetching,
 use Rattle.up_client.specs.Links.{following, leads_to, led, short}
 use Rattle.up_client.specs.Replies.{bytes_in, outcome}
 use Rattle.up_client.specs.Tables.{AnswersFrom, HasBlock, HasFile, IsReplyIn, IsSteady, LinksLead, Table, along, there}
+use Rattle.up_client.proofs.Behind.{short_is}
 use Rattle.up_client.specs.Talks.{Held, Talking, and_then, asking, done, ended, heard, reply_to, unanswered, wanting}
 
 -- A conversation of two that ended well: so did the one, and then the other.
@@ -67,7 +68,7 @@ outcome_ok reply d is = cc
 
 -- what fits stays the same
 short_same : (path fit : PathName) → short path ≡ Ok fit → fit ≡ path
-short_same path fit is = grind arith
+short_same path fit is = sym (short_is path fit is)
 
 -- bytes that fit a block
 record Fits (block : Block) (given bytes : List ℕ) : Type 0 where
@@ -167,6 +168,20 @@ module _ {S : Type 0} (answers : S → Request → Option Reply → S → Type 0
       nowhere : leads_to path replies.OutOfMemory ≡ Some next → ⊥
       nowhere e = cc
 
+  -- The reply leads on, and what is looked up from there is what is looked up from here.
+  goes_on : (more : ℕ) (path : PathName) (d : Done) (b : S)
+      → ((other : PathName) (start : S) → such start → Held answers (following look_up_at more other) start (Ok d) b → Looked rows more other d)
+      → (reply : Reply) (between : S) (next : PathName) → leads_to path reply ≡ Some next → IsReplyIn rows (look_up_at path) reply → such between
+      → Parted answers (done (short next)) (following look_up_at more) between d b → Looked rows (suc more) path d
+  goes_on more path d b from reply between next some known is p =
+      let fit : short next ≡ Ok p.x = held_done answers (short next) between p.x p.between p.first in
+      let same : p.x ≡ next = short_same next p.x fit in
+      let rest = from p.x p.between (such_after _ _ _ _ is p.first) p.after in record {
+        last = rest.last;
+        led = along reply known some (fit ∙ ap Ok same) (subst (λ x. LinksLead rows more x rest.last) same rest.led);
+        found = rest.found;
+      }
+
   looked : (more : ℕ) (path : PathName) (d : Done) (a b : S) → such a → Held answers (following look_up_at more path) a (Ok d) b → Looked rows more path d
   unfolding following
   looked zero path d a b is held =
@@ -178,18 +193,7 @@ module _ {S : Type 0} (answers : S → Request → Option Reply → S → Type 0
       let go : PathName → Talking Done = λ next. and_then (done (short next)) (following look_up_at more) in
       let p = parted answers (reply_to (look_up_at path)) (λ reply. led (leads_to path reply) go reply) a d b held in
       step (suc more) path p.x d go a p.between b is p.first (leads_to path p.x) refl p.after
-      (λ next some after known. goes_on p.x p.between next some known (such_after _ _ _ _ is p.first) (parted answers (done (short next)) (following look_up_at more) p.between d b after))
-    where
-      goes_on : (reply : Reply) (between : S) (next : PathName) → leads_to path reply ≡ Some next → IsReplyIn rows (look_up_at path) reply → such between
-          → Parted answers (done (short next)) (following look_up_at more) between d b → Looked rows (suc more) path d
-      goes_on reply between next some known is p =
-          let fit : short next ≡ Ok p.x = held_done answers (short next) between p.x p.between p.first in
-          let same : p.x ≡ next = short_same next p.x fit in
-          let rest = looked more p.x d p.between b (such_after _ _ _ _ is p.first) p.after in record {
-            last = rest.last;
-            led = along reply known some (fit ∙ ap Ok same) (subst (λ x. LinksLead rows more x rest.last) same rest.led);
-            found = rest.found;
-          }
+      (λ next some after known. goes_on more path d b (λ other start still held. looked more other d start b still held) p.x p.between next some known (such_after _ _ _ _ is p.first) (parted answers (done (short next)) (following look_up_at more) p.between d b after))
 
   fetched : (i : ℕ) (block : Block) (bytes : List ℕ) (a b : S) → such a
       → Held answers (fetched_at block.location.endpoint i block) a (Ok bytes) b → HasBlock rows block bytes

@@ -3,7 +3,7 @@ ghost use Rattle.std.specs.Prelude.{◌≡◌, ◌≤◌, IfOk, IfSome, length, 
 ghost use Rattle.up_names.specs.PathNames.{PathName, extended, is_name};
 ghost use Rattle.up_wire.specs.declared.requests.Request.{Request as Requests};
 ghost use Rattle.up_client.specs.Links.{behind, fault_of, following, leads_to, short};
-ghost use Rattle.up_client.specs.Talks.{Meant, Talks};
+ghost use Rattle.up_client.specs.Talks.{Meant, Talks, reply_to};
 
 use crate::ask::Ask;
 use crate::fault::ClientFault;
@@ -47,8 +47,7 @@ fn follow_on<A: Ask, R: AtPath>(
 ) -> Result<Done, ClientFault>
     ensures { Talks A.Ask (following (R.request request.now) more path.now) ask.old result ask.new }
 {
-    let asked = request.at(alloc, path)?;
-    let reply = reply_to(alloc, ask, &asked)?;
+    let reply = ask_at(alloc, ask, request, path)?;
     let Some((n, target)) = link_in(path, &reply) else {
         return outcome(reply);
     };
@@ -57,6 +56,19 @@ fn follow_on<A: Ask, R: AtPath>(
     }
     let next = behind(n, path, target)?;
     follow_on(alloc, ask, request, more - 1, &next)
+}
+
+// Asks at a path, and there alone.
+fn ask_at<A: Ask, R: AtPath>(
+    alloc: Global,
+    ask: &mut A,
+    request: &R,
+    path: &Path,
+) -> Result<Reply, ClientFault>
+    ensures { Talks A.Ask (reply_to (R.request request.now path.now)) ask.old result ask.new }
+{
+    let asked = request.at(alloc, path)?;
+    reply_to(alloc, ask, &asked)
 }
 
 // Where a reply leads: of a link that stands at the path or above it, the number of its elements and its target.
