@@ -30,8 +30,8 @@ loop-block-preserved g c =
     let held = with_result g.A.Ask (fetched_at block.location.endpoint c.loop-block.i block) c.loop-block.ask c.fetch.new.ask c.fetch.result (Ok bytes) c.fetch.ensures c.in_ok-fetch.was in record {
       at = omega arith;
       on = rw c.in_ok-push.ensures.items
-        (fetch_more g.A.Ask g.met.A.Ask.same g.met.A.Ask.joined (fetching 0 c.args.blocks.now []) c.args.blocks.now c.loop-block.i c.loop-block.block-index block c.loop-block.read.items bytes c.args.ask.now c.loop-block.ask c.fetch.new.ask
-        c.loop-block-test.true c.block-item.is c.loop-block.invariant.on held);
+          (fetch_more g.A.Ask g.met.A.Ask.same g.met.A.Ask.joined (fetching 0 c.args.blocks.now []) c.args.blocks.now c.loop-block.i c.loop-block.block-index block c.loop-block.read.items bytes c.args.ask.now c.loop-block.ask c.fetch.new.ask
+          c.loop-block-test.true c.block-item.is c.loop-block.invariant.on held);
     }
 
 pub returns : goal.returns

@@ -38,6 +38,6 @@ loop-i-preserved c =
     let same : extended c.loop-i.next c.in-Some.element.now ≡ c.in_ok-next-2.next = short_is (extended c.loop-i.next c.in-Some.element.now) c.in_ok-next-2.next fit in record {
       owner = ap (λ (p : PathName). p.owner) (sym same) ∙ c.loop-i.invariant.owner;
       whole = ap (λ (p : PathName). p.elements ++ drop (c.loop-i.i + 1) c.args.path.now.elements) (sym same)
-        ∙ whole_more c.loop-i.next.elements c.args.path.now.elements (c.args.target.now.elements ++ drop c.args.n c.args.path.now.elements) c.loop-i.i c.in-Some.element.now is c.loop-i.invariant.whole;
+          ∙ whole_more c.loop-i.next.elements c.args.path.now.elements (c.args.target.now.elements ++ drop c.args.n c.args.path.now.elements) c.loop-i.i c.in-Some.element.now is c.loop-i.invariant.whole;
       fits = subst (λ (p : PathName). short p ≡ Ok c.in_ok-next-2.next) same fit;
     }

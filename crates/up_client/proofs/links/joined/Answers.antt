@@ -10,6 +10,7 @@ use Rattle.up_client.proofs.links.joined.Goals as goal
 -- the tests of `joined` and of `short`, by what they answer
 abbrev joins : Bool → Bool → ℕ → PathName → Result PathName NameFault
 joins named long n next = if not named then Err (names.Element 0) else if long then Err (names.TooLong n) else Ok next
+
 abbrev fits : Bool → PathName → Result PathName ClientFault
 fits long next = if long then Err faults.TooLong else Ok next
 

@@ -35,8 +35,8 @@ loop-rest-preserved g c =
     let held = with_result g.A.Ask (stored c.first_piece.result.0.now) c.loop-rest.ask c.store.new.ask c.store.result (Ok c.in_ok-reference.reference) c.store.ensures c.in_ok-reference.was in record {
       left = omega (arith, lengths, c.loop-rest.invariant.left);
       on = rw (c.in_ok-push.ensures.items, c.block_at.ensures)
-        (store_more g.A.Ask g.met.A.Ask.same g.met.A.Ask.joined (storing 0 (pieces_of c.args.bytes.now) []) c.loop-rest.rest.now c.first_piece.result.0.now c.first_piece.result.1.now c.loop-rest.offset c.loop-rest.blocks.items c.in_ok-reference.reference c.args.ask.now c.loop-rest.ask c.store.new.ask
-        some c.first_piece.ensures.piece c.first_piece.ensures.behind c.loop-rest.invariant.on held);
+          (store_more g.A.Ask g.met.A.Ask.same g.met.A.Ask.joined (storing 0 (pieces_of c.args.bytes.now) []) c.loop-rest.rest.now c.first_piece.result.0.now c.first_piece.result.1.now c.loop-rest.offset c.loop-rest.blocks.items c.in_ok-reference.reference c.args.ask.now c.loop-rest.ask c.store.new.ask
+          some c.first_piece.ensures.piece c.first_piece.ensures.behind c.loop-rest.invariant.on held);
     }
 
 pub returns : goal.returns
