@@ -6,3 +6,4 @@ mod Following
 mod Holding
 mod Pieces
 mod Storing
+mod Tabling
