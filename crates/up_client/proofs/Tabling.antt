@@ -1,5 +1,5 @@
 -- Rows of a table that are looked at one after the other.
-use Rattle.std.proofs.Common.{◌≡◌, ◌≢◌, ◌⊎◌, left, right, ℕ, ◌+◌, ◌<◌, List, ◌∷◌, length, drop, get_or, Result, Ok, Err, IfOk, sym, subst, ◌∙◌}
+use Rattle.std.proofs.Common.{◌≡◌, ◌≢◌, inl, inr, ℕ, ◌+◌, ◌<◌, List, ◌∷◌, length, drop, get_or, Result, Ok, Err, IfOk, sym, subst, ◌∙◌}
 use Rattle.std.proofs.lemmas.List.{drop_more}
 use Rattle.std.specs.declared.alloc.AllocError.{AllocError}
 use Rattle.up_wire.specs.declared.requests.Request.{Request}
@@ -16,7 +16,7 @@ pub tells_here : {E : Type 0} (rows : List (Request × Reply)) (k : ℕ) (row : 
     → ((reply : Reply) → IsReplyIn (drop k rows) request reply → IsReplyIn rows request reply)
     → IfOk result (λ copy. copy ≡ row.1) → IfOk result (λ reply. IsReplyIn rows request reply)
 tells_here rows k row request (Ok reply) below at same on copied =
-    on reply (subst (λ (rest : List (Request × Reply)). IsReplyIn rest request reply) (row_step rows k row below at) (left (same, sym copied)))
+    on reply (subst (λ (rest : List (Request × Reply)). IsReplyIn rest request reply) (row_step rows k row below at) (inl (same, sym copied)))
 tells_here rows k row request (Err fault) below at same on copied = copied
 
 -- the row has another request
@@ -25,4 +25,4 @@ pub tells_behind : (rows : List (Request × Reply)) (k : ℕ) (row : Request × 
     → ((reply : Reply) → IsReplyIn (drop k rows) request reply → IsReplyIn rows request reply)
     → (reply : Reply) → IsReplyIn (drop (k + 1) rows) request reply → IsReplyIn rows request reply
 tells_behind rows k row request below at other on reply tells =
-    on reply (subst (λ (rest : List (Request × Reply)). IsReplyIn rest request reply) (row_step rows k row below at) (right (other, tells)))
+    on reply (subst (λ (rest : List (Request × Reply)). IsReplyIn rest request reply) (row_step rows k row below at) (inr (other, tells)))
