@@ -7,3 +7,4 @@ mod Holding
 mod Pieces
 mod Storing
 mod Tabling
+mod Same
