@@ -1,5 +1,5 @@
 -- `==` on requests decides whether they are one request.
-use Rattle.std.proofs.Common.{◌≡◌, ◌≢◌, true, false, Bool, ◌&&◌, List, ℕ, ◌==◌, ℤ, sym, refl, subst, ap, ◌∙◌}
+use Rattle.std.proofs.Common.{◌≡◌, ◌≢◌, true, false, true≢false, Bool, ◌&&◌, List, ℕ, ◌==◌, ℤ, sym, refl, subst, ap, ◌∙◌}
 use Rattle.std.specs.Bool.{Decides}
 use Rattle.std.proofs.lemmas.Bool.Decides.{Decides-eqb, Decides-int_eq}
 use Rattle.std.proofs.lemmas.Slice.Eq.{bytes_eq-Decides, slice_eq-Decides}
@@ -99,51 +99,51 @@ watch_Decides x y i k = both (bytes_eq x y) (int_eq i k) (bytes_eq-Decides x y) 
 -- requests of which `==` tells that they are one are one
 lookup_is : (x : List ℕ) (b : Request) → requests.ghosts.eq (Lookup x) b ≡ true → Lookup x ≡ b
 lookup_is x (Lookup y) h = ap Lookup ((bytes_eq-Decides x y).0 h)
-lookup_is x b h = absurd (cc)
+lookup_is x b h = absurd (true≢false (sym h))
 
 put_is : (x : PutEntry) (b : Request) → requests.ghosts.eq (Put x) b ≡ true → Put x ≡ b
 put_is x (Put y) h = ap Put ((put_Decides x y).0 h)
-put_is x b h = absurd (cc)
+put_is x b h = absurd (true≢false (sym h))
 
 delete_is : (x : List ℕ) (b : Request) → requests.ghosts.eq (Delete x) b ≡ true → Delete x ≡ b
 delete_is x (Delete y) h = ap Delete ((bytes_eq-Decides x y).0 h)
-delete_is x b h = absurd (cc)
+delete_is x b h = absurd (true≢false (sym h))
 
 glob_is : (x : List ℕ) (b : Request) → requests.ghosts.eq (Glob x) b ≡ true → Glob x ≡ b
 glob_is x (Glob y) h = ap Glob ((bytes_eq-Decides x y).0 h)
-glob_is x b h = absurd (cc)
+glob_is x b h = absurd (true≢false (sym h))
 
 which_is : (x : List ℕ) (b : Request) → requests.ghosts.eq (WhichAccess x) b ≡ true → WhichAccess x ≡ b
 which_is x (WhichAccess y) h = ap WhichAccess ((bytes_eq-Decides x y).0 h)
-which_is x b h = absurd (cc)
+which_is x b h = absurd (true≢false (sym h))
 
 watch_is : (x : List ℕ) (i : ℤ) (b : Request) → requests.ghosts.eq (Watch x i) b ≡ true → Watch x i ≡ b
 watch_is x i (Watch y k) h = let is = (watch_Decides x y i k).0 h in (λ j. Watch (is.0 j) (is.1 j))
-watch_is x i b h = absurd (cc)
+watch_is x i b h = absurd (true≢false (sym h))
 
 group_is : (x : List ℕ) (b : Request) → requests.ghosts.eq (GroupText x) b ≡ true → GroupText x ≡ b
 group_is x (GroupText y) h = ap GroupText ((bytes_eq-Decides x y).0 h)
-group_is x b h = absurd (cc)
+group_is x b h = absurd (true≢false (sym h))
 
 get_is : (x : List ℕ) (b : Request) → requests.ghosts.eq (Get x) b ≡ true → Get x ≡ b
 get_is x (Get y) h = ap Get ((bytes_eq-Decides x y).0 h)
-get_is x b h = absurd (cc)
+get_is x b h = absurd (true≢false (sym h))
 
 store_put_is : (x : List ℕ) (b : Request) → requests.ghosts.eq (StorePut x) b ≡ true → StorePut x ≡ b
 store_put_is x (StorePut y) h = ap StorePut ((bytes_eq-Decides x y).0 h)
-store_put_is x b h = absurd (cc)
+store_put_is x b h = absurd (true≢false (sym h))
 
 store_delete_is : (x : List ℕ) (b : Request) → requests.ghosts.eq (StoreDelete x) b ≡ true → StoreDelete x ≡ b
 store_delete_is x (StoreDelete y) h = ap StoreDelete ((bytes_eq-Decides x y).0 h)
-store_delete_is x b h = absurd (cc)
+store_delete_is x b h = absurd (true≢false (sym h))
 
 key_lookup_is : (x : List ℕ) (b : Request) → requests.ghosts.eq (KeyLookup x) b ≡ true → KeyLookup x ≡ b
 key_lookup_is x (KeyLookup y) h = ap KeyLookup ((bytes_eq-Decides x y).0 h)
-key_lookup_is x b h = absurd (cc)
+key_lookup_is x b h = absurd (true≢false (sym h))
 
 key_put_is : (x : KeyCard) (b : Request) → requests.ghosts.eq (KeyPut x) b ≡ true → KeyPut x ≡ b
 key_put_is x (KeyPut y) h = ap KeyPut ((card_Decides x y).0 h)
-key_put_is x b h = absurd (cc)
+key_put_is x b h = absurd (true≢false (sym h))
 
 request_is : (a b : Request) → requests.ghosts.eq a b ≡ true → a ≡ b
 request_is (Lookup x) b h = lookup_is x b h
@@ -175,9 +175,9 @@ itself (KeyPut x) = (card_Decides x x).1 refl
 
 -- `==` told that they are one
 pub one_request : (a b : Request) (told : Bool) → told ≡ requests.ghosts.eq a b → told ≡ true → a ≡ b
-one_request a b told is yes = request_is a b (sym is ∙ yes)
+one_request a b told is was = request_is a b (sym is ∙ was)
 
 -- it told that they are not
 pub two_requests : (a b : Request) (told : Bool) → told ≡ requests.ghosts.eq a b → told ≡ false → a ≢ b
-two_requests a b told is no same =
-    let yes : requests.ghosts.eq a b ≡ true = subst (λ (r : Request). requests.ghosts.eq a r ≡ true) same (itself a) in cc (is, no, yes)
+two_requests a b told is was same =
+    true≢false (sym (subst (λ (r : Request). requests.ghosts.eq a r ≡ true) same (itself a)) ∙ (sym is ∙ was))
