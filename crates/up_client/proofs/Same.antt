@@ -81,8 +81,22 @@ put_Decides a b =
       attr = h.1.1.1.1.1.1.1.1.0 j;
       sequence = h.1.1.1.1.1.1.1.1.1 j;
     })
-    (λ e. ((λ j. (e j).signed_name), ((λ j. (e j).packing), ((λ j. (e j).time), ((λ j. (e j).blocks), ((λ j. (e j).packdata),
-    ((λ j. (e j).link), ((λ j. (e j).writer), ((λ j. (e j).name), ((λ j. (e j).attr), (λ j. (e j).sequence)))))))))))
+    (λ e. (
+      (λ j. (e j).signed_name),
+      (
+        (λ j. (e j).packing),
+        (
+          (λ j. (e j).time),
+          (
+            (λ j. (e j).blocks),
+            (
+              (λ j. (e j).packdata),
+              ((λ j. (e j).link), ((λ j. (e j).writer), ((λ j. (e j).name), ((λ j. (e j).attr), (λ j. (e j).sequence))))),
+            ),
+          ),
+        ),
+      ),
+    ))
 
 card_Decides : (a b : KeyCard) → Decides (cards.ghosts.eq a b) (a ≡ b)
 card_Decides a b =
