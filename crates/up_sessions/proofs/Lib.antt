@@ -1,0 +1,14 @@
+pub mod RoomLemmas
+pub mod PlaceLemmas
+pub mod KeptLemmas
+pub mod BlankLemmas
+pub mod AtLemmas
+pub mod QuietLemmas
+pub mod BehindLemmas
+pub mod SeenLemmas
+pub mod StayLemmas
+pub mod IoLemmas
+pub mod TalkLemmas
+pub mod CountLemmas
+pub mod KeepLemmas
+pub mod FitLemmas

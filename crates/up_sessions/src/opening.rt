@@ -1,0 +1,98 @@
+//! A host is opened over the next disks, and users are enrolled.
+ghost use Rattle.std.specs.Prelude.{◌≡◌, ◌≢◌, ◌<◌, ◌≤◌, ◌+◌, false, length, IfErr, IfOk};
+ghost use Rattle.std.specs.List.{AllByRecursion, IsDistinct};
+ghost use Rattle.std.specs.Str.{bytes_eq};
+ghost use Rattle.up_journal.specs.Journal.{AreLimits};
+ghost use Rattle.up_keys.specs.Records.{largest_room};
+ghost use Rattle.up_policy.specs.Trees.{owns_snapshots};
+ghost use Rattle.up_sessions.specs.Opening.{EnrolsAt, IsBlank, OpensNext, is_damage, why_refused};
+
+use crate::fault::LineFault;
+use crate::room::{put_front, take_first};
+use crate::sessions::Sessions;
+use std::alloc::Global;
+use up_bytes::Bytes;
+use up_disk::Disk;
+use up_host::Host;
+use up_journal::{AppendWhy, Limits, OpenWhy};
+use up_lists::Items;
+use up_names::User;
+use up_wire::KeyRecord;
+
+impl<D: Disk + Drop> Sessions<D> {
+    /// Opens a host over the next disks: one for the tree of each owner, one for the store, one for the keys. It stands behind the other
+    /// hosts. A refusal leaves all disks in their places; `Fault` comes only where one of them failed.
+    ///
+    /// That no other host has the name or the trees is a matter of the caller.
+    pub fn open_host(
+        &mut self,
+        alloc: Global,
+        name: &str,
+        operator: User,
+        owners: Items<User>,
+        limits: Limits,
+    ) -> Result<(), LineFault>
+        requires limits { AreLimits limits }
+        requires least { largest_room ≤ limits.largest }
+        requires most { limits.largest ≤ 1048000 }
+        requires disks { length owners + 2 ≤ length self.old.free }
+        requires blank { AllByRecursion (IsBlank D.Disk) self.old.free }
+        requires owners { IsDistinct bytes_eq owners }
+        requires plain { AllByRecursion (λ owner. owns_snapshots owner ≡ false) owners }
+        ensures { OpensNext D.Disk limits name.now operator owners self.old result self.new }
+    {
+        if self.hosts.reserve(1).is_err() {
+            return Err(LineFault::OutOfMemory);
+        }
+        let Ok(given) = take_first(alloc, &mut self.free, owners.len() + 2) else {
+            return Err(LineFault::OutOfMemory);
+        };
+        match Host::open(alloc, self.random, name, operator, owners, given, limits) {
+            Ok(host) => {
+                self.hosts.push_reserved(host);
+                Ok(())
+            }
+            Err(fault) => {
+                put_front(&mut self.free, fault.disks, None);
+                Err(line_fault(fault.why))
+            }
+        }
+    }
+}
+
+impl<D: Disk> Sessions<D> {
+    /// Adds a user's record, without endpoints, to the keys of the host at a place, and answers its position, from 1. `Full` comes exactly
+    /// at the limits of the keys; after a refusal all is as before, but that after a `Fault` one record may be doubtful.
+    pub fn enrol(
+        &mut self,
+        alloc: Global,
+        place: usize,
+        user: User,
+        key: Bytes,
+    ) -> Result<u64, AppendWhy>
+        requires place { place < length self.old.hosts }
+        requires some { 1 ≤ length key }
+        requires most { length key ≤ 1024 }
+        ensures { EnrolsAt D.Disk place user key self.old result self.new }
+    {
+        let card = KeyRecord {
+            user,
+            dirs: Items::new(alloc),
+            stores: Items::new(alloc),
+            key,
+        };
+        self.hosts[place].enrol(card)
+    }
+}
+
+// How a line ends for which a host was refused.
+fn line_fault(why: OpenWhy) -> LineFault
+    requires { is_damage why ≡ false }
+    ensures { why ≡ why_refused result }
+{
+    match why {
+        OpenWhy::Fault => LineFault::Fault,
+        OpenWhy::OutOfMemory => LineFault::OutOfMemory,
+        OpenWhy::Damaged(_) | OpenWhy::Chain(_, _, _) | OpenWhy::OldFormat => unreachable!(),
+    }
+}
