@@ -1,2 +1,9 @@
 pub mod CanFolds
 pub mod Answering
+pub mod UserListLemmas
+pub mod WordLemmas
+pub mod NameLemmas
+pub mod LineLemmas
+pub mod AskLemmas
+pub mod FactLemmas
+pub mod RunningLemmas
