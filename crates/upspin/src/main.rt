@@ -1,13 +1,18 @@
 //! The program `upspin`: it makes the real source and sink, and hands them to a command's top call.
 #![tactic(auto)]
 
-use std::alloc::AllocError;
+use std::alloc::{AllocError, Global};
 use std::hash::RandomState;
 use std::process::ExitCode;
 use std::rt::Env;
 use std::{env, io};
+use up_disk::{Disks, MemDisk};
 use up_ends::{StdSink, StdSource};
-use up_script::can_run;
+use up_helper::{sign_run, verify_run};
+use up_lists::Items;
+use up_net::{HelperVerifier, HostClock, SeedNonces};
+use up_peer::Peers;
+use up_script::{can_run, script_run};
 
 /// The status where the system gives no random keys to hash names with; nothing was read or written.
 const READ_FAULT: u8 = 2;
@@ -33,17 +38,72 @@ fn words(rt: &(impl Env + AllocGlobal)) -> Result<Vec<String>, AllocError> {
     Ok(words)
 }
 
-/// Runs the command that the words name, and answers its status.
-fn status(rt: &HostRuntime) -> u8 {
-    let Ok(words) = words(rt) else {
+/// The status of a command that stands in for a helper. `None` where the first word is none of these.
+fn helper_status(rt: &HostRuntime, words: &[String]) -> Option<u8> {
+    match words.first()?.as_str() {
+        "verify" => Some(verify_run(rt.alloc(), words)),
+        "sign" => Some(sign_run(rt.alloc(), words, &mut StdSink::new(rt.stdout()))),
+        _ => None,
+    }
+}
+
+/// How many disks a script's hosts may take.
+const DISKS: u64 = 80;
+
+/// The disks of a script's hosts, in memory and empty.
+fn empty_disks(alloc: Global) -> Result<Disks<MemDisk>, AllocError> {
+    let mut disks = Disks::new(alloc);
+    for _ in 0..DISKS {
+        disks.push(MemDisk::new(alloc, Items::new(alloc)))?;
+    }
+    Ok(disks)
+}
+
+/// The word behind the command, which names a helper; empty where there is none.
+fn helper_path(alloc: Global, words: &[String]) -> Result<String, AllocError> {
+    match words.get(1) {
+        Some(path) => path.clone(),
+        None => Ok(String::new(alloc)),
+    }
+}
+
+/// Runs `upspin script`, and answers its status; for the words of no command, that of the usage line.
+fn script_status(rt: &HostRuntime, random: RandomState, words: &[String]) -> u8 {
+    let Ok(mut nonces) = SeedNonces::from_random(rt) else {
+        return READ_FAULT;
+    };
+    let Ok(helper) = helper_path(rt.alloc(), words) else {
         return OUT_OF_MEMORY;
     };
+    let Ok(mut disks) = empty_disks(rt.alloc()) else {
+        return OUT_OF_MEMORY;
+    };
+    let mut verifier = HelperVerifier::new(rt.alloc(), rt, helper);
+    script_run(
+        rt.alloc(),
+        random,
+        words,
+        &mut StdSource::new(rt.stdin()),
+        &mut StdSink::new(rt.stdout()),
+        &mut disks,
+        &mut verifier,
+        &mut HostClock::new(rt),
+        &mut nonces,
+        &mut Peers::new(rt.alloc()),
+    )
+}
+
+/// Runs any other command that the words name, and answers its status.
+fn command_status(rt: &HostRuntime, words: &[String]) -> u8 {
     let Ok(random) = RandomState::new(rt) else {
         return READ_FAULT;
     };
+    if words.first().map(|word| word.as_str()) != Some("can") {
+        return script_status(rt, random, words);
+    }
     let mut source = StdSource::new(rt.stdin());
     let mut sink = StdSink::new(rt.stdout());
-    can_run(rt.alloc(), random, &words, &mut source, &mut sink)
+    can_run(rt.alloc(), random, words, &mut source, &mut sink)
 }
 
 /// What a status means for people, and where to read on; nothing after 0, and after 64, whose usage line was printed.
@@ -61,7 +121,14 @@ fn meaning(status: u8) -> Option<&'static str> {
 }
 
 fn main(rt: HostRuntime) -> ExitCode {
-    let status = status(&rt);
+    let status = match words(&rt) {
+        Ok(words) => match helper_status(&rt, &words) {
+            // A helper says no more than its status.
+            Some(status) => return ExitCode::from(status),
+            None => command_status(&rt, &words),
+        },
+        Err(_) => OUT_OF_MEMORY,
+    };
     if let Some(line) = meaning(status) {
         // Where even this line cannot be written, the status says it.
         let _ = rt.eprintln(line);
