@@ -2,9 +2,10 @@
 //! record, or what was loaded of another owner's group, or asks; what is told stands until the next line `tree OWNER`.
 mod looked;
 
-use crate::tree::{empty_tree, record_turn};
+use crate::tree::record_turn;
 use std::alloc::Global;
 use std::hash::RandomState;
+use up_case_asks::empty_tree;
 use up_case_lines::{Answer, Fault, Topic, Words, bytes_of, path_of};
 use up_disk::MemDisk;
 use up_group::parse_group;

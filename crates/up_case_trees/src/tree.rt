@@ -5,7 +5,6 @@ mod disk;
 mod many;
 mod recs;
 
-pub use disk::{empty_tree, new_tree};
 pub use recs::turn as record_turn;
 use std::alloc::Global;
 use up_case_lines::{Answer, Fault, Topic, Words};

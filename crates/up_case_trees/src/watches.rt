@@ -1,19 +1,14 @@
 //! What a user who watches a tree is told. A line tells a tree's next record, or what is loaded of another owner's group, or asks;
 //! what is told stands until the next line `tree OWNER`.
-ghost use Rattle.std.specs.Prelude.{◌≡◌, IfOk};
-
-use crate::tree::{empty_tree, record_turn};
-use std::alloc::{AllocError, Global};
+use crate::tree::record_turn;
+use std::alloc::Global;
 use std::hash::RandomState;
-use up_case_lines::{Answer, Fault, Topic, Words, int_of, path_of, text_of, user_of};
+use up_case_asks::{add_lines, empty_tree, load_line, path_in};
+use up_case_lines::{Answer, Fault, Topic, Words, int_of, user_of};
 use up_disk::MemDisk;
-use up_group::parse_group;
-use up_names::{Path, User};
-use up_policy::{LoadAnswer, Loaded};
-use up_text::reply_lines;
+use up_policy::Loaded;
 use up_tree::TreeState;
 use up_watch::watch;
-use up_wire::Reply;
 
 /// The tree that is watched. There is none before the first line `tree OWNER`, each of which begins with an empty one.
 #[derive(Drop)]
@@ -100,57 +95,6 @@ impl Watched {
         );
         add_lines(alloc, &reply, whole, answer)
     }
-}
-
-/// The path of a word, of this owner.
-fn path_in(alloc: Global, owner: &User, word: &str) -> Result<Path, Fault>
-    ensures { IfOk result (λ path. path.owner ≡ owner.now) }
-{
-    let path = path_of(alloc, word)?;
-    if path.owner() != owner {
-        return Err(Fault::BadLine);
-    }
-    Ok(path)
-}
-
-/// Adds the lines of a reply, or the first of them.
-pub(crate) fn add_lines(
-    alloc: Global,
-    reply: &Reply,
-    whole: bool,
-    answer: &mut Answer,
-) -> Result<(), Fault> {
-    let lines = reply_lines(alloc, reply)?;
-    for line in lines.as_slice() {
-        if whole || answer.is_empty() {
-            answer.part();
-            answer.made(String::from_utf8_lossy(alloc, line.as_slice()));
-        }
-    }
-    Ok(())
-}
-
-/// `load PATH TEXT`: the text of a group is loaded, in place of what was; `load PATH`: it has none.
-pub(crate) fn load_line(
-    alloc: Global,
-    loaded: &mut Loaded,
-    mut words: Words<'_>,
-) -> Result<(), Fault> {
-    let name = path_of(alloc, words.word()?)?;
-    let answer = match words.rest() {
-        Some(word) => group_of(alloc, &name, word)?,
-        None => LoadAnswer::Missing,
-    };
-    Ok(set(loaded, name, answer)?)
-}
-
-fn group_of(alloc: Global, name: &Path, word: &str) -> Result<LoadAnswer, Fault> {
-    let text = text_of(alloc, word)?;
-    Ok(LoadAnswer::Text(parse_group(name.owner(), text.as_slice())?))
-}
-
-fn set(loaded: &mut Loaded, name: Path, answer: LoadAnswer) -> Result<(), AllocError> {
-    loaded.set(name, answer)
 }
 
 // `files N PATH`: N Puts of one file.

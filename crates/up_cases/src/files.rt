@@ -4,6 +4,8 @@ use std::hash::RandomState;
 use std::random::RandomSource;
 use std::rt::Files;
 use std::{fs, io};
+use up_case_files::ClientLines;
+use up_case_hosts::Hosts;
 use up_case_lines::{File, Tally, run_lines};
 use up_case_logs::{Crashes, Fields, Logs, Moves, Records};
 use up_case_texts::{
@@ -11,6 +13,7 @@ use up_case_texts::{
     Streams, Texts,
 };
 use up_case_trees::{Globs, Steps, Trees, Watches};
+use up_case_worlds::Worlds;
 
 /// Runs each file of a folder, in order of their names.
 pub fn run_all<R: Files + RandomSource + AllocGlobal + Print + Clone + Drop>(
@@ -53,6 +56,7 @@ fn run_file<R: Files + RandomSource + AllocGlobal + Print>(
         text: text.as_str(),
     };
     match topic_of(name) {
+        "client" => run_lines(rt, file, ClientLines::new(), tally),
         "names" => run_lines(rt, file, Names, tally),
         "texts" => run_lines(rt, file, Texts, tally),
         "tree" => run_lines(rt, file, Trees, tally),
@@ -72,9 +76,16 @@ fn run_file<R: Files + RandomSource + AllocGlobal + Print>(
         "records" => run_lines(rt, file, Records::new(), tally),
         "scripts" => run_scripts(rt, file, RandomState::new(rt)?, tally),
         "globs" => run_lines(rt, file, Globs::new(RandomState::new(rt)?), tally),
+        "hosts" => run_lines(
+            rt,
+            file,
+            Hosts::new(rt.alloc(), RandomState::new(rt)?),
+            tally,
+        ),
         "steps" => run_lines(rt, file, Steps::new(RandomState::new(rt)?), tally),
         "rights" => run_lines(rt, file, Rights::new(RandomState::new(rt)?), tally),
         "watches" => run_lines(rt, file, Watches::new(RandomState::new(rt)?), tally),
+        "worlds" => run_lines(rt, file, Worlds::new(RandomState::new(rt)?), tally),
         _ => {
             tally.fail();
             println!(rt; "{name}: no topic has this name")

@@ -1,10 +1,9 @@
 -- Words and fields of output stand for their texts again, and no byte stands in them that parts them.
-use Rattle.std.proofs.Common.{◌≡◌, ◌≢◌, ◌==◌, ◌||◌, ◌/◌, ◌%◌, nat_le, ℕ, ◌<◌, Bool, true, false, List, [], ◌∷◌, ◌++◌, length, Some, option_map, codes, bytes_eq, cond, refl, sym, ◌∙◌, ap, arith}
+use Rattle.std.proofs.Common.{◌≡◌, ◌≢◌, ◌==◌, ◌/◌, ◌%◌, ℕ, ◌<◌, Bool, true, false, List, [], ◌∷◌, ◌++◌, length, Some, option_map, codes, bytes_eq, cond, refl, sym, ◌∙◌, ap, arith}
 use Rattle.std.specs.Fmt.{digit_glyph}
 use Rattle.std.specs.List.{flat_map, list_any}
-use Rattle.std.proofs.lemmas.Bool.{ne_eqb, or_parts, or_from, eqb-true, cases_Bool}
+use Rattle.std.proofs.lemmas.Bool.{ne_eqb, or_from}
 use Rattle.std.proofs.lemmas.Bool.Decides.{nat_tests}
-use Rattle.up_text.specs.Lists.{is_colon, is_comma}
 use Rattle.up_text.specs.Words.{coded, coded_byte, decoded, decoded_bytes, ends_word, escape, field, field_byte, is_coded, parts_fields}
 use Rattle.up_text.proofs.CodeLemmas.{coded-small, decoded-byte, decoded-coded_dash, decoded-dash_word, decoded_bytes-dash, glyph-whole, pair-digits, plain-whole}
 use Rattle.up_text.proofs.DecodeLemmas.{decoded-nil, decoded-pair}

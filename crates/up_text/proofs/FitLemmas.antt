@@ -1,9 +1,9 @@
 -- Whether a word stands for a text.
-use Rattle.std.proofs.Common.{◌≡◌, ◌∙◌, ◌==◌, ◌||◌, not, ℕ, ◌<◌, Bool, true, false, List, [], ◌∷◌, length, Some, is_some, codes, bytes_eq, refl, sym, ap, arith, ⊎_elim}
+use Rattle.std.proofs.Common.{◌≡◌, ◌∙◌, ◌==◌, not, ℕ, ◌<◌, true, false, List, [], ◌∷◌, length, is_some, codes, bytes_eq, refl, sym, ap, arith, ⊎_elim}
 use Rattle.std.specs.List.{list_any}
 use Rattle.std.proofs.lemmas.Bool.{cases_Bool, ne_eqb}
 use Rattle.std.proofs.lemmas.List.{nil_from_length}
-use Rattle.up_text.specs.Words.{decoded, decoded_bytes, ends_word, is_percent}
+use Rattle.up_text.specs.Words.{decoded, decoded_bytes, ends_word}
 use Rattle.up_text.proofs.DecodeLemmas.{decoded-nil}
 use Rattle.up_text.proofs.WordLemmas.{decoded-dash, decoded-empty, decoded-ended, decoded-marked, decoded-unmarked, is_dash, is_mark, not-dash}
 

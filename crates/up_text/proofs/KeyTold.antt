@@ -1,6 +1,6 @@
 -- Lists of endpoints are read again, but that the host's own store and the address `local` are printed alike.
-use Rattle.std.proofs.Common.{◌≡◌, ◌≢◌, ◌∙◌, ◌==◌, ℕ, ◌<◌, Bool, true, false, List, [], ◌∷◌, ◌++◌, length, map, Option, None, Some, option_map, codes, bytes_eq, cond, refl, sym, ap, arith}
-use Rattle.std.specs.List.{flat_map, join_by, list_any, AllByRecursion}
+use Rattle.std.proofs.Common.{◌≡◌, ◌≢◌, ◌∙◌, ℕ, Bool, true, false, List, [], ◌∷◌, ◌++◌, length, map, Option, None, Some, option_map, codes, bytes_eq, cond, refl, sym, ap, arith}
+use Rattle.std.specs.List.{flat_map, list_any, AllByRecursion}
 use Rattle.std.proofs.lemmas.Bool.{ne_eqb, true≢false}
 use Rattle.std.proofs.lemmas.Slice.Eq.{bytes_eq-Decides}
 use Rattle.up_entry.specs.declared.entries.Endpoint.{Endpoint}
@@ -17,9 +17,8 @@ use Rattle.up_text.proofs.CodeLemmas.{decoded-coded}
 use Rattle.up_text.proofs.CutLemmas.{failed}
 use Rattle.up_text.proofs.EntryTold.{field_comma, field_no_dash}
 use Rattle.up_text.proofs.FieldLemmas.{decoded-field}
-use Rattle.up_text.proofs.JoinLemmas.{all_weaker}
 use Rattle.up_text.proofs.ListTold.{list_again, list_in}
-use Rattle.up_text.proofs.WordBytes.{field_visible, field_word, join_free, literal_word, some_decoded, some_front}
+use Rattle.up_text.proofs.WordBytes.{field_word, join_free, literal_word, some_decoded, some_front}
 
 some_same : {x y : List ℕ} → Some x ≡ Some y → x ≡ y
 some_same is = cc

@@ -1,5 +1,5 @@
 -- Things of a list are read again, one by one.
-use Rattle.std.proofs.Common.{◌≡◌, ◌≢◌, ◌∙◌, ℕ, Bool, true, false, List, [], ◌∷◌, ◌++◌, map, Option, None, Some, codes, bytes_eq, cond, if◌then◌else◌, refl, sym, ap}
+use Rattle.std.proofs.Common.{◌≡◌, ◌≢◌, ◌∙◌, ℕ, false, List, [], ◌∷◌, map, Option, Some, codes, cond, if◌then◌else◌, refl, sym, ap}
 use Rattle.std.specs.List.{join_by, list_any, slice_split, AllByRecursion}
 use Rattle.up_text.specs.Lists.{◌>>=◌, is_comma, is_no_list}
 use Rattle.up_text.proofs.JoinLemmas.{split_joined}

@@ -1,7 +1,6 @@
 -- The laws of the lines that tell a reply.
-use Rattle.std.proofs.Common.{◌≡◌, ◌∙◌, ◌<◌, ◌^◌, ◌↔◌, ℕ, Bool, true, false, List, [], ◌∷◌, length, map, Option, None, Some, codes, decimal, refl, sym, subst, ap, arith}
+use Rattle.std.proofs.Common.{◌≡◌, ◌∙◌, ◌<◌, ◌^◌, ℕ, Bool, true, false, List, [], ◌∷◌, length, map, Option, None, Some, codes, decimal, refl, sym, subst, ap, arith}
 use Rattle.std.specs.List.{AllByRecursion}
-use Rattle.up_bytes.specs.Spelling.{IsList}
 use Rattle.up_entry.specs.declared.entries.Entry.{Entry}
 use Rattle.up_entry.specs.declared.what.What.{What}
 use Rattle.up_entry.specs.declared.what.What.TheVariants as what
@@ -18,7 +17,7 @@ use Rattle.up_wire.specs.declared.replies.Row.{Row}
 use Rattle.up_wire.specs.declared.replies.WatchEvent.{WatchEvent}
 use Rattle.up_wire.specs.Spelling.{IsDone, IsEvent, IsOption, IsReply, IsRow, IsSpelledReply, IsWhat}
 use Rattle.up_text.specs.Entries.{entry_words}
-use Rattle.up_text.specs.Laws.{AreAlike, AreOfBytes, done_told, HasByteReferences, IsLine, IsOfBytes, IsTold, IsWord, LinesAreWords, LinesTellReplies, ReferencesAreBytes, told}
+use Rattle.up_text.specs.Laws.{AreOfBytes, done_told, HasByteReferences, IsLine, IsOfBytes, IsTold, IsWord, LinesAreWords, LinesTellReplies, ReferencesAreBytes, told}
 use Rattle.up_text.specs.Lines.{is_space, line_words, spaced}
 use Rattle.up_refs.specs.References.{text_of}
 use Rattle.up_text.specs.Words.{coded}

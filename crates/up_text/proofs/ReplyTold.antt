@@ -1,12 +1,11 @@
 -- A reply is read again of the words of its lines.
-use Rattle.std.proofs.Common.{◌≡◌, ◌∙◌, ◌^◌, ℕ, ◌<◌, Bool, true, false, List, [], ◌∷◌, map, Option, None, Some, option_map, codes, bytes_eq, cond, decimal, if◌then◌else◌, refl, sym, ap}
+use Rattle.std.proofs.Common.{◌≡◌, ◌∙◌, ◌^◌, ℕ, ◌<◌, Bool, true, false, List, [], ◌∷◌, map, Option, None, Some, option_map, codes, bytes_eq, decimal, if◌then◌else◌, refl, ap}
 use Rattle.std.specs.List.{AllByRecursion}
-use Rattle.up_bytes.specs.Spelling.{IsByte, IsList}
 use Rattle.up_entry.specs.declared.entries.Entry.{Entry}
 use Rattle.up_entry.specs.declared.what.What.{What}
 use Rattle.up_entry.specs.declared.what.What.TheVariants as what
-use Rattle.up_entry.specs.Spelling.{IsEntry, IsSpelled}
-use Rattle.up_refs.specs.References.{reference_in, text_of}
+use Rattle.up_entry.specs.Spelling.{IsSpelled}
+use Rattle.up_refs.specs.References.{reference_in}
 use Rattle.up_rights.specs.declared.Right.{Right}
 use Rattle.up_rights.specs.declared.Right.TheVariants as right
 use Rattle.up_rights.specs.Words.{long_word}
@@ -21,7 +20,7 @@ use Rattle.up_text.specs.Entries.{entry_words}
 use Rattle.up_text.specs.Laws.{AreOfBytes, done_told, HasByteReferences, IsOfBytes, ReferencesAreBytes, told}
 use Rattle.up_text.specs.Lists.{◌>>=◌}
 use Rattle.up_text.specs.Numbers.{num_of}
-use Rattle.up_text.specs.Replies.{access_words, done_words, element_words, event_kind, event_words, further_words, key_words, reply_words, row_words, what_word}
+use Rattle.up_text.specs.Replies.{access_words, done_words, element_words, event_kind, event_words, further_words, reply_words, row_words, what_word}
 use Rattle.up_text.specs.Words.{coded, decoded}
 use Rattle.up_text.proofs.CodeLemmas.{decoded-coded}
 use Rattle.up_text.proofs.EntryTold.{entry_again, entry_in}

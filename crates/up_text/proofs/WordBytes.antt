@@ -1,5 +1,5 @@
 -- Which bytes stand in the words of output.
-use Rattle.std.proofs.Common.{◌≡◌, ◌≢◌, ◌∙◌, ◌==◌, ◌^◌, ◌&&◌, ◌||◌, nat_le, nat_lt, ℕ, zero, suc, ◌<◌, ◌≤◌, ℤ, pos, negsuc, Bool, true, false, List, [], ◌∷◌, ◌++◌, length, map, None, Some, is_some, slice_index, codes, decimal, FitsSigned, w64, refl, sym, ap, arith}
+use Rattle.std.proofs.Common.{◌≡◌, ◌≢◌, ◌∙◌, ◌==◌, ◌^◌, ◌||◌, nat_lt, ℕ, zero, suc, ◌<◌, ◌≤◌, ℤ, pos, negsuc, Bool, true, false, List, [], ◌∷◌, ◌++◌, length, Some, is_some, slice_index, decimal, FitsSigned, w64, refl, sym, ap, arith}
 use Rattle.std.specs.Fmt.{digit_glyph, signed_decimal}
 use Rattle.std.specs.List.{flat_map, join_by, list_all, list_any, AllByRecursion}
 use Rattle.std.specs.Str.Parse.{AllDigits}
@@ -12,7 +12,7 @@ use Rattle.up_refs.specs.References.{is_reference_text, is_upper_digit, referenc
 use Rattle.up_refs.proofs.Texts.{is_some-reference_in, reference_in-text_of}
 use Rattle.up_text.specs.Laws.{is_blank, IsWord}
 use Rattle.up_text.specs.Lines.{is_space}
-use Rattle.up_text.specs.Words.{coded, decoded, field, is_coded, is_percent, parts_fields}
+use Rattle.up_text.specs.Words.{coded, decoded, field, is_coded, is_percent}
 use Rattle.up_text.proofs.CodeLemmas.{decoded-coded}
 use Rattle.up_text.proofs.FieldLemmas.{coded_free, decoded-field, field_free, PassesNoEscape}
 use Rattle.up_text.proofs.IntLemmas.{fits-from}

@@ -1,5 +1,5 @@
 -- The lines that tell a reply, each without the session's number and its LF. This project's own.
-use Rattle.std.specs.Prelude.{ℕ, Bool, true, false, List, [], ◌∷◌, length, map, Option, Some, None, codes, decimal}
+use Rattle.std.specs.Prelude.{Bool, true, false, List, [], ◌∷◌, length, map, Option, Some, None, codes, decimal}
 use Rattle.up_names.specs.Texts.{Text}
 use Rattle.up_entry.specs.declared.entries.Entry.{Entry}
 use Rattle.up_entry.specs.declared.what.What.{What}

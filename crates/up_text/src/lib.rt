@@ -7,9 +7,10 @@
 //! [`read_request`] gives exactly what the words of a line ask, and [`read_client_line`] what they have the client do;
 //! [`is_request`] says whether they are such a line at all, which does not depend on who asks.
 //! [`reply_lines`] gives exactly the lines that tell a reply: words parted by single spaces ([`lines_are_words`]), and different
-//! ones for different replies ([`lines_tell_replies`]).
+//! ones for different replies ([`lines_tell_replies`]). [`fault_lines`] gives those that tell a client's fault.
 #![tactic(auto)]
 
+mod client_faults;
 mod entries;
 mod fault;
 mod fitting;
@@ -21,6 +22,7 @@ mod replies;
 mod requests;
 mod words;
 
+pub use client_faults::fault_lines;
 pub use fitting::is_request;
 pub use laws::{lines_are_words, lines_tell_replies};
 pub use lines::{cut_word, is_silent, next_line, one_word, three_words, two_words};

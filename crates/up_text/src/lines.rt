@@ -2,7 +2,7 @@
 
 ghost use Rattle.std.specs.Prelude.{◌≡◌, ◌≢◌, ◌+◌, ◌<◌, ◌==◌, ◌↔◌, [], ◌∷◌, length, IsNone, IfSome, IfNone, option_copied, position};
 ghost use Rattle.std.specs.List.{before_first, after_first};
-ghost use Rattle.up_text.specs.Lines.{is_line_end, is_silent, is_space, line_words, script_lines, words_left};
+ghost use Rattle.up_text.specs.Lines.{is_line_end, is_silent, line_words, script_lines, words_left};
 
 use memchr::memchr;
 

@@ -2,7 +2,7 @@
 
 ghost use Rattle.std.specs.Prelude.{◌≡◌, ◌++◌, ◌∷◌, [], Some, option_map, is_some};
 ghost use Rattle.std.specs.List.{after_first, before_first, slice_split};
-ghost use Rattle.up_text.specs.Lists.{address_named, all_endpoints, block_at, blocks_from, blocks_named, endpoint_named, endpoints_named, is_colon, is_comma, local_block, offset_behind, sized_block, with_block};
+ghost use Rattle.up_text.specs.Lists.{address_named, all_endpoints, block_at, blocks_from, blocks_named, endpoint_named, endpoints_named, is_colon, is_comma, offset_behind, sized_block, with_block};
 ghost use Rattle.up_text.specs.Meant.{IsMeant};
 ghost use Rattle.up_text.specs.Words.{decoded};
 

@@ -4,7 +4,7 @@ ghost use Rattle.std.specs.Prelude.{◌≡◌, ◌++◌, [], ◌∷◌, IfOk, On
 ghost use Rattle.up_refs.specs.References.{text_of};
 ghost use Rattle.up_text.specs.Entries.{entry_words};
 ghost use Rattle.up_text.specs.Lines.{behind_spaces, spaced};
-ghost use Rattle.up_text.specs.Replies.{access_words, done_words, element_words, event_words, further_words, key_words, reply_lines, reply_words, row_words, what_word};
+ghost use Rattle.up_text.specs.Replies.{done_words, element_words, event_words, further_words, key_words, reply_lines, reply_words, row_words, what_word};
 ghost use Rattle.up_text.specs.Words.{coded};
 
 use crate::entries::{add_endpoints, add_entry, add_num, add_plain, add_reference, add_text};
@@ -27,7 +27,11 @@ pub fn reply_lines(alloc: Global, reply: &Reply) -> Result<Items<Bytes>, AllocEr
 
 /// Adds the lines of a reply.
 #[tactic(auto, unfolding(crate::specs::Replies::reply_words))]
-fn add_lines(alloc: Global, lines: &mut Vec<Bytes>, reply: &Reply) -> Result<(), AllocError>
+pub(crate) fn add_lines(
+    alloc: Global,
+    lines: &mut Vec<Bytes>,
+    reply: &Reply,
+) -> Result<(), AllocError>
     ensures { OnOk result (lines.new.items ≡ lines.old.items
         ++ map (λ words. spaced words) (reply_words reply.now)) }
 {
@@ -57,7 +61,7 @@ fn add_lines(alloc: Global, lines: &mut Vec<Bytes>, reply: &Reply) -> Result<(),
 }
 
 /// Adds a line.
-fn add_line(lines: &mut Vec<Bytes>, line: Vec<u8>) -> Result<(), AllocError>
+pub(crate) fn add_line(lines: &mut Vec<Bytes>, line: Vec<u8>) -> Result<(), AllocError>
     ensures { OnOk result (lines.new.items ≡ lines.old.items ++ line.items ∷ []) }
 {
     lines.push(Items::from_vec(line))?;
@@ -65,7 +69,7 @@ fn add_line(lines: &mut Vec<Bytes>, line: Vec<u8>) -> Result<(), AllocError>
 }
 
 /// Adds a line of this word alone.
-fn add_word(alloc: Global, lines: &mut Vec<Bytes>, word: &[u8]) -> Result<(), AllocError>
+pub(crate) fn add_word(alloc: Global, lines: &mut Vec<Bytes>, word: &[u8]) -> Result<(), AllocError>
     ensures { OnOk result (lines.new.items ≡ lines.old.items ++ spaced (word.now ∷ []) ∷ []) }
 {
     let line = Vec::from_slice(alloc, word)?;
@@ -73,7 +77,7 @@ fn add_word(alloc: Global, lines: &mut Vec<Bytes>, word: &[u8]) -> Result<(), Al
 }
 
 /// Adds a line of a word and a number.
-fn add_counted(
+pub(crate) fn add_counted(
     alloc: Global,
     lines: &mut Vec<Bytes>,
     word: &[u8],

@@ -1,6 +1,6 @@
 //! The lines of a script that ask something of a session.
 
-ghost use Rattle.std.specs.Prelude.{◌≡◌, ◌||◌, IfOk, is_some, option_map};
+ghost use Rattle.std.specs.Prelude.{◌≡◌, IfOk};
 ghost use Rattle.up_text.specs.Meant.{IsMeant};
 ghost use Rattle.up_text.specs.Numbers.{int_of};
 ghost use Rattle.up_text.specs.Requests.{byte_of, client_line_of, entry_by, file_line, get_line, kind_client, kind_of, kind_request, link_line, mkdir_line, one_text, plain_entry, put_line, request_of, setkey_line, watch_line};

@@ -1,5 +1,5 @@
 -- Events that are gathered from positions, one after the other, up to the 256th.
-use Rattle.std.proofs.Common.{◌≡◌, ℕ, suc, Bool, true, false, ◌+◌, ◌≤◌, List, [], ◌∷◌, ◌++◌, length, take, drop, refl, sym, ap, subst, ◌∙◌, arith, Option, Some, None, append-nil}
+use Rattle.std.proofs.Common.{◌≡◌, ℕ, suc, Bool, true, false, ◌+◌, ◌≤◌, List, [], ◌∷◌, ◌++◌, length, take, drop, refl, sym, ap, subst, ◌∙◌, Option, Some, None}
 use Rattle.std.specs.Prelude.{if◌then◌else◌, IsSome, nat_lt, slice_get, unwrap_or}
 use Rattle.std.specs.List.{cons_option, filter_map}
 use Rattle.std.specs.Option.{option_map, option_to_list}
@@ -7,7 +7,6 @@ use Rattle.std.proofs.lemmas.Bool.{false≢true}
 use Rattle.std.proofs.lemmas.List.{take_all}
 use Rattle.std.proofs.lemmas.List.Elements.{filter_map-append}
 use Rattle.up_wire.specs.declared.replies.WatchEvent.{WatchEvent}
-use Rattle.up_wire.specs.declared.replies.Reply.{Reply}
 use Rattle.up_wire.specs.declared.replies.Reply.TheVariants.{Ok}
 use Rattle.up_wire.specs.declared.replies.Done.TheVariants.{Events}
 use Rattle.up_answers.specs.Watches.{batch, position_at}

@@ -7,3 +7,4 @@ pub mod Told
 pub mod Batches
 pub mod ItemsFound
 pub mod Sequences
+pub mod DecidedLemmas

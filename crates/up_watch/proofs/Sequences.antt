@@ -1,5 +1,5 @@
 -- A sequence of 0 or more, as the number that it is.
-use Rattle.std.proofs.Common.{◌≡◌, Bool, true, refl, ap, sym, ◌∙◌, w64, SFits, to_z, of_z}
+use Rattle.std.proofs.Common.{◌≡◌, true, ap, sym, ◌∙◌, w64, SFits, to_z, of_z}
 use Rattle.std.specs.Prelude.{ℤ, pos, negsuc}
 use Rattle.std.specs.Int.Signed.{le_z}
 use lib.IntN.{nat_abs}

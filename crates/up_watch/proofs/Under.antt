@@ -1,8 +1,8 @@
 -- Paths under a path: it, and those whose parent is under it.
-use Rattle.std.proofs.Common.{◌≡◌, ℕ, zero, suc, ◌<◌, ◌≤◌, Bool, true, false, List, length, take, refl, sym, ap, ◌∙◌, arith, inl, inr, Option, Some, None, bytes_eq, Decides}
+use Rattle.std.proofs.Common.{◌≡◌, ℕ, zero, suc, ◌<◌, ◌≤◌, Bool, true, false, length, take, refl, sym, ap, ◌∙◌, arith, inl, inr, Option, Some, None, bytes_eq, Decides}
 use Rattle.std.proofs.lemmas.Slice.Eq.{bytes_eq-Decides, slice_eq-Decides}
 use lib.Pointwise.{pointwise}
-use Rattle.std.proofs.lemmas.Bool.{and_from, and_parts, cases_lt, false≢true, false_from_ne_true}
+use Rattle.std.proofs.lemmas.Bool.{and_from, and_parts, cases_lt, false_from_ne_true}
 use Rattle.std.proofs.lemmas.List.{take_all}
 use Rattle.up_names.specs.PathNames.{PathName, cut, is_under, parent_of}
 use Rattle.up_names.specs.PathOrder.{path_eq}

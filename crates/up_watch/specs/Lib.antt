@@ -1,3 +1,4 @@
 pub mod Watching
+pub mod Decided
 pub mod Batches
 pub mod Items

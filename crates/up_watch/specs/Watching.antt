@@ -1,5 +1,5 @@
 -- What contracts see of who watches a tree.
-use Rattle.std.specs.Prelude.{ℕ, suc, ◌-◌, Bool, false, if◌then◌else◌, List, length, Option, Some, None}
+use Rattle.std.specs.Prelude.{ℕ, suc, ◌-◌, Bool, false, if◌then◌else◌, List, Option, Some, None}
 use Rattle.std.specs.Option.{option_and_then}
 use Rattle.std.specs.Ordering.{is_lt}
 use Rattle.up_names.specs.Texts.{UserName}

@@ -128,7 +128,7 @@ fn told_above(
     let positions = tree.changes_under(path, sequence)?;
     batch(
         alloc,
-        &mut Watcher::new(tree, loaded, user),
+        &mut Watcher::new(alloc, tree, loaded, user),
         positions.as_slice(),
     )
 }

@@ -7,6 +7,7 @@ use std::process::ExitCode;
 use std::rt::Env;
 use std::{env, io};
 use up_ends::{StdSink, StdSource};
+use up_helper::{sign_run, verify_run};
 use up_script::can_run;
 
 /// The status where the system gives no random keys to hash names with; nothing was read or written.
@@ -33,17 +34,23 @@ fn words(rt: &(impl Env + AllocGlobal)) -> Result<Vec<String>, AllocError> {
     Ok(words)
 }
 
-/// Runs the command that the words name, and answers its status.
-fn status(rt: &HostRuntime) -> u8 {
-    let Ok(words) = words(rt) else {
-        return OUT_OF_MEMORY;
-    };
+/// The status of a command that stands in for a helper. `None` where the first word is none of these.
+fn helper_status(rt: &HostRuntime, words: &[String]) -> Option<u8> {
+    match words.first()?.as_str() {
+        "verify" => Some(verify_run(rt.alloc(), words)),
+        "sign" => Some(sign_run(rt.alloc(), words, &mut StdSink::new(rt.stdout()))),
+        _ => None,
+    }
+}
+
+/// Runs any other command that the words name, and answers its status.
+fn command_status(rt: &HostRuntime, words: &[String]) -> u8 {
     let Ok(random) = RandomState::new(rt) else {
         return READ_FAULT;
     };
     let mut source = StdSource::new(rt.stdin());
     let mut sink = StdSink::new(rt.stdout());
-    can_run(rt.alloc(), random, &words, &mut source, &mut sink)
+    can_run(rt.alloc(), random, words, &mut source, &mut sink)
 }
 
 /// What a status means for people, and where to read on; nothing after 0, and after 64, whose usage line was printed.
@@ -61,7 +68,14 @@ fn meaning(status: u8) -> Option<&'static str> {
 }
 
 fn main(rt: HostRuntime) -> ExitCode {
-    let status = status(&rt);
+    let status = match words(&rt) {
+        Ok(words) => match helper_status(&rt, &words) {
+            // A helper says no more than its status.
+            Some(status) => return ExitCode::from(status),
+            None => command_status(&rt, &words),
+        },
+        Err(_) => OUT_OF_MEMORY,
+    };
     if let Some(line) = meaning(status) {
         // Where even this line cannot be written, the status says it.
         let _ = rt.eprintln(line);

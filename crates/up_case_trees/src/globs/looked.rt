@@ -2,11 +2,12 @@
 ghost use Rattle.std.specs.Prelude.{◌≡◌, IfOk};
 
 use std::alloc::Global;
+use up_case_asks::path_in;
 use up_case_lines::{Answer, Fault, Words, path_of, text_of, user_of};
 use up_disk::MemDisk;
 use up_entry::Entry;
 use up_list::{Onlooker, TreeLook, first_link, glob, lookup, which_access};
-use up_names::{Path, User};
+use up_names::User;
 use up_pattern::{Pattern, parse_pattern};
 use up_policy::Loaded;
 use up_rights::Right;
@@ -93,17 +94,6 @@ fn met_line(
         None => answer.word("none"),
     }
     Ok(())
-}
-
-// The path that a word names in the tree of this owner.
-fn path_in(alloc: Global, owner: &User, word: &str) -> Result<Path, Fault>
-    ensures { IfOk result (λ path. path.owner ≡ owner.now) }
-{
-    let path = path_of(alloc, word)?;
-    if path.owner() != owner {
-        return Err(Fault::BadLine);
-    }
-    Ok(path)
 }
 
 // The pattern that a word spells, of paths in the tree of this owner.

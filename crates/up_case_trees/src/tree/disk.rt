@@ -1,11 +1,12 @@
 //! Commands of the disk on which a tree's log is.
-ghost use Rattle.std.specs.Prelude.{◌≡◌, ◌≤◌, false, length, IfOk};
+ghost use Rattle.std.specs.Prelude.{◌≡◌, ◌≤◌, false, length};
 ghost use Rattle.up_journal.specs.Journal.{AreLimits};
 ghost use Rattle.up_policy.specs.Trees.{owns_snapshots};
 
 use super::Stage;
 use std::alloc::Global;
-use up_case_lines::{Answer, Fault, Words, bytes_of, user_of};
+use up_case_asks::{WIDE, owner_of};
+use up_case_lines::{Answer, Fault, Words, bytes_of};
 use up_case_logs::{add_appended, add_open_fault, limits_of};
 use up_disk::{Disk, MemDisk};
 use up_journal::{Journal, Limits};
@@ -13,13 +14,6 @@ use up_lists::Items;
 use up_names::User;
 use up_refs::Reference;
 use up_tree::TreeState;
-
-/// The limits with which a tree over a crash image is opened, and payloads are appended.
-const WIDE: Limits = Limits {
-    records: 1 << 20,
-    device: 1 << 30,
-    largest: 1 << 16,
-};
 
 /// Does one command of a disk.
 pub fn turn(
@@ -36,26 +30,6 @@ pub fn turn(
         "trees" => trees_line(alloc, disk, words, answer),
         "digest" => digest_line(alloc, disk, words, answer),
         _ => Err(Fault::BadLine),
-    }
-}
-
-/// The owner of a tree. One of a snapshot tree does not fit.
-fn owner_of(alloc: Global, word: &str) -> Result<User, Fault>
-    ensures { IfOk result (λ owner. owns_snapshots owner ≡ false) }
-{
-    let owner = user_of(alloc, word)?;
-    if owns_snapshots(&owner) {
-        return Err(Fault::BadLine);
-    }
-    Ok(owner)
-}
-
-fn owns_snapshots(owner: &User) -> bool
-    ensures { result ≡ owns_snapshots owner.now }
-{
-    match owner.suffix() {
-        Some(suffix) => suffix == "snapshot",
-        None => false,
     }
 }
 
@@ -86,30 +60,6 @@ fn open(alloc: Global, disk: MemDisk, owner: User, limits: Limits, answer: &mut 
         Err(fault) => {
             add_open_fault(fault.why, answer);
             Stage::Disk(fault.disk)
-        }
-    }
-}
-
-/// A tree of this owner over an empty disk, with limits that no case comes to.
-pub fn empty_tree(alloc: Global, owner: &str) -> Result<TreeState<MemDisk>, Fault> {
-    new_tree(alloc, owner, WIDE, Items::new(alloc))
-}
-
-/// A tree of this owner over an empty disk, of which the calls with these numbers fail, with these limits.
-pub fn new_tree(
-    alloc: Global,
-    owner: &str,
-    limits: Limits,
-    fails: Items<u64>,
-) -> Result<TreeState<MemDisk>, Fault>
-    requires { AreLimits limits }
-{
-    let owner = owner_of(alloc, owner)?;
-    match TreeState::open(alloc, MemDisk::new(alloc, fails), owner, limits) {
-        Ok(tree) => Ok(tree),
-        Err(fault) => {
-            drop(fault);
-            Err(Fault::OutOfMemory)
         }
     }
 }

@@ -1,5 +1,5 @@
 -- The pieces that are left are endpoints exactly where all are.
-use Rattle.std.proofs.Common.{length, drop, Some, is_some}
+use Rattle.std.proofs.Common.{length, drop, is_some}
 use Rattle.std.specs.List.{slice_split}
 use Rattle.up_text.specs.Lists.{all_endpoints, is_comma}
 use Rattle.up_text.proofs.ListLemmas.{EachGoing}

@@ -1,5 +1,5 @@
 -- The blocks so far, and those of the pieces that are left, are all of them.
-use Rattle.std.proofs.Common.{length, drop, Some, is_some}
+use Rattle.std.proofs.Common.{length, drop, Some}
 use Rattle.std.specs.List.{slice_split}
 use Rattle.up_text.specs.Lists.{blocks_from, is_comma}
 use Rattle.up_text.proofs.ListLemmas.{BlocksGoing}

@@ -1,5 +1,5 @@
 -- The endpoints so far, and those of the pieces that are left, are all of them.
-use Rattle.std.proofs.Common.{length, drop, Some, is_some}
+use Rattle.std.proofs.Common.{length, drop}
 use Rattle.std.specs.List.{slice_split}
 use Rattle.up_text.specs.Lists.{all_endpoints, is_comma}
 use Rattle.up_text.proofs.ListLemmas.{EndpointsGoing}

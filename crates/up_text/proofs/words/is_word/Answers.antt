@@ -1,5 +1,5 @@
 -- Whether a word with a mark, and one without, stands for a text.
-use Rattle.std.proofs.Common.{◌∙◌, sym, ap, is_some, not}
+use Rattle.std.proofs.Common.{◌∙◌, sym, ap, not}
 use Rattle.up_text.proofs.FitLemmas.{fits-ended, fits-marked, fits-unmarked}
 use Rattle.up_text.proofs.words.is_word.Goals as goal
 

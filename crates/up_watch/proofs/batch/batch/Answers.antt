@@ -1,10 +1,7 @@
-use Rattle.std.proofs.Common.{◌≡◌, Option, sym, ap, subst, ◌∙◌, arith, get_or, length}
-use Rattle.std.specs.List.{filter_map}
+use Rattle.std.proofs.Common.{◌≡◌, ap, ◌∙◌, arith, get_or, length}
 use Rattle.std.proofs.lemmas.Option.{slice_get-get_or}
-use Rattle.up_entry.specs.declared.records.Rec.{Rec}
 use Rattle.std.specs.Prelude.{unwrap_or}
-use Rattle.up_answers.specs.Watches.{batch, position_at}
-use Rattle.up_wire.specs.declared.replies.WatchEvent.{WatchEvent}
+use Rattle.up_answers.specs.Watches.{position_at}
 use Rattle.up_wire.specs.declared.replies.Done.TheVariants.{Events}
 use Rattle.up_wire.specs.declared.replies.Reply.TheVariants.{Ok}
 use Rattle.up_watch.specs.Watching.{Watching, told}

@@ -2,7 +2,6 @@ use Rattle.std.proofs.Common.{◌≡◌, ◌≤◌, List, ℕ, length, sym, ap, 
 use Rattle.std.specs.Prelude.{IfOk}
 use Rattle.std.specs.List.{AllByRecursion, filter_map}
 use Rattle.up_answers.specs.Watches.{batch}
-use Rattle.up_replay.specs.Changes.{changes_under}
 use Rattle.up_watch.specs.Batches.{IsPosition}
 use Rattle.up_watch.specs.Watching.{Watching, told}
 use Rattle.up_watch.proofs.Told.{positions_within, watched_above}

@@ -1,0 +1,2 @@
+pub mod HelperWords
+pub mod Signatures

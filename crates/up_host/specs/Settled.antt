@@ -1,0 +1,24 @@
+-- That the logs of a host stay settled but for a fault, and that all stays in its place. This project's own.
+use Rattle.std.specs.Prelude.{◌≡◌, ◌⊎◌, ℕ, map, slice_get, is_some, Some}
+use Rattle.up_disk.specs.declared.disk.Disk.{Ghosts}
+use Rattle.up_faults.specs.Counts.{Rose}
+use Rattle.up_host.specs.Alone.{HostState}
+use Rattle.up_host.specs.declared.held.Held.{Held}
+use Rattle.up_journal.specs.Logs.{IsSettledLog, LogState}
+use Rattle.up_names.specs.Texts.{UserName}
+use Rattle.up_tree.specs.States.{State, over_journal}
+
+-- A settled log stays settled, or its disk failed, whose count rose; and the disk tells its content exactly where it did before.
+pub record KeepsSettled {D R : Type 0} (disks : Ghosts D) (old new : LogState D R) : Type 0 where
+  pub settled : IsSettledLog old → IsSettledLog new ⊎ Rose (disks.faults old.disk) (disks.faults new.disk)
+  pub told : is_some (disks.content new.disk) ≡ is_some (disks.content old.disk)
+
+abbrev pub owner_of : {D : Type 0} → Held (State D) → UserName
+owner_of held = held.state.owner
+
+-- so it is with each log of a host, and its trees stand where they stood
+pub record StaysSettled {D : Type 0} (disks : Ghosts D) (host after : HostState D) : Type 0 where
+  pub owners : map owner_of after.trees ≡ map owner_of host.trees
+  pub trees : (i : ℕ) (one other : Held (State D)) → slice_get host.trees i ≡ Some one → slice_get after.trees i ≡ Some other → KeepsSettled disks (over_journal one.state) (over_journal other.state)
+  pub store : KeepsSettled disks host.store.state after.store.state
+  pub keys : KeepsSettled disks host.keys.state after.keys.state

@@ -1,0 +1,98 @@
+//! What the adapters do with a clock, a seed and a helper, and the two commands of a helper.
+use crate::{HelperVerifier, HostClock, SeedNonces};
+use std::alloc::{AllocError, Global};
+use std::io;
+use std::io::ErrorKind;
+use std::test::Fail;
+use std::time::{Clock as TimeOfDay, Duration};
+use up_ends::{Clock, Failed, MemSink, Nonces, Verdict, Verifier};
+use up_helper::{hex_word, sign_run, verify_run};
+use up_lists::Items;
+
+/// A machine's clock that stands still, or cannot be read.
+#[derive(Drop)]
+struct Stands(Option<u64>);
+
+impl TimeOfDay for Stands {
+    fn monotonic(&self) -> io::Result<Duration> {
+        self.since_1970()
+    }
+
+    fn since_1970(&self) -> io::Result<Duration> {
+        match self.0 {
+            Some(seconds) => Ok(Duration::new(seconds, 999_999_999)),
+            None => Err(io::Error::from(ErrorKind::Other)),
+        }
+    }
+}
+
+#[test]
+fn nearest_moment(rt: HostRuntime) -> Result<(), Fail> {
+    for (reads, moment) in [
+        (Some(86_400), 86_400),
+        (Some(253_402_207_199), 253_402_207_199),
+        (Some(253_402_207_200), 253_402_207_199),
+        (Some(u64::MAX), 253_402_207_199),
+        (None, 0),
+    ] {
+        assert_eq!(rt; HostClock::new(Stands(reads)).now(), moment);
+    }
+    Ok(())
+}
+
+#[test]
+fn nonces_of_a_seed(rt: HostRuntime) -> Result<(), Fail> {
+    let mut nonces = SeedNonces::new([0; 32]);
+    for digits in [
+        "2C34CE1DF23B838C5ABF2A7F6437CCA3D3067ED509FF25F11DF6B11B582B51EB",
+        "08E00266FFF0AACC64974F22A53622A7DC458AC1B5FD446AE7C99A4A99A564E6",
+    ] {
+        let nonce = hex_word(rt.alloc(), nonces.next().as_slice())?;
+        assert_eq!(rt; nonce.as_str(), digits);
+    }
+    let mut one = SeedNonces::from_random(&rt)?;
+    let mut other = SeedNonces::from_random(&rt)?;
+    assert!(rt; one.next() != other.next());
+    Ok(())
+}
+
+#[test]
+fn verdicts_of_programs(rt: HostRuntime) -> Result<(), Fail> {
+    for (helper, verdict, faults) in [
+        ("/bin/true", Ok(Verdict::Yes), 0),
+        ("/bin/false", Ok(Verdict::No), 0),
+        ("/nobody/has/this", Err(Failed), 1),
+    ] {
+        let helper = String::from_str(rt.alloc(), helper)?;
+        let mut verifier = HelperVerifier::new(rt.alloc(), &rt, helper);
+        assert_eq!(rt; verifier.verdict(b"a", b"bc", b""), verdict);
+        assert_eq!(rt; verifier.faults(), faults);
+    }
+    Ok(())
+}
+
+/// The words of a command.
+fn words(alloc: Global, texts: &[&str]) -> Result<Vec<String>, AllocError> {
+    let mut words = Vec::new(alloc);
+    for text in texts {
+        words.push(String::from_str(alloc, *text)?)?;
+    }
+    Ok(words)
+}
+
+#[test]
+fn commands_of_a_helper(rt: HostRuntime) -> Result<(), Fail> {
+    let signature = "BA7816BF8F01CFEA414140DE5DAE2223B00361A396177A9CB410FF61F20015AD";
+    for (signature, status) in [(signature, 0), ("00", 1), ("-", 1), ("", 2), ("ba", 2)] {
+        let words = words(rt.alloc(), &["verify", "61", "6263", signature])?;
+        assert_eq!(rt; verify_run(rt.alloc(), &words), status);
+    }
+    let mut sink = MemSink::new(rt.alloc(), Items::from_vec(Vec::new(rt.alloc())));
+    for (user, status) in [("ann", 2), ("Ann@A.Example.", 0)] {
+        let words = words(rt.alloc(), &["sign", user, "6869"])?;
+        assert_eq!(rt; sign_run(rt.alloc(), &words, &mut sink), status);
+    }
+    let line = b"E781F9F84DB4F4BB68CBF1A24FCA81BEC40C4F1EDE895137579311A4DF1CEDAC\n";
+    assert_eq!(rt; sink.bytes(), line.as_slice());
+    Ok(())
+}
