@@ -1,5 +1,5 @@
 -- How the logs of a host stay settled.
-use Rattle.std.proofs.Common.{◌≡◌, ◌≢◌, ◌≤◌, ℕ, zero, suc, Bool, true, false, List, [], ◌∷◌, length, map, refl, sym, ap, subst, ◌∙◌, inl, inr, Option, Some, None, Result, Ok, Err, slice_get, slice_set, nat_lt, bytes_eq}
+use Rattle.std.proofs.Common.{arith, ◌≡◌, ◌≢◌, ◌≤◌, ℕ, zero, suc, Bool, true, false, List, [], ◌∷◌, length, map, refl, sym, ap, subst, ◌∙◌, inl, inr, Option, Some, None, Result, Ok, Err, slice_get, slice_set, nat_lt, bytes_eq}
 use Rattle.std.specs.Prelude.{IfErr, IsErrOf, is_some}
 use Rattle.up_adding.specs.Steps.{Steps}
 use Rattle.up_blocks.specs.Blocks.{AddsBlock, DeletesBlock, GivesBlock, PutsBlock}
@@ -37,7 +37,7 @@ module _ {D : Type 0} (disks : Ghosts D) where
   -- ---- any log
 
   pub settled_same : {R : Type 0} (log : LogState D R) → KeepsSettled disks log log
-  settled_same log = record { settled = λ h. inl h; told = refl }
+  settled_same log = record { settled = λ h. inl h; told = refl; later = omega arith }
 
   pub settled_equal : {R : Type 0} (old new : LogState D R) → new ≡ old → KeepsSettled disks old new
   settled_equal old new h = subst (λ s. KeepsSettled disks old s) (sym h) (settled_same old)
@@ -52,14 +52,15 @@ module _ {D : Type 0} (disks : Ghosts D) where
       | inr rose ↦ inr (Rose-left (disks.faults a.disk) (disks.faults b.disk) (disks.faults c.disk) rose then)
     ];
     told = two.told ∙ one.told;
+    later = omega (arith, first, then);
   }
 
   -- ---- a record is added
 
   settled_adds : {R S : Type 0} (view : S → LogState D R) (read : ℕ → List ℕ → Result (List R) Damage) (rec : R) (old new : S) (result : Result ℕ AppendWhy) → AddsRecord disks read rec (view old) (view new) result
       → IfErr result (λ reason. reason ≢ append.Fault → new ≡ old) → HasCause (disks.faults (view old).disk) (disks.faults (view new).disk) (IsErrOf result append.Fault) → KeepsSettled disks (view old) (view new)
-  settled_adds view read rec old new (Ok position) added untouched cause = record { settled = λ h. inl added.settled; told = added.told }
-  settled_adds view read rec old new (Err append.Fault) added untouched cause = record { settled = λ h. inr (cause.rose refl); told = added.told }
+  settled_adds view read rec old new (Ok position) added untouched cause = record { settled = λ h. inl added.settled; told = added.told; later = cause.later }
+  settled_adds view read rec old new (Err append.Fault) added untouched cause = record { settled = λ h. inr (cause.rose refl); told = added.told; later = cause.later }
   settled_adds view read rec old new (Err (append.Full n)) added untouched cause = settled_equal (view old) (view new) (ap view (untouched (λ e. absurd (cc))))
   settled_adds view read rec old new (Err append.OutOfMemory) added untouched cause = settled_equal (view old) (view new) (ap view (untouched (λ e. absurd (cc))))
 
@@ -95,8 +96,8 @@ module _ {D : Type 0} (disks : Ghosts D) where
   -- ---- the store
 
   block_settled : (rec : BlockRecord) (old new : LogState D BlockRecord) (result : Result ℕ BlockWhy) → AddsBlock disks rec old new result → KeepsSettled disks old new
-  block_settled rec old new (Ok position) h = record { settled = λ s. inl h.added.settled; told = h.added.told }
-  block_settled rec old new (Err why.Fault) h = record { settled = λ s. inr (h.cause.rose refl); told = h.added.told }
+  block_settled rec old new (Ok position) h = record { settled = λ s. inl h.added.settled; told = h.added.told; later = h.cause.later }
+  block_settled rec old new (Err why.Fault) h = record { settled = λ s. inr (h.cause.rose refl); told = h.added.told; later = h.cause.later }
   block_settled rec old new (Err (why.Full n)) h = settled_equal old new (h.untouched (λ e. absurd (cc)))
   block_settled rec old new (Err why.NotExist) h = settled_equal old new (h.untouched (λ e. absurd (cc)))
   block_settled rec old new (Err why.OutOfMemory) h = settled_equal old new (h.untouched (λ e. absurd (cc)))
@@ -105,6 +106,7 @@ module _ {D : Type 0} (disks : Ghosts D) where
   gives_settled reference old new result h = record {
     settled = λ s. inl (subst IsSettledLog (sym h.unchanged) (record { settled = s.settled; nothing = s.nothing }));
     told = ap is_some h.content;
+    later = h.cause.later;
   }
 
   kept_settled : (bytes : List ℕ) (old new : LogState D BlockRecord) (result : Result (List ℕ) BlockWhy) (held : Bool) → holds old.log (sha256 bytes) ≡ held → PutsBlock disks bytes old new result → KeepsSettled disks old new

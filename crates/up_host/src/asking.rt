@@ -50,6 +50,7 @@ impl<D: Disk> Host<D> {
             (record { user = session.now.user; request = request.now }) result }
         ensures counts { Counts (disk_faults D.Disk self.old) (disk_faults D.Disk self.new)
             (L.faults loader.old) (L.faults loader.new) result }
+        ensures tie { L.tied loader.old loader.new }
         ensures alike { TellsNoMore (views D.Disk self.new)
             (record { user = session.now.user; request = request.now }) result }
         ensures stays { StaysSettled D.Disk self.old self.new }
@@ -253,7 +254,13 @@ impl<D: Disk> Host<D> {
 
 // An event with nothing loaded or fetched, for which no log was looked at.
 fn bare(alloc: Global, random: RandomState, reply: Reply, now: u64) -> Event
-    ensures { result ≡ record { reply = reply; position = 0; loaded = []; fetched = []; moment = now } }
+    ensures { result ≡ record {
+      reply = reply;
+      position = 0;
+      loaded = [];
+      fetched = [];
+      moment = now;
+    } }
 {
     event_at(alloc, random, reply, 0, now)
 }
@@ -275,7 +282,13 @@ fn answered(alloc: Global, random: RandomState, reply: Reply, position: u64, now
 }
 
 fn event_at(alloc: Global, random: RandomState, reply: Reply, position: u64, now: u64) -> Event
-    ensures { result ≡ record { reply = reply; position = position; loaded = []; fetched = []; moment = now } }
+    ensures { result ≡ record {
+      reply = reply;
+      position = position;
+      loaded = [];
+      fetched = [];
+      moment = now;
+    } }
 {
     Event {
         reply,

@@ -22,6 +22,11 @@ returns-clause-alone g c =
 pub returns-clause-counts : goal.returns-clause-counts
 returns-clause-counts g c = came_counts g.D.Disk g.L.Loader c.args.self.now c.ask_by.new.self c.args.loader.now c.ask_by.new.loader (record { user = c.user.result.now; request = c.args.request.now }) c.ask_by.result c.ask_by.ensures.came
 
+pub returns-clause-tie : goal.returns-clause-tie
+returns-clause-tie g c =
+    let asked = came_asked g.D.Disk g.L.Loader g.met.L.Loader.same g.met.L.Loader.joined c.args.self.now c.ask_by.new.self c.args.loader.now c.ask_by.new.loader (record { user = c.user.result.now; request = c.args.request.now }) c.ask_by.result c.ask_by.ensures.came in
+    g.met.L.Loader.joined c.args.loader.now asked.loads.some.between c.ask_by.new.loader asked.loads.some.blocks.tie asked.loads.some.groups.tie
+
 pub returns-clause-alike : goal.returns-clause-alike
 returns-clause-alike g c =
     subst (λ (u : UserName). TellsNoMore (views g.D.Disk c.ask_by.new.self) (record { user = u; request = c.args.request.now }) c.ask_by.result) c.user.ensures
