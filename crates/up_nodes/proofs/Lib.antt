@@ -19,7 +19,10 @@ pub mod Tested
 pub mod Upward
 pub mod Readied
 pub mod LogLaws
-pub mod Unders
+pub mod Fronts
+pub mod Ways
+pub mod Noted
+pub mod Numbers
 pub mod Befores
 pub mod Governing
 pub mod Begun

@@ -1,22 +1,22 @@
 -- The paths in a directory that records change, and the positions of their last changes.
-use Rattle.std.proofs.Common.{◌≡◌, ◌≢◌, ℕ, Bool, true, false, ◌&&◌, [], map, filter, sym, ap, ◌∙◌, refl, Option, Some, None}
+use Rattle.std.proofs.Common.{◌≡◌, ℕ, Bool, true, false, ◌&&◌, [], map, filter, sym, ap, ◌∙◌, refl, Option, Some, None}
 use Rattle.std.specs.Prelude.{◌==◌, if◌then◌else◌, is_some, slice_get, unwrap_or, MatchOption}
 use Rattle.std.specs.Option.{option_map}
-use Rattle.std.proofs.lemmas.Bool.{eqb-false, eqb-true, false≢true}
+use Rattle.std.proofs.lemmas.Bool.{eqb-true, false≢true}
 use Rattle.std.proofs.lemmas.Option.{slice_get-map}
 use Rattle.up_names.specs.PathNames.{PathName, parent_of}
 use Rattle.up_nodes.specs.Kept.{IsOwnSlot, Stands, paths_of, slots_of}
-use Rattle.up_nodes.specs.Slots.{IsIdOf, known, path_in}
+use Rattle.up_nodes.specs.Slots.{known, path_in}
 use Rattle.up_nodes.specs.declared.kept.Kept.{Kept}
 use Rattle.up_nodes.specs.declared.slots.Slot.{Slot}
 use Rattle.up_nodes.proofs.Befores.{not_zero}
-use Rattle.up_nodes.proofs.Named.{has_named, rising_named}
+use Rattle.up_nodes.proofs.Named.{has_named}
 use Rattle.up_nodes.proofs.SlotLemmas.{known-named, known-path, known_at, path_of_slot}
 use Rattle.up_nodes.proofs.Walks.{path_there}
 use Rattle.up_replay.specs.Changes.{last_change}
 use Rattle.up_replay.specs.Orders.{has_path as has}
 use Rattle.up_replay.specs.Trees.{is_parent}
-use Rattle.up_replay.proofs.Paths.{is_parent_of, path_eq_itself, some_none, some_same}
+use Rattle.up_replay.proofs.Paths.{is_parent_of, some_none, some_same}
 use Rattle.up_replay.proofs.Rising.{has-filter, one_list, rising-filter}
 
 module _ (kept : Kept) (stands : Stands kept) where

@@ -18,7 +18,7 @@ use Rattle.up_entry.specs.declared.records.Rec.{Rec}
 use Rattle.std.specs.Option.{option_and_then}
 use Rattle.up_replay.specs.Changes.{change_before, last_change, path_of_change}
 use Rattle.up_replay.specs.Fits.{IsLog}
-use Rattle.up_nodes.specs.Slots.{AreLinked, AreSlotsOf, IsSlotOf, Known, known, known_all, named_paths, path_in}
+use Rattle.up_nodes.specs.Slots.{AreLinked, AreSlotsOf, IsSlotOf, KeepsNumbers, Known, known, known_all, named_paths, path_in}
 use Rattle.up_replay.specs.Snapshots.{snapshots_of}
 
 abbrev pub slots_of : Kept → List Known
@@ -88,3 +88,4 @@ pub record IsEnteredBy (old new : Kept) (rec : Rec) (before : ℕ) : Type 0 wher
   pub slots : AreSlotsOf old.owner (old.log.items ++ rec ∷ []) (slots_of new)
   pub snaps : new.snaps.entries ≡ snapshots_of (old.log.items ++ rec ∷ [])
   pub last : before ≡ unwrap_or (option_and_then (last_change old.log.items) (path_of_change rec)) 0
+  pub numbers : KeepsNumbers (slots_of old) (slots_of new)

@@ -3,4 +3,5 @@ pub mod Slots
 pub mod Edits
 pub mod Steps
 pub mod Kept
+pub mod Unders
 pub mod MemTrees

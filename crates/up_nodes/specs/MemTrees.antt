@@ -2,9 +2,11 @@
 use Rattle.std.specs.Prelude.{List, Option, Some, None, option_map, ⊤}
 use Rattle.up_names.specs.Texts.{UserName}
 use Rattle.up_entry.specs.declared.records.Rec.{Rec}
-use Rattle.up_nodes.specs.Kept.{IsReadyFor, Stands}
+use Rattle.up_nodes.specs.Kept.{IsReadyFor, Stands, slots_of}
+use Rattle.up_nodes.specs.Unders.{AreNoted, CanNoteRecord, noted_all}
 use Rattle.up_nodes.specs.declared.kept.Kept.{Kept}
 use Rattle.up_nodes.specs.declared.mem_tree.Ready.{Ready}
+use Rattle.up_nodes.specs.declared.unders.Under.{Under}
 use Rattle.up_replay.specs.Fits.{Fits}
 
 -- the owner, the records, and the record that was made ready to be entered, where one was
@@ -22,7 +24,14 @@ abbrev pub CanEnter : Kept → Option Ready → Type 0
 CanEnter kept None = ⊤
 CanEnter kept (Some made) = Fits kept.owner kept.log.items made.rec × IsReadyFor kept made.rec made.step
 
--- all that is kept stands for the log, and what was made ready can be entered
-pub record IsMemTree (kept : Kept) (ready : Option Ready) : Type 0 where
+-- and its position can be noted
+abbrev pub CanBeNoted : Kept → List Under → Option Ready → Type 0
+CanBeNoted kept unders None = ⊤
+CanBeNoted kept unders (Some made) = CanNoteRecord unders (slots_of kept) made.rec
+
+-- all that is kept stands for the log, and what was made ready can be entered and noted
+pub record IsMemTree (kept : Kept) (unders : List Under) (ready : Option Ready) : Type 0 where
   pub stands : Stands kept
+  pub noted : AreNoted kept.log.items (slots_of kept) (noted_all unders)
   pub can : CanEnter kept ready
+  pub note : CanBeNoted kept unders ready

@@ -1,5 +1,5 @@
 -- What is kept in memory of each path that a record names. This project's own.
-use Rattle.std.specs.Prelude.{◌≡◌, ◌<◌, ◌≤◌, ℕ, Bool, true, false, List, [], length, map, filter, fold, Option, Some, None, option_map, slice_get, unwrap_or, MatchOption}
+use Rattle.std.specs.Prelude.{◌≡◌, ◌<◌, ◌≤◌, ◌+◌, ℕ, Bool, true, false, List, [], length, map, filter, fold, Option, Some, None, option_map, slice_get, unwrap_or, MatchOption}
 use Rattle.std.specs.List.{position, list_all}
 use Rattle.std.specs.Ordering.{is_lt, nat_cmp}
 use Rattle.std.specs.Cmp.Lexicographic.{slice_cmp}
@@ -124,3 +124,9 @@ IsIdOf paths slots path (Some id) = path_in slots id ≡ Some path
 -- that of its parent, where it has one
 abbrev pub IsParentIdOf : List PathName → List Known → PathName → Option ℕ → Type 0
 IsParentIdOf paths slots path id = MatchOption (parent_of path) (id ≡ None) (λ dir. IsIdOf paths slots dir id)
+
+-- slots keep their numbers, and there is at most one more
+pub record KeepsNumbers (old new : List Known) : Type 0 where
+  pub same : (id : ℕ) (path : PathName) → path_in old id ≡ Some path → path_in new id ≡ Some path
+  pub more : length old ≤ length new
+  pub few : length new ≤ length old + 1

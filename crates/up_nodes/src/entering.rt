@@ -1,7 +1,8 @@
 //! A record is made ready before it is written, and entered after that.
 ghost use Rattle.std.specs.Prelude.{◌≡◌, ◌<◌, [], ◌∷◌, ◌++◌, true, IfOk, MatchOption, None, OnOk, vec_capacity, vec_len};
 ghost use Rattle.up_entry.specs.declared.records.Rec.{Rec as Record};
-ghost use Rattle.up_nodes.specs.Kept.{IsEnteredBy, IsReadyFor, IsSameKept, IsStepFor, Stands};
+ghost use Rattle.up_nodes.specs.Kept.{IsEnteredBy, IsReadyFor, IsSameKept, IsStepFor, Stands, slots_of};
+ghost use Rattle.up_nodes.specs.Slots.{KeepsNumbers};
 ghost use Rattle.up_nodes.specs.Steps.{CanStep};
 ghost use Rattle.up_replay.specs.Fits.{Fits};
 
@@ -52,6 +53,7 @@ impl Kept {
         ensures stands { Stands self.new }
         ensures owner { self.new.owner ≡ self.old.owner }
         ensures log { self.new.log.items ≡ self.old.log.items ++ rec ∷ [] }
+        ensures numbers { KeepsNumbers (slots_of self.old) (slots_of self.new) }
     {
         let before = self.enter_change(&rec, step);
         self.before.push_reserved(before);

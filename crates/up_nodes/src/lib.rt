@@ -4,7 +4,7 @@
 //! exactly what stands at a path, `child` a directory's children in the order of paths, `access_at` and `group_at` the texts of
 //! control files after any number of records, `nearest_at` the one that governs a path; `fits` tells exactly whether a record fits
 //! the log. `make_ready` takes all memory that a record needs, so that `enter` takes none. Each call costs what it looks at, times a
-//! logarithm; only `changes_under` looks at each record above a position. `laws.rt` says what holds of every log.
+//! logarithm, and `changes_under` what it gives. `laws.rt` says what holds of every log.
 #![tactic(auto)]
 
 mod changes;
@@ -22,6 +22,7 @@ mod reading;
 mod rooms;
 mod slots;
 mod steps;
+mod unders;
 mod walk;
 
 pub use laws::{

@@ -5,7 +5,9 @@ ghost use Rattle.up_policy.specs.Trees.{owns_snapshots};
 ghost use Rattle.std.specs.Map.{keys_of};
 ghost use Rattle.up_names.specs.PathNames.{cut};
 ghost use Rattle.up_policy.specs.Governors.{first_text, prefixes};
+ghost use Rattle.up_nodes.specs.Kept.{IsReadyFor, IsSameKept, Stands, slots_of};
 ghost use Rattle.up_nodes.specs.Slots.{named_paths};
+ghost use Rattle.up_nodes.specs.Unders.{AreNoted, CanNoteRecord, noted_all};
 ghost use Rattle.up_replay.specs.Changes.{change_before, changes_under, last_change, record_at};
 ghost use Rattle.up_replay.specs.Fits.{Fits, IsLog, fits};
 ghost use Rattle.up_replay.specs.Rights.{facts_of, governing_prefix};
@@ -14,6 +16,7 @@ ghost use Rattle.up_replay.specs.Trees.{children, is_parent, node_at, tree_at, t
 
 use crate::kept::Kept;
 use crate::steps::Step;
+use crate::unders::{Under, changes_under, make_room, note};
 use std::alloc::{AllocError, Global};
 use std::marker::Model;
 use std::mem;
@@ -36,6 +39,8 @@ pub(crate) struct Ready {
 #[derive(Drop)]
 pub struct MemTree {
     kept: Kept,
+    /// At the number of each slot the changes at and below its path.
+    unders: Vec<Under>,
     ready: Option<Ready>,
 }
 
@@ -46,7 +51,7 @@ impl Model for MemTree {
 
     ghost view = { λ tree. record { owner = tree.kept.owner; log = tree.kept.log.items; ready = ready_record tree.ready } };
 
-    ghost invariant = { λ tree. IsMemTree tree.kept tree.ready };
+    ghost invariant = { λ tree. IsMemTree tree.kept tree.unders.items tree.ready };
 }
 
 /// Puts what was made ready in the place of what is there.
@@ -54,6 +59,29 @@ fn hold(place: &mut Option<Ready>, made: Option<Ready>)
     ensures { place.new ≡ made }
 {
     drop(mem::replace(place, made));
+}
+
+/// Makes a record ready: its step, and all memory that it takes to enter and to note it.
+fn made_ready(kept: &mut Kept, unders: &mut Vec<Under>, rec: Rec) -> Result<Ready, AllocError>
+    requires stands { Stands kept.old }
+    requires noted { AreNoted kept.old.log.items (slots_of kept.old) (noted_all unders.old.items) }
+    requires fits { Fits kept.old.owner kept.old.log.items rec }
+    ensures same { IsSameKept kept.old kept.new }
+    ensures noted { AreNoted kept.new.log.items (slots_of kept.new) (noted_all unders.new.items) }
+    ensures rec { IfOk result (λ ready. ready.rec ≡ rec) }
+    ensures enters { IfOk result (λ ready. IsReadyFor kept.new rec ready.step) }
+    ensures notes { OnOk result (CanNoteRecord unders.new.items (slots_of kept.new) rec) }
+{
+    match kept.make_ready(&rec) {
+        Ok(step) => match make_room(unders, kept, &rec) {
+            Ok(()) => Ok(Ready { rec, step }),
+            Err(fault) => Err(fault),
+        },
+        Err(fault) => {
+            drop(rec);
+            Err(fault)
+        }
+    }
 }
 
 impl MemTree {
@@ -65,6 +93,7 @@ impl MemTree {
     {
         MemTree {
             kept: Kept::new(alloc, owner),
+            unders: Vec::new(alloc),
             ready: None,
         }
     }
@@ -167,7 +196,7 @@ impl MemTree {
     pub fn changes_under(&self, path: &Path, above: u64) -> Result<Items<u64>, AllocError>
         ensures { IfOk result (λ found. found ≡ changes_under self.now.log path.now above) }
     {
-        self.kept.changes_under(path, above)
+        changes_under(self.unders.as_slice(), &self.kept, path, above)
     }
 
     /// The position of the snapshot of that time.
@@ -199,15 +228,12 @@ impl MemTree {
         ensures ready { OnOk result (self.new.ready ≡ Some rec) }
     {
         hold(&mut self.ready, None);
-        match self.kept.make_ready(&rec) {
-            Ok(step) => {
-                hold(&mut self.ready, Some(Ready { rec, step }));
+        match made_ready(&mut self.kept, &mut self.unders, rec) {
+            Ok(ready) => {
+                hold(&mut self.ready, Some(ready));
                 Ok(())
             }
-            Err(fault) => {
-                drop(rec);
-                Err(fault)
-            }
+            Err(fault) => Err(fault),
         }
     }
 
@@ -218,6 +244,7 @@ impl MemTree {
         ensures log { IfSome self.old.ready (λ rec. self.new.log ≡ self.old.log ++ rec ∷ []) }
     {
         if let Some(made) = self.ready.take() {
+            note(&mut self.unders, &self.kept, &made.rec);
             self.kept.enter(made.rec, made.step);
         }
     }

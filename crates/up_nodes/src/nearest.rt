@@ -31,7 +31,7 @@ impl Kept {
     }
 
     /// The slot of the directory that a slot's path stands in, where it has one.
-    fn id_above(&self, id: usize) -> Option<usize>
+    pub(crate) fn id_above(&self, id: usize) -> Option<usize>
         requires stands { Stands self.now }
         ensures { (path : PathName) → path_in (slots_of self.now) id ≡ Some path
             → IsParentIdOf (paths_of self.now) (slots_of self.now) path result }

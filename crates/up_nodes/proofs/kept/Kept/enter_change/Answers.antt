@@ -1,6 +1,8 @@
 use Rattle.std.proofs.Common.{[], ◌∷◌, ◌++◌, refl, sym, subst, ◌∙◌}
-use Rattle.up_nodes.specs.Kept.{IsStepFor}
+use Rattle.up_nodes.specs.Kept.{IsStepFor, slots_of}
 use Rattle.up_nodes.specs.Slots.{AreSlotsOf}
+use Rattle.up_nodes.specs.Steps.{stepped}
+use Rattle.up_nodes.proofs.Numbers.{numbers_as, stepped_numbers}
 use Rattle.up_nodes.proofs.Within.{last_after, slots_after, snaps_after}
 use Rattle.up_nodes.proofs.kept.Kept.enter_change.Goals as goal
 
@@ -15,5 +17,6 @@ returns-in-Some c =
       befores = refl;
       slots = subst (AreSlotsOf self.owner (self.log.items ++ rec ∷ [])) (sym c.enter_step.ensures.slots) (slots_after self c.requires.stands rec c.in-Some.step is c.requires.fits);
       snaps = snaps_after self c.requires.stands rec c.in-Some.step is c.requires.fits;
+      numbers = numbers_as (slots_of self) (stepped c.in-Some.step (slots_of self)) _ (stepped_numbers c.in-Some.step (slots_of self)) c.enter_step.ensures.slots;
       last = c.enter_step.ensures.before ∙ last_after self c.requires.stands rec c.in-Some.step is c.requires.fits;
     }

@@ -3,6 +3,7 @@ use Rattle.std.specs.FinMap.Entries as entries
 use Rattle.std.specs.Ordering.{nat_cmp}
 use Rattle.up_entry.specs.declared.records.Rec.TheVariants.{Snap}
 use Rattle.up_nodes.specs.Kept.{IsEnteredBy, slots_of}
+use Rattle.up_nodes.proofs.Numbers.{numbers_same}
 use Rattle.up_nodes.proofs.Pushed.{snapshots_more}
 use Rattle.up_nodes.proofs.Snapped.{snapped_slots}
 use Rattle.up_nodes.proofs.kept.Kept.enter_snapshot.Goals as goal
@@ -18,4 +19,5 @@ returns c =
       snaps = c.put_reserved.ensures ∙ ap (λ n. entries.put nat_cmp c.in-Snap.time (n + 1) self.snaps.entries) (c.len.ensures ∙ self.log.ok.0)
           ∙ ap (entries.put nat_cmp c.in-Snap.time (length self.log.items + 1)) c.requires.stands.snaps ∙ sym (snapshots_more self.log.items (Snap c.in-Snap.time));
       last = refl;
+      numbers = numbers_same (slots_of self);
     })
