@@ -3,7 +3,7 @@ ghost use Rattle.std.specs.Prelude.{◌≡◌, ◌<◌, [], ◌∷◌, ◌++◌,
 ghost use Rattle.std.specs.List.{zip};
 ghost use Rattle.up_answers.specs.Laws.{AreInCalendar};
 ghost use Rattle.up_tree.specs.States.{log_of};
-ghost use Rattle.up_laws.specs.Turns.{one_stops, turn_of, turns_of};
+ghost use Rattle.up_laws.specs.Turns.{IsMade, one_stops, turn_of, turns_of};
 ghost use Rattle.up_laws.specs.Histories.{ArePlayedAlike, IsPlayed, TakesTurns, are_of};
 
 use crate::turns::{Pairs, Turn, make_turn, stops};
@@ -71,9 +71,26 @@ fn take_turns<D: Disk, E: Disk>(
     ensures { TakesTurns D.Disk E.Disk user.now (turn_of one.entry.now, turn_of two.entry.now)
         (a.old, b.old) (a.new, b.new) replies.old replies.new result }
 {
+    let (first, second) = make_both(alloc, a, b, one, two);
+    note(alloc, user, one, two, first, second, replies)
+}
+
+/// Makes a turn of each list, each on its tree, and gives both replies.
+fn make_both<D: Disk, E: Disk>(
+    alloc: Global,
+    a: &mut TreeState<D>,
+    b: &mut TreeState<E>,
+    one: &Turn,
+    two: &Turn,
+) -> (Reply, Reply)
+    requires first_moment { one.now.now < 253402207200 }
+    requires second_moment { two.now.now < 253402207200 }
+    ensures first { IsMade D.Disk (turn_of one.entry.now) a.old a.new result.0 }
+    ensures second { IsMade E.Disk (turn_of two.entry.now) b.old b.new result.1 }
+{
     let first = make_turn(alloc, a, one);
     let second = make_turn(alloc, b, two);
-    note(alloc, user, one, two, first, second, replies)
+    (first, second)
 }
 
 /// Keeps the replies to a turn of each list, and tells whether one of them stops the run.
