@@ -1,0 +1,30 @@
+-- One host among others.
+use Rattle.std.proofs.Common.{◌≡◌, ℕ, List, [], ◌∷◌, ◌++◌, length, Some, refl, sym, ap, subst}
+use Rattle.std.specs.Prelude.{slice_get, slice_set}
+use Rattle.up_sessions.specs.Others.{others}
+
+get_at : {X : Type 0} (before after : List X) (x : X) → slice_get (before ++ x ∷ after) (length before) ≡ Some x
+get_at [] after x = refl
+get_at (y ∷ before) after x = get_at before after x
+
+set_at : {X : Type 0} (before after : List X) (x y : X) → slice_set (before ++ x ∷ after) (length before) y ≡ before ++ y ∷ after
+set_at [] after x y = refl
+set_at (z ∷ before) after x y = ap (λ zs. z ∷ zs) (set_at before after x y)
+
+others_at : {X : Type 0} (before after : List X) (x : X) → others (length before) (before ++ x ∷ after) ≡ before ++ after
+others_at [] after x = refl
+others_at (z ∷ before) after x = ap (λ zs. z ∷ zs) (others_at before after x)
+
+-- the one at a place of a list that is cut there
+pub there : {X : Type 0} (all before after : List X) (x : X) (place : ℕ) → all ≡ before ++ x ∷ after → length before ≡ place → slice_get all place ≡ Some x
+there all before after x place is at = subst (λ xs. slice_get xs place ≡ Some x) (sym is) (subst (λ n. slice_get (before ++ x ∷ after) n ≡ Some x) at (get_at before after x))
+
+-- another one stands there
+pub replaced : {X : Type 0} (all before after : List X) (x y : X) (place : ℕ) → all ≡ before ++ x ∷ after → length before ≡ place → before ++ y ∷ after ≡ slice_set all place y
+replaced all before after x y place is at =
+    sym (subst (λ xs. slice_set xs place y ≡ before ++ y ∷ after) (sym is) (subst (λ n. slice_set (before ++ x ∷ after) n y ≡ before ++ y ∷ after) at (set_at before after x y)))
+
+-- and these are the others
+pub the_others : {X : Type 0} (all before after : List X) (x : X) (place : ℕ) → all ≡ before ++ x ∷ after → length before ≡ place → others place all ≡ before ++ after
+the_others all before after x place is at =
+    subst (λ xs. others place xs ≡ before ++ after) (sym is) (subst (λ n. others n (before ++ x ∷ after) ≡ before ++ after) at (others_at before after x))

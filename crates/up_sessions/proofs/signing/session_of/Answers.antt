@@ -1,0 +1,5 @@
+use Rattle.up_faults.proofs.Causes.{HasCause-weaker}
+use Rattle.up_sessions.proofs.signing.session_of.Goals as goal
+
+pub returns-in-Ok-clause-counts : goal.returns-in-Ok-clause-counts
+returns-in-Ok-clause-counts g c = HasCause-weaker _ _ _ _ c.prove.ensures.counts (λ is. absurd (cc))

@@ -1,0 +1,14 @@
+-- The disks of a script, in their places. This project's own.
+use Rattle.std.specs.Prelude.{List, ◌++◌}
+use Rattle.std.specs.List.{AllByRecursion, flat_map}
+use Rattle.up_disk.specs.declared.disk.Disk.{Ghosts}
+use Rattle.up_host.specs.Opens.{LeavesHost, disks_of}
+use Rattle.up_sessions.specs.Worlds.{Hosts}
+
+-- those of the hosts in order, and then those that are free
+abbrev pub all_disks : {D : Type 0} → Hosts D → List D
+all_disks a = flat_map disks_of a.hosts ++ a.free
+
+-- a crash now leaves of each log of each host that log, or it with its doubtful record
+abbrev pub LeavesAll : {D : Type 0} → Ghosts D → Hosts D → Type 0
+LeavesAll disks a = AllByRecursion (LeavesHost disks) a.hosts

@@ -1,0 +1,13 @@
+pub mod Worlds
+pub mod Kept
+pub mod TieLaws
+pub mod Others
+pub mod Opening
+pub mod Taking
+pub mod Signing
+pub mod Asking
+pub mod Talking
+pub mod Handing
+pub mod Keeping
+pub mod Fitting
+pub mod Lines
