@@ -1,12 +1,13 @@
 //! The files of cases, and the topic of each.
-use crate::scripts::run_scripts;
 use std::hash::RandomState;
 use std::random::RandomSource;
 use std::rt::Files;
 use std::{fs, io};
 use up_case_files::ClientLines;
+use up_case_hosts::Hosts;
 use up_case_lines::{File, Tally, run_lines};
 use up_case_logs::{Crashes, Fields, Logs, Moves, Records};
+use up_case_scripts::{Command, run_scripts};
 use up_case_texts::{
     Ends, Messages, Names, Patterns, PeerLines, References, Replies, Requests, Rights, Signing,
     Streams, Texts,
@@ -73,8 +74,15 @@ fn run_file<R: Files + RandomSource + AllocGlobal + Print>(
         "references" => run_lines(rt, file, References, tally),
         "crashes" => run_lines(rt, file, Crashes, tally),
         "records" => run_lines(rt, file, Records::new(), tally),
-        "scripts" => run_scripts(rt, file, RandomState::new(rt)?, tally),
+        "scripts" => run_scripts(rt, file, Command::Can, RandomState::new(rt)?, tally),
+        "sessions" => run_scripts(rt, file, Command::Script, RandomState::new(rt)?, tally),
         "globs" => run_lines(rt, file, Globs::new(RandomState::new(rt)?), tally),
+        "hosts" => run_lines(
+            rt,
+            file,
+            Hosts::new(rt.alloc(), RandomState::new(rt)?),
+            tally,
+        ),
         "steps" => run_lines(rt, file, Steps::new(RandomState::new(rt)?), tally),
         "rights" => run_lines(rt, file, Rights::new(RandomState::new(rt)?), tally),
         "watches" => run_lines(rt, file, Watches::new(RandomState::new(rt)?), tally),

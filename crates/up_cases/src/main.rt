@@ -6,7 +6,6 @@
 #![tactic(auto)]
 
 mod files;
-mod scripts;
 
 use std::rt::Env;
 use std::{env, io};

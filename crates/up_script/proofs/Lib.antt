@@ -1,2 +1,11 @@
 pub mod CanFolds
 pub mod Answering
+pub mod UserListLemmas
+pub mod WordLemmas
+pub mod NameLemmas
+pub mod OwnerLemmas
+pub mod LineLemmas
+pub mod FactLemmas
+pub mod RunningLemmas
+pub mod TurnLemmas
+pub mod ScriptRunLemmas

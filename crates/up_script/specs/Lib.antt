@@ -1,4 +1,11 @@
 pub mod CanFiles
 pub mod CanLines
 pub mod CanRuns
+pub mod ScriptLines
+pub mod Scripts
+pub mod ScriptRuns
+pub mod Standing
+pub mod ScriptAnswers
+pub mod Facts
+pub mod Turns
 pub mod Statuses

@@ -8,7 +8,7 @@ use Rattle.up_names.specs.Texts.{Text}
 use Rattle.up_ends.specs.Writing.{WritesPart}
 use Rattle.up_script.specs.CanRuns.{Run, run_of}
 use Rattle.up_script.specs.declared.status.Status.{Status}
-use Rattle.up_script.specs.declared.status.Status.TheVariants.{Done, BadLine, ReadFault, WriteFault, OutOfMemory, TooLong, Usage}
+use Rattle.up_script.specs.declared.status.Status.TheVariants.{Done, BadLine, ReadFault, WriteFault, OutOfMemory, HelperFault, DiskFault, TooLong, Usage}
 
 -- the number of a status
 abbrev pub code_of : Status → ℕ
@@ -17,6 +17,8 @@ code_of BadLine = 1
 code_of ReadFault = 2
 code_of WriteFault = 3
 code_of OutOfMemory = 4
+code_of HelperFault = 5
+code_of DiskFault = 6
 code_of TooLong = 7
 code_of Usage = 64
 

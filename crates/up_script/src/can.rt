@@ -16,7 +16,7 @@ use up_ends::{ReadFault, Sink, Source, read_all, write_all};
 use up_text::next_line;
 
 /// The most bytes that a script may have.
-const INPUT_LIMIT: u64 = 67_108_864;
+pub const INPUT_LIMIT: u64 = 67_108_864;
 
 /// What is printed where the words are not those of a command.
 const USAGE: &str =
@@ -85,7 +85,7 @@ fn is_can(words: &[String]) -> bool
 }
 
 /// Prints the usage line.
-fn usage<K: Sink>(sink: &mut K) -> Status
+pub fn usage<K: Sink>(sink: &mut K) -> Status
     ensures status { IsOneOf (3 ∷ 64 ∷ []) (code_of result) }
     ensures whole { code_of result ≡ 64 → Appends (K.held sink.old) (K.held sink.new) usage_line }
     ensures part { WritesPart (K.held sink.old) (K.held sink.new) usage_line }
@@ -169,7 +169,7 @@ fn run_each<K: Sink>(
 }
 
 /// The line that names a malformed one.
-fn bad_line(alloc: Global, number: u64) -> Result<Vec<u8>, AllocError>
+pub fn bad_line(alloc: Global, number: u64) -> Result<Vec<u8>, AllocError>
     ensures { IfOk result (λ line. line.items ≡ bad_line number) }
 {
     let digits = number.to_string(alloc)?;

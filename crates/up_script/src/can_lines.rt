@@ -55,7 +55,7 @@ pub fn kind_of(keyword: &[u8]) -> Option<CanKind>
 }
 
 /// Whether a word is this one.
-fn is(word: &[u8], wanted: &[u8]) -> bool
+pub fn is(word: &[u8], wanted: &[u8]) -> bool
     ensures { result ≡ bytes_eq word.now wanted.now }
 {
     word == wanted

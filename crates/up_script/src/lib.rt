@@ -9,15 +9,33 @@
 //! whose count has not come to its end); 64 comes only where the words do not fit, and then 64 or 3 comes and the source is not
 //! read (`usage`, `usage_only`), and the usage line was written where 64 came (`usage_written`); after 0 and 1 the source is at
 //! its end (`at_end`); after 2 and 7 the sink is as it was (`untouched`, `unread`, `unwritten`).
+//!
+//! The contract of [`script_run`] is the promise of `upspin script` from end to end: over any source, sink, disks, verifier, clock,
+//! nonces and peers, what is written is the meaning of the bytes read (`meaning`). What a line says by itself is `line_of`; what
+//! came of it among the hosts that the script has by then, with all that stands around them, is `LineCame`, one definition a kind
+//! of line; `Scripted` goes over the lines, and says what is printed, how the run ends, and that lines `io` are at most as many as
+//! disks and peers failed, as long as their counts have not come to their end. Each status has its cause (`read_fault`,
+//! `write_fault`, `helper_fault`, `disk_fault`, `too_long`, `usage_only`), all disks come back in their places, and of each log a
+//! crash leaves that log, or it with its doubtful record.
 #![tactic(auto)]
 
 mod can;
 mod can_files;
 mod can_lines;
 mod can_script;
+mod host_name;
 mod output;
+mod saying;
+mod script;
+mod script_lines;
 mod status;
+mod stop;
+mod turns;
 
 pub use can::can_run;
 pub use can_files::CanFiles;
 pub use can_lines::CanKind;
+pub use host_name::HostName;
+pub use script::script_run;
+pub use script_lines::{NewHost, NewSession, NewUser, ScriptLine};
+pub use stop::LineStop;

@@ -49,6 +49,17 @@ pub fn print<K: Sink>(sink: &mut K, gathered: &mut Vec<u8>, text: &[u8]) -> Resu
     ensures later { K.faults sink.old ≤ K.faults sink.new }
 {
     gathered.extend_from_slice(text)?;
+    flush(sink, gathered)
+}
+
+/// Writes what is gathered once it is long.
+pub fn flush<K: Sink>(sink: &mut K, gathered: &mut Vec<u8>) -> Result<(), Stop>
+    ensures ok { OnOk result (Going (K.held sink.old) (K.held sink.new) gathered.new.items
+        gathered.old.items) }
+    ensures part { WritesPart (K.held sink.old) (K.held sink.new) gathered.old.items }
+    ensures cause { IsErrOf result Stop.WriteFault → Rose (K.faults sink.old) (K.faults sink.new) }
+    ensures later { K.faults sink.old ≤ K.faults sink.new }
+{
     if gathered.len() >= PIECE_SIZE {
         write_all(sink, gathered)?;
         gathered.clear();

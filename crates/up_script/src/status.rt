@@ -15,6 +15,10 @@ pub enum Status {
     WriteFault,
     /// There was no memory; a front of the text was written.
     OutOfMemory,
+    /// The verifier failed at an `open` line; the text of the lines before it was written.
+    HelperFault,
+    /// A disk failed at a `host` or `enrol` line; the text of the lines before it was written.
+    DiskFault,
     /// The input has more bytes than a script may have; nothing was written.
     TooLong,
     /// The words are not those of a command; the usage line was written.
@@ -32,6 +36,8 @@ impl Status {
             Status::ReadFault => 2,
             Status::WriteFault => 3,
             Status::OutOfMemory => 4,
+            Status::HelperFault => 5,
+            Status::DiskFault => 6,
             Status::TooLong => 7,
             Status::Usage => 64,
         }

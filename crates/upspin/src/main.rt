@@ -1,16 +1,20 @@
-//! The program `upspin`: it makes the real source and sink, and hands them to a command's top call.
+//! The program `upspin`: it makes the real source and sink, and what else a command needs of the machine, and hands them to the
+//! command's top call.
 #![tactic(auto)]
 
-use std::alloc::AllocError;
+use std::alloc::{AllocError, Global};
 use std::hash::RandomState;
 use std::process::ExitCode;
 use std::rt::Env;
 use std::{env, io};
+use up_blank::blank_disks;
 use up_ends::{StdSink, StdSource};
 use up_helper::{sign_run, verify_run};
-use up_script::can_run;
+use up_net::{HelperVerifier, HostClock, SeedNonces};
+use up_peer::Peers;
+use up_script::{can_run, script_run};
 
-/// The status where the system gives no random keys to hash names with; nothing was read or written.
+/// The status where the system gives no random bytes, to hash names with or to draw challenges from; nothing was read or written.
 const READ_FAULT: u8 = 2;
 
 /// The status for want of memory before a command runs.
@@ -48,20 +52,75 @@ fn command_status(rt: &HostRuntime, words: &[String]) -> u8 {
     let Ok(random) = RandomState::new(rt) else {
         return READ_FAULT;
     };
+    match words.first().map(|word| word.as_str()) {
+        Some("can") => can_status(rt, random, words),
+        _ => script_status(rt, random, words),
+    }
+}
+
+/// Runs `upspin can`, and answers its status.
+fn can_status(rt: &HostRuntime, random: RandomState, words: &[String]) -> u8 {
     let mut source = StdSource::new(rt.stdin());
     let mut sink = StdSink::new(rt.stdout());
     can_run(rt.alloc(), random, words, &mut source, &mut sink)
 }
 
+/// Runs `upspin script`, and answers its status. The words of no command get the usage line from it.
+fn script_status(rt: &HostRuntime, random: RandomState, words: &[String]) -> u8 {
+    let Ok(nonces) = SeedNonces::from_random(rt) else {
+        return READ_FAULT;
+    };
+    match helper_path(rt.alloc(), words) {
+        Ok(helper) => script_with(rt, random, words, nonces, helper),
+        Err(_) => OUT_OF_MEMORY,
+    }
+}
+
+/// The word behind the command, which names the helper; empty where there is none.
+fn helper_path(alloc: Global, words: &[String]) -> Result<String, AllocError> {
+    match words.get(1) {
+        Some(path) => path.clone(),
+        None => Ok(String::new(alloc)),
+    }
+}
+
+/// The same with these nonces and the helper at this path: over empty disks in memory, the machine's clock, and no peer.
+fn script_with(
+    rt: &HostRuntime,
+    random: RandomState,
+    words: &[String],
+    mut nonces: SeedNonces,
+    helper: String,
+) -> u8 {
+    let Ok(mut disks) = blank_disks(rt.alloc(), &[]) else {
+        return OUT_OF_MEMORY;
+    };
+    let mut verifier = HelperVerifier::new(rt.alloc(), rt, helper);
+    script_run(
+        rt.alloc(),
+        random,
+        words,
+        &mut StdSource::new(rt.stdin()),
+        &mut StdSink::new(rt.stdout()),
+        &mut disks,
+        &mut verifier,
+        &mut HostClock::new(rt),
+        &mut nonces,
+        &mut Peers::new(rt.alloc()),
+    )
+}
+
 /// What a status means for people, and where to read on; nothing after 0, and after 64, whose usage line was printed.
 fn meaning(status: u8) -> Option<&'static str> {
     match status {
-        1 => Some("upspin: a line of the script is malformed (docs/MISTAKES.md)"),
+        1 => Some("upspin: a line of the script is malformed (docs/MISTAKES.md, docs/SCRIPTS.md)"),
         2 => Some(
-            "upspin: no input or no random keys, and nothing was printed (README.md, Statuses)",
+            "upspin: no input or no random bytes, and nothing was printed (README.md, Statuses)",
         ),
         3 => Some("upspin: standard output failed, and not all was printed (README.md, Statuses)"),
         4 => Some("upspin: there was no memory, and not all was printed (README.md, Statuses)"),
+        5 => Some("upspin: the helper failed at an `open` line (docs/HELPER.md)"),
+        6 => Some("upspin: a disk failed at a `host` or `enrol` line (README.md, Statuses)"),
         7 => Some("upspin: the script is too long, and nothing was printed (README.md, Statuses)"),
         _ => None,
     }

@@ -1,0 +1,269 @@
+//! `upspin script`: a script in, replies out.
+ghost use Rattle.std.specs.Prelude.{◌≡◌, ◌⊎◌, ◌+◌, ◌-◌, ◌<◌, ◌≤◌, ◌^◌, [], ◌∷◌, ◌++◌, false, true, length, map, IfOk, IfSome, IsErrOf, OnOk, Some, string_bytes};
+ghost use Rattle.std.specs.List.{AllByRecursion, sum_by};
+ghost use Rattle.std.specs.Io.KnownBytes.{Appends, IsAtEnd};
+ghost use Rattle.up_faults.specs.Counts.{Rose};
+ghost use Rattle.up_ends.specs.Writing.{WritesPart};
+ghost use Rattle.up_sessions.specs.Fitting.{IsFit};
+ghost use Rattle.up_sessions.specs.Opening.{IsBlank};
+ghost use Rattle.up_text.specs.Lines.{script_lines};
+ghost use Rattle.up_script.specs.ScriptAnswers.{Means, code_by, is_script};
+ghost use Rattle.up_script.specs.ScriptRuns.{Scripted, stop_code, stop_text};
+ghost use Rattle.up_script.specs.Standing.{around, parties, world};
+ghost use Rattle.up_script.specs.Statuses.{IsOneOf, code_of, input_limit, usage_line};
+
+use crate::can::{INPUT_LIMIT, bad_line, usage};
+use crate::output::{Stop, finish, flush};
+use crate::status::Status;
+use crate::stop::LineStop;
+use crate::turns::run_line;
+use std::alloc::Global;
+use std::hash::RandomState;
+use std::mem;
+use up_disk::{Disk, Disks};
+use up_ends::{Clock, Nonces, ReadFault, Sink, Source, Verifier, read_all};
+use up_peer::{Loader, Peers};
+use up_sessions::Sessions;
+use up_text::next_line;
+
+/// Runs `upspin script`, whose words begin with the command's own: reads a script to its end, and then does what its lines say, in order:
+/// it opens hosts over these disks, of which there are 80, empty and with nothing pending, enrols users, signs them on, and prints the
+/// reply to each request.
+///
+/// It answers a status: 0 at the end of the input, 1 at the first malformed line, with `bad line N` printed last, 2 and 3 where the source
+/// or the sink failed, 4 for want of memory, 5 where the verifier failed at an `open` line, 6 where a disk failed at a `host` or `enrol`
+/// line, 7 for an input of over 67,108,864 bytes, and 64 where the words are not `script` and one more, with the usage line printed. After
+/// 2 and 7 nothing was written, after 3 and 4 a front of the text, after 5 and 6 the text of the lines before. All disks are back in their
+/// places, whatever the status. The names that the script chooses are hashed with these keys.
+pub fn script_run<D: Disk + Drop, S: Source, K: Sink, V: Verifier, C: Clock, N: Nonces>(
+    alloc: Global,
+    random: RandomState,
+    words: &[String],
+    source: &mut S,
+    sink: &mut K,
+    disks: &mut Disks<D>,
+    verifier: &mut V,
+    clock: &mut C,
+    nonces: &mut N,
+    peers: &mut Peers,
+) -> u8
+    requires eighty { length disks.old.disks ≡ 80 }
+    requires blank { AllByRecursion (IsBlank D.Disk) disks.old.disks }
+
+    // What is written is the meaning of the bytes of the source, and so is what is left of the disks.
+    ensures meaning { is_script (map string_bytes words.now) ≡ true
+        → IsOneOf (0 ∷ 1 ∷ 3 ∷ 4 ∷ 5 ∷ 6 ∷ []) result
+        → Means (parties D.Disk ⟦<Peers as Loader>⟧ V.Verifier C.Clock N.Nonces)
+        (S.left source.old) (K.held sink.old) (K.held sink.new) disks.old.disks disks.new.disks
+        (around peers.old verifier.old clock.old nonces.old)
+        (around peers.new verifier.new clock.new nonces.new) result }
+
+    // For all sources, sinks, verifiers and disks: the statuses that come, and the cause of each.
+    ensures statuses { IsOneOf (0 ∷ 1 ∷ 2 ∷ 3 ∷ 4 ∷ 5 ∷ 6 ∷ 7 ∷ 64 ∷ []) result }
+    ensures usage { is_script (map string_bytes words.now) ≡ false
+        → IsOneOf (3 ∷ 64 ∷ []) result × (source.new ≡ source.old) × (disks.new ≡ disks.old)
+        × (around peers.new verifier.new clock.new nonces.new
+        ≡ around peers.old verifier.old clock.old nonces.old) }
+    ensures usage_part { is_script (map string_bytes words.now) ≡ false
+        → WritesPart (K.held sink.old) (K.held sink.new) usage_line }
+    ensures usage_only { result ≡ 64 → is_script (map string_bytes words.now) ≡ false }
+    ensures read_fault { result ≡ 2 → Rose (S.faults source.old) (S.faults source.new) }
+    ensures write_fault { result ≡ 3 → Rose (K.faults sink.old) (K.faults sink.new) }
+    ensures helper_fault { result ≡ 5 → Rose (V.faults verifier.old) (V.faults verifier.new) }
+    ensures disk_fault { result ≡ 6
+        → Rose (sum_by D.faults disks.old.disks) (sum_by D.faults disks.new.disks) }
+    ensures too_long { result ≡ 7 → S.given source.old + input_limit < 2 ^ 64 - 1
+        → S.given source.old + input_limit < S.given source.new }
+    ensures too_long_always { S.given source.old + input_limit < 2 ^ 64 - 1
+        → S.given source.old + input_limit < S.given source.new → result ≡ 7 }
+    ensures source_counts { S.faults source.old ≤ S.faults source.new }
+    ensures sink_counts { K.faults sink.old ≤ K.faults sink.new }
+
+    ensures told_long { result ≡ 7
+        → IfSome (S.left source.old) (λ bytes. input_limit < length bytes) }
+    ensures told_short { IsOneOf (0 ∷ 1 ∷ 5 ∷ 6 ∷ []) result
+        → IfSome (S.left source.old) (λ bytes. length bytes ≤ input_limit) }
+
+    // And what is left of them.
+    ensures at_end { IsOneOf (0 ∷ 1 ∷ 5 ∷ 6 ∷ []) result → IsAtEnd (S.left source.new) }
+    ensures read_first { is_script (map string_bytes words.now) ≡ true → result ≡ 3
+        → IsAtEnd (S.left source.new)
+        × IfSome (S.left source.old) (λ bytes. length bytes ≤ input_limit) }
+    ensures unread { result ≡ 4 → IsAtEnd (S.left source.new)
+        ⊎ ((sink.new ≡ sink.old) × (disks.new ≡ disks.old)
+        × (around peers.new verifier.new clock.new nonces.new
+        ≡ around peers.old verifier.old clock.old nonces.old)) }
+    ensures untouched { IsOneOf (2 ∷ 7 ∷ []) result → sink.new ≡ sink.old }
+    ensures unused { IsOneOf (2 ∷ 7 ∷ 64 ∷ []) result → disks.new ≡ disks.old }
+    ensures alone { IsOneOf (2 ∷ 7 ∷ 64 ∷ []) result
+        → around peers.new verifier.new clock.new nonces.new
+        ≡ around peers.old verifier.old clock.old nonces.old }
+    ensures usage_written { result ≡ 64 → Appends (K.held sink.old) (K.held sink.new) usage_line }
+{
+    if !is_script(words) {
+        return usage(sink).code();
+    }
+    match read_all(alloc, source, INPUT_LIMIT) {
+        Ok(input) => run_script(
+            alloc, random, &input, sink, disks, peers, verifier, clock, nonces,
+        ),
+        Err(ReadFault::TooLong) => Status::TooLong.code(),
+        Err(ReadFault::Failed) => Status::ReadFault.code(),
+        Err(ReadFault::OutOfMemory) => Status::OutOfMemory.code(),
+    }
+}
+
+/// Whether the words are those of `upspin script`: the word `script`, and a helper's path.
+fn is_script(words: &[String]) -> bool
+    ensures { result ≡ is_script (map string_bytes words.now) }
+{
+    match words {
+        [command, _helper] => command.as_str() == "script",
+        _ => false,
+    }
+}
+
+/// Runs a script that was read whole, and answers the status with which that ended. All disks are back in their places then.
+fn run_script<D: Disk + Drop, P: Loader, K: Sink, V: Verifier, C: Clock, N: Nonces>(
+    alloc: Global,
+    random: RandomState,
+    input: &[u8],
+    sink: &mut K,
+    disks: &mut Disks<D>,
+    peers: &mut P,
+    verifier: &mut V,
+    clock: &mut C,
+    nonces: &mut N,
+) -> u8
+    requires eighty { length disks.old.disks ≡ 80 }
+    requires blank { AllByRecursion (IsBlank D.Disk) disks.old.disks }
+    ensures means { Means (parties D.Disk P.Loader V.Verifier C.Clock N.Nonces)
+        (Some input.now) (K.held sink.old) (K.held sink.new) disks.old.disks disks.new.disks
+        (around peers.old verifier.old clock.old nonces.old)
+        (around peers.new verifier.new clock.new nonces.new) result }
+    ensures status { IsOneOf (0 ∷ 1 ∷ 3 ∷ 4 ∷ 5 ∷ 6 ∷ []) result }
+    ensures cause { result ≡ 3 → Rose (K.faults sink.old) (K.faults sink.new) }
+    ensures later { K.faults sink.old ≤ K.faults sink.new }
+{
+    let given = mem::replace(disks, Disks::new(alloc));
+    match Sessions::new(alloc, random, given) {
+        Ok(sessions) => {
+            let mut sessions = sessions;
+            let status = run_lines(
+                alloc,
+                &mut sessions,
+                peers,
+                verifier,
+                clock,
+                nonces,
+                input,
+                sink,
+            );
+            drop(mem::replace(disks, sessions.into_disks()));
+            status
+        }
+        Err(given) => {
+            drop(mem::replace(disks, given));
+            Status::OutOfMemory.code()
+        }
+    }
+}
+
+/// Does what a script's lines say, one after the other, prints what they print, and answers the status with which that ended.
+fn run_lines<D: Disk + Drop, P: Loader, K: Sink, V: Verifier, C: Clock, N: Nonces>(
+    alloc: Global,
+    sessions: &mut Sessions<D>,
+    peers: &mut P,
+    verifier: &mut V,
+    clock: &mut C,
+    nonces: &mut N,
+    lines: &[u8],
+    sink: &mut K,
+) -> u8
+    requires fit { IsFit D.Disk sessions.old }
+    ensures scripted { Scripted (parties D.Disk P.Loader V.Verifier C.Clock N.Nonces)
+        (K.held sink.old) (K.held sink.new)
+        (world sessions.old peers.old verifier.old clock.old nonces.old) (script_lines lines.now)
+        result (world sessions.new peers.new verifier.new clock.new nonces.new) }
+    ensures status { IsOneOf (0 ∷ 1 ∷ 3 ∷ 4 ∷ 5 ∷ 6 ∷ []) result }
+    ensures cause { result ≡ 3 → Rose (K.faults sink.old) (K.faults sink.new) }
+    ensures later { K.faults sink.old ≤ K.faults sink.new }
+{
+    match run_each(alloc, sessions, peers, verifier, clock, nonces, lines, sink) {
+        Ok(status) => status.code(),
+        Err(Stop::WriteFault) => Status::WriteFault.code(),
+        Err(Stop::OutOfMemory) => Status::OutOfMemory.code(),
+    }
+}
+
+fn run_each<D: Disk + Drop, P: Loader, K: Sink, V: Verifier, C: Clock, N: Nonces>(
+    alloc: Global,
+    sessions: &mut Sessions<D>,
+    peers: &mut P,
+    verifier: &mut V,
+    clock: &mut C,
+    nonces: &mut N,
+    lines: &[u8],
+    sink: &mut K,
+) -> Result<Status, Stop>
+    requires fit { IsFit D.Disk sessions.old }
+    ensures scripted { Scripted (parties D.Disk P.Loader V.Verifier C.Clock N.Nonces)
+        (K.held sink.old) (K.held sink.new)
+        (world sessions.old peers.old verifier.old clock.old nonces.old) (script_lines lines.now)
+        (code_by result) (world sessions.new peers.new verifier.new clock.new nonces.new) }
+    ensures status { IfOk result (λ status. IsOneOf (0 ∷ 1 ∷ 5 ∷ 6 ∷ []) (code_of status)) }
+    ensures cause { IsErrOf result Stop.WriteFault → Rose (K.faults sink.old) (K.faults sink.new) }
+    ensures later { K.faults sink.old ≤ K.faults sink.new }
+{
+    let mut gathered = Vec::new(alloc);
+    let mut number: u64 = 1;
+    let mut rest = lines;
+    while let Some((line, after)) = next_line(rest) {
+        match run_line(
+            alloc,
+            sessions,
+            peers,
+            verifier,
+            clock,
+            nonces,
+            line,
+            &mut gathered,
+        ) {
+            Ok(()) => flush(sink, &mut gathered)?,
+            Err(why) => return end(alloc, sink, &mut gathered, number, why),
+        }
+        number += 1;
+        rest = after;
+    }
+    finish(sink, &mut gathered, b"")?;
+    Ok(Status::Done)
+}
+
+/// Ends a run at a line that was not done, whose number this is.
+fn end<K: Sink>(
+    alloc: Global,
+    sink: &mut K,
+    gathered: &mut Vec<u8>,
+    number: u64,
+    why: LineStop,
+) -> Result<Status, Stop>
+    ensures whole { OnOk result (Appends (K.held sink.old) (K.held sink.new)
+        (gathered.old.items ++ stop_text number why)) }
+    ensures code { IfOk result (λ status. code_of status ≡ stop_code why) }
+    ensures kind { IfOk result (λ status. IsOneOf (1 ∷ 5 ∷ 6 ∷ []) (code_of status)) }
+    ensures part { WritesPart (K.held sink.old) (K.held sink.new)
+        (gathered.old.items ++ stop_text number why) }
+    ensures wanting { why ≡ LineStop.OutOfMemory → IsErrOf result Stop.OutOfMemory }
+    ensures unwritten { why ≡ LineStop.OutOfMemory → sink.new ≡ sink.old }
+    ensures cause { IsErrOf result Stop.WriteFault → Rose (K.faults sink.old) (K.faults sink.new) }
+    ensures later { K.faults sink.old ≤ K.faults sink.new }
+{
+    let (last, status) = match why {
+        LineStop::Malformed => (bad_line(alloc, number)?, Status::BadLine),
+        LineStop::HelperFault => (Vec::new(alloc), Status::HelperFault),
+        LineStop::DiskFault => (Vec::new(alloc), Status::DiskFault),
+        LineStop::OutOfMemory => return Err(Stop::OutOfMemory),
+    };
+    finish(sink, gathered, &last)?;
+    Ok(status)
+}

@@ -1,0 +1,327 @@
+//! The lines of a script: what each says by itself.
+ghost use Rattle.std.specs.Prelude.{◌≡◌, ◌≢◌, ◌++◌, [], ◌∷◌, length, not, IfNone, IfOk, IfSome, OnOk, None, Some, option_map, if◌then◌else◌};
+ghost use Rattle.std.specs.List.{list_all, slice_split};
+ghost use Rattle.std.specs.Option.{option_copied};
+ghost use Rattle.up_policy.specs.Trees.{owns_snapshots};
+ghost use Rattle.up_text.specs.Lines.{words_left};
+ghost use Rattle.up_text.specs.Lists.{is_comma};
+ghost use Rattle.up_script.specs.CanLines.{user_named};
+ghost use Rattle.up_script.specs.ScriptLines.{are_different, are_owners, enrol_line, host_line, key_named, line_of, open_line, session_line, session_named, trees_named, users_named};
+ghost use Rattle.up_script.specs.Standing.{IsAskable};
+
+use crate::can_lines::{is, user_named};
+use crate::host_name::HostName;
+use std::alloc::{AllocError, Global};
+use up_bytes::{Bytes, copy_of};
+use up_lists::Items;
+use up_names::User;
+use up_text::{
+    ClientLine, cut_word, is_request, is_silent, read_client_line, read_num, read_word, three_words,
+};
+
+/// How many trees a host may have.
+const MOST_TREES: u64 = 8;
+
+/// The greatest number of a session.
+const LAST_SESSION: u64 = 99;
+
+/// What a line says.
+#[derive(Drop)]
+pub enum ScriptLine {
+    /// An empty line or a comment.
+    Silent,
+    /// `host NAME OPERATOR TREES` opens a host.
+    Host(NewHost),
+    /// `enrol NAME USER KEY` adds a user's key to those of a host.
+    Enrol(NewUser),
+    /// `open N NAME USER PROOF` signs a user on.
+    Open(NewSession),
+    /// `N` and the words of a request, in that session.
+    Request(u64, Items<Bytes>),
+    /// `N put ..` or `N get ..`: what the client does in that session.
+    Client(u64, ClientLine),
+}
+
+/// A host that is to be opened.
+#[derive(Drop)]
+pub struct NewHost {
+    pub name: HostName,
+    pub operator: User,
+    /// At most 8, all different, and no snapshot user among them.
+    pub owners: Items<User>,
+}
+
+/// A user who is to be enrolled at a host.
+#[derive(Drop)]
+pub struct NewUser {
+    pub host: HostName,
+    pub user: User,
+    /// 1 to 1,024 bytes.
+    pub key: Bytes,
+}
+
+/// A user who signs on at a host.
+#[derive(Drop)]
+pub struct NewSession {
+    /// 0 to 99.
+    pub number: u64,
+    pub host: HostName,
+    pub user: User,
+    pub proof: Bytes,
+}
+
+/// What a line says, or `None` where it is malformed whatever came before it.
+#[tactic(auto, unfolding(crate::specs::ScriptLines::line_of, crate::specs::ScriptLines::words_line))]
+pub fn script_line(alloc: Global, line: &[u8]) -> Result<Option<ScriptLine>, AllocError>
+    ensures says { IfOk result (λ found. found ≡ line_of line.now) }
+    ensures asks { IfOk result (λ found. IfSome found IsAskable) }
+{
+    if is_silent(line) {
+        return Ok(Some(ScriptLine::Silent));
+    }
+    let (first, words) = cut_word(line);
+    if is(first, b"host") {
+        host_line(alloc, words)
+    } else if is(first, b"enrol") {
+        enrol_line(alloc, words)
+    } else if is(first, b"open") {
+        open_line(alloc, words)
+    } else {
+        session_line(alloc, first, words)
+    }
+}
+
+// `host NAME OPERATOR TREES`
+#[tactic(auto, unfolding(crate::specs::ScriptLines::host_line))]
+fn host_line(alloc: Global, words: Option<&[u8]>) -> Result<Option<ScriptLine>, AllocError>
+    ensures says { IfOk result (λ found. found ≡ host_line (words_left (option_copied words.entry))) }
+    ensures asks { IfOk result (λ found. IfSome found IsAskable) }
+{
+    let Some((name, operator, trees)) = three_words(words) else {
+        return Ok(None);
+    };
+    let Some(name) = HostName::read(alloc, name)? else {
+        return Ok(None);
+    };
+    let Some(operator) = user_named(alloc, operator)? else {
+        return Ok(None);
+    };
+    let Some(owners) = trees_named(alloc, trees)? else {
+        return Ok(None);
+    };
+    Ok(Some(ScriptLine::Host(NewHost {
+        name,
+        operator,
+        owners,
+    })))
+}
+
+// `enrol NAME USER KEY`
+#[tactic(auto, unfolding(crate::specs::ScriptLines::enrol_line))]
+fn enrol_line(alloc: Global, words: Option<&[u8]>) -> Result<Option<ScriptLine>, AllocError>
+    ensures says { IfOk result (λ found. found ≡ enrol_line (words_left (option_copied words.entry))) }
+    ensures asks { IfOk result (λ found. IfSome found IsAskable) }
+{
+    let Some((host, user, key)) = three_words(words) else {
+        return Ok(None);
+    };
+    let Some(host) = HostName::read(alloc, host)? else {
+        return Ok(None);
+    };
+    let Some(user) = user_named(alloc, user)? else {
+        return Ok(None);
+    };
+    let Some(key) = key_named(alloc, key)? else {
+        return Ok(None);
+    };
+    Ok(Some(ScriptLine::Enrol(NewUser { host, user, key })))
+}
+
+// `open N NAME USER PROOF`
+#[tactic(auto, unfolding(crate::specs::ScriptLines::open_line))]
+fn open_line(alloc: Global, words: Option<&[u8]>) -> Result<Option<ScriptLine>, AllocError>
+    ensures says { IfOk result (λ found. found ≡ open_line (words_left (option_copied words.entry))) }
+    ensures asks { IfOk result (λ found. IfSome found IsAskable) }
+{
+    let Some((number, host, user, proof)) = four_words(words) else {
+        return Ok(None);
+    };
+    let Some(number) = session_named(number) else {
+        return Ok(None);
+    };
+    let Some(host) = HostName::read(alloc, host)? else {
+        return Ok(None);
+    };
+    let Some(user) = user_named(alloc, user)? else {
+        return Ok(None);
+    };
+    let Some(proof) = read_word(alloc, proof)? else {
+        return Ok(None);
+    };
+    Ok(Some(ScriptLine::Open(NewSession {
+        number,
+        host,
+        user,
+        proof,
+    })))
+}
+
+// `N` and the words of a request, or of a put or get of the client
+#[tactic(auto, unfolding(crate::specs::ScriptLines::session_line))]
+fn session_line(
+    alloc: Global,
+    word: &[u8],
+    words: Option<&[u8]>,
+) -> Result<Option<ScriptLine>, AllocError>
+    ensures says { IfOk result (λ found.
+        found ≡ session_line word.now (words_left (option_copied words.entry))) }
+    ensures asks { IfOk result (λ found. IfSome found IsAskable) }
+{
+    let Some(number) = session_named(word) else {
+        return Ok(None);
+    };
+    let words = words_of(alloc, words)?;
+    if let Some(call) = read_client_line(alloc, words.as_slice())? {
+        return Ok(Some(ScriptLine::Client(number, call)));
+    }
+    if !is_request(words.as_slice()) {
+        return Ok(None);
+    }
+    Ok(Some(ScriptLine::Request(number, words)))
+}
+
+/// What is left of a line as four words. `None` where it has fewer or more.
+fn four_words(words: Option<&[u8]>) -> Option<(&[u8], &[u8], &[u8], &[u8])>
+    ensures some { IfSome result (λ cut. words_left (option_copied words.entry)
+        ≡ cut.0.now ∷ cut.1.now ∷ cut.2.now ∷ cut.3.now ∷ []) }
+    ensures none { IfNone result (length (words_left (option_copied words.entry)) ≢ 4) }
+{
+    let (first, after) = cut_word(words?);
+    let (second, third, fourth) = three_words(after)?;
+    Some((first, second, third, fourth))
+}
+
+/// The words that are left of a line.
+fn words_of(alloc: Global, words: Option<&[u8]>) -> Result<Items<Bytes>, AllocError>
+    ensures { IfOk result (λ all. all ≡ words_left (option_copied words.entry)) }
+{
+    let mut all = Items::new(alloc);
+    let mut left = words;
+    while let Some(line) = left {
+        let (word, after) = cut_word(line);
+        add_word(alloc, &mut all, word)?;
+        left = after;
+    }
+    Ok(all)
+}
+
+fn add_word(alloc: Global, words: &mut Items<Bytes>, word: &[u8]) -> Result<(), AllocError>
+    ensures { OnOk result (words.new ≡ words.old ++ word.now ∷ []) }
+{
+    words.push(copy_of(alloc, word)?)?;
+    Ok(())
+}
+
+/// The public key that a word stands for.
+#[tactic(auto, unfolding(crate::specs::ScriptLines::key_named))]
+fn key_named(alloc: Global, word: &[u8]) -> Result<Option<Bytes>, AllocError>
+    ensures { IfOk result (λ found. found ≡ key_named word.now) }
+{
+    let Some(key) = read_word(alloc, word)? else {
+        return Ok(None);
+    };
+    if !(1..=1024).contains(&key.len()) {
+        return Ok(None);
+    }
+    Ok(Some(key))
+}
+
+/// The number of a session that a word is.
+#[tactic(auto, unfolding(crate::specs::ScriptLines::session_named))]
+fn session_named(word: &[u8]) -> Option<u64>
+    ensures { result ≡ session_named word.now }
+{
+    let number = read_num(word)?;
+    if number > LAST_SESSION {
+        return None;
+    }
+    Some(number)
+}
+
+/// The owners of a host's trees that a word names.
+#[tactic(auto, unfolding(crate::specs::ScriptLines::trees_named))]
+fn trees_named(alloc: Global, word: &[u8]) -> Result<Option<Items<User>>, AllocError>
+    ensures { IfOk result (λ found. found ≡ trees_named word.now) }
+{
+    if word == b"-".as_slice() {
+        return Ok(Some(Items::new(alloc)));
+    }
+    let Some(owners) = users_named(alloc, word)? else {
+        return Ok(None);
+    };
+    if !are_owners(owners.as_slice()) {
+        return Ok(None);
+    }
+    Ok(Some(owners))
+}
+
+/// The users of a list that is cut at its commas.
+fn users_named(alloc: Global, list: &[u8]) -> Result<Option<Items<User>>, AllocError>
+    ensures { IfOk result (λ found. found ≡ users_named (slice_split is_comma list.now)) }
+{
+    let mut users = Items::new(alloc);
+    for word in list.split(|b| *b == b',') {
+        if !add_user(alloc, &mut users, word)? {
+            return Ok(None);
+        }
+    }
+    Ok(Some(users))
+}
+
+/// Adds the user that a word names, and answers whether it names one.
+fn add_user(alloc: Global, users: &mut Items<User>, word: &[u8]) -> Result<bool, AllocError>
+    ensures { IfOk result (λ good. option_map (λ user. users.old ++ user ∷ []) (user_named word.now)
+        ≡ (if good then Some users.new else None)) }
+{
+    let Some(user) = user_named(alloc, word)? else {
+        return Ok(false);
+    };
+    users.push(user)?;
+    Ok(true)
+}
+
+fn are_owners(owners: &[User]) -> bool
+    ensures { result ≡ are_owners owners.now }
+{
+    owners.len() as u64 <= MOST_TREES && are_plain(owners) && are_different(owners)
+}
+
+/// Whether none of these users is a snapshot user.
+fn are_plain(owners: &[User]) -> bool
+    ensures { result ≡ list_all (λ owner. not (owns_snapshots owner)) owners.now }
+{
+    owners.iter().all(|owner| !owns_snapshots(owner))
+}
+
+fn owns_snapshots(owner: &User) -> bool
+    ensures { result ≡ owns_snapshots owner.now }
+{
+    match owner.suffix() {
+        Some(suffix) => suffix == "snapshot",
+        None => false,
+    }
+}
+
+/// Whether no user stands twice; it compares each with all behind it, so the list has to be short.
+fn are_different(users: &[User]) -> bool
+    ensures { result ≡ are_different users.now }
+{
+    let mut left = users;
+    while let Some((first, rest)) = left.split_first() {
+        if rest.contains(first) {
+            return false;
+        }
+        left = rest;
+    }
+    true
+}

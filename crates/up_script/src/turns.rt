@@ -1,0 +1,406 @@
+//! What each kind of line of a script does.
+ghost use Rattle.std.specs.Prelude.{◌≡◌, ◌≢◌, ◌≤◌, ◌++◌, true, IfErr, IfOk, IsSome, OnOk, Some, not};
+ghost use Rattle.std.specs.List.{list_all, list_any};
+ghost use Rattle.up_sessions.specs.Fitting.{IsFit};
+ghost use Rattle.up_sessions.specs.Others.{has_tree};
+ghost use Rattle.up_sessions.specs.Worlds.{session_at};
+ghost use Rattle.up_script.specs.ScriptLines.{are_owners, is_key};
+ghost use Rattle.up_script.specs.ScriptRuns.{Turned};
+ghost use Rattle.up_script.specs.Scripts.{AskCame, CallCame, EnrolCame, HostCame, LineCame, OpenCame, SaysCame, all_numbered, call_path, got_said, is_new, place_of, put_said, replied};
+ghost use Rattle.up_script.specs.Standing.{AskSomething, parties, world};
+ghost use Rattle.up_script.specs.Turns.{IsGood, enrol_said, host_said, sign_said};
+ghost use Rattle.up_text.specs.ClientFaults.{fault_lines};
+ghost use Rattle.up_text.specs.Replies.{reply_lines};
+
+use crate::host_name::HostName;
+use crate::saying::{say, say_count, say_fault, say_numbered, say_reply};
+use crate::script_lines::{NewHost, NewSession, NewUser, ScriptLine, script_line};
+use crate::stop::LineStop;
+use std::alloc::{AllocError, Global};
+use up_bytes::Bytes;
+use up_client::ClientFault;
+use up_disk::Disk;
+use up_ends::{Clock, Nonces, Verifier};
+use up_journal::{AppendWhy, Limits};
+use up_names::{NameFault, Path, User, parse_path};
+use up_peer::Loader;
+use up_sessions::{LineFault, Sessions};
+use up_text::{ClientLine, read_request};
+use up_wire::{Done, Reply};
+
+/// How many hosts a script may have.
+const MOST_HOSTS: u64 = 8;
+
+/// The limits of the trees and keys of its hosts.
+const LIMITS: Limits = Limits {
+    records: 1_048_576,
+    device: 1_073_741_824,
+    largest: 131_072,
+};
+
+/// Does what a line says, and gathers what it prints.
+pub fn run_line<D: Disk + Drop, P: Loader, V: Verifier, C: Clock, N: Nonces>(
+    alloc: Global,
+    sessions: &mut Sessions<D>,
+    peers: &mut P,
+    verifier: &mut V,
+    clock: &mut C,
+    nonces: &mut N,
+    line: &[u8],
+    out: &mut Vec<u8>,
+) -> Result<(), LineStop>
+    requires fit { IsFit D.Disk sessions.old }
+    ensures { Turned (λ came. LineCame (parties D.Disk P.Loader V.Verifier C.Clock N.Nonces)
+        (world sessions.old peers.old verifier.old clock.old nonces.old) line.now came
+        (world sessions.new peers.new verifier.new clock.new nonces.new))
+        out.old.items result out.new.items }
+{
+    let Some(says) = script_line(alloc, line)? else {
+        return Err(LineStop::Malformed);
+    };
+    do_line(alloc, sessions, peers, verifier, clock, nonces, says, out)
+}
+
+// Does what was said.
+fn do_line<D: Disk + Drop, P: Loader, V: Verifier, C: Clock, N: Nonces>(
+    alloc: Global,
+    sessions: &mut Sessions<D>,
+    peers: &mut P,
+    verifier: &mut V,
+    clock: &mut C,
+    nonces: &mut N,
+    says: ScriptLine,
+    out: &mut Vec<u8>,
+) -> Result<(), LineStop>
+    requires fit { IsFit D.Disk sessions.old }
+    requires good { IsGood says }
+    ensures { Turned (λ came. SaysCame (parties D.Disk P.Loader V.Verifier C.Clock N.Nonces)
+        (world sessions.old peers.old verifier.old clock.old nonces.old) says came
+        (world sessions.new peers.new verifier.new clock.new nonces.new))
+        out.old.items result out.new.items }
+{
+    match says {
+        ScriptLine::Silent => Ok(()),
+        ScriptLine::Host(host) => open_host(alloc, sessions, host, out),
+        ScriptLine::Enrol(user) => enrol(alloc, sessions, user, out),
+        ScriptLine::Open(session) => sign_on(alloc, sessions, verifier, nonces, &session, out),
+        ScriptLine::Request(number, words) => {
+            ask(alloc, sessions, peers, clock, number, words.as_slice(), out)
+        }
+        ScriptLine::Client(number, call) => {
+            call_client(alloc, sessions, peers, clock, number, &call, out)
+        }
+    }
+}
+
+// `host NAME OPERATOR TREES`
+fn open_host<D: Disk + Drop>(
+    alloc: Global,
+    sessions: &mut Sessions<D>,
+    host: NewHost,
+    out: &mut Vec<u8>,
+) -> Result<(), LineStop>
+    requires fit { IsFit D.Disk sessions.old }
+    requires owners { are_owners host.owners ≡ true }
+    ensures { Turned (λ came. HostCame D.Disk host sessions.old came sessions.new)
+        out.old.items result out.new.items }
+{
+    if !is_new(sessions, &host) {
+        return Err(LineStop::Malformed);
+    }
+    let NewHost {
+        name,
+        operator,
+        owners,
+    } = host;
+    let opened = sessions.open_host(alloc, name.as_str(), operator, owners, LIMITS);
+    say_opened(out, &name, opened)
+}
+
+// What came of a host.
+fn say_opened(
+    out: &mut Vec<u8>,
+    name: &HostName,
+    opened: Result<(), LineFault>,
+) -> Result<(), LineStop>
+    ensures { Turned (λ came. came ≡ host_said name.now opened) out.old.items result out.new.items }
+{
+    match opened {
+        Ok(()) => Ok(say(out, b"host ", name.as_str().as_bytes())?),
+        Err(LineFault::Fault) => Err(LineStop::DiskFault),
+        Err(LineFault::OutOfMemory) => Err(LineStop::OutOfMemory),
+    }
+}
+
+// Whether there is room for a host, whose name and whose trees no other has.
+fn is_new<D: Disk>(sessions: &Sessions<D>, host: &NewHost) -> bool
+    ensures { result ≡ is_new sessions.now host.now }
+{
+    sessions.len() < MOST_HOSTS
+        && sessions.named(host.name.as_str()).is_none()
+        && are_free(sessions, host.owners.as_slice())
+}
+
+// Whether no host has the tree of one of these owners.
+fn are_free<D: Disk>(sessions: &Sessions<D>, owners: &[User]) -> bool
+    ensures { result ≡ list_all (λ owner. not (list_any (has_tree owner) sessions.now.hosts))
+        owners.now }
+{
+    owners.iter().all(|owner| !sessions.has(owner))
+}
+
+// `enrol NAME USER KEY`
+fn enrol<D: Disk>(
+    alloc: Global,
+    sessions: &mut Sessions<D>,
+    user: NewUser,
+    out: &mut Vec<u8>,
+) -> Result<(), LineStop>
+    requires key { is_key user.key ≡ true }
+    ensures { Turned (λ came. EnrolCame D.Disk user sessions.old came sessions.new)
+        out.old.items result out.new.items }
+{
+    let Some(place) = sessions.named(user.host.as_str()) else {
+        return Err(LineStop::Malformed);
+    };
+    enrol_at(alloc, sessions, place, user, out)
+}
+
+// A user is enrolled at the host at a place.
+fn enrol_at<D: Disk>(
+    alloc: Global,
+    sessions: &mut Sessions<D>,
+    place: usize,
+    user: NewUser,
+    out: &mut Vec<u8>,
+) -> Result<(), LineStop>
+    requires key { is_key user.key ≡ true }
+    requires place { place_of sessions.old user.host ≡ Some place }
+    ensures { Turned (λ came. EnrolCame D.Disk user sessions.old came sessions.new)
+        out.old.items result out.new.items }
+{
+    let name = user.user.clone()?;
+    let NewUser { host: _, user, key } = user;
+    let enrolled = sessions.enrol(alloc, place, user, key);
+    say_enrolled(out, &name, enrolled)
+}
+
+// What came of an enrolment.
+fn say_enrolled(
+    out: &mut Vec<u8>,
+    name: &User,
+    enrolled: Result<u64, AppendWhy>,
+) -> Result<(), LineStop>
+    ensures { Turned (λ came. came ≡ enrol_said name.now enrolled)
+        out.old.items result out.new.items }
+{
+    match enrolled {
+        Ok(_) => Ok(say(out, b"enrolled ", name.text().as_bytes())?),
+        Err(AppendWhy::Full(records)) => Ok(say_count(out, b"enrol full ", records)?),
+        Err(AppendWhy::Fault) => Err(LineStop::DiskFault),
+        Err(AppendWhy::OutOfMemory) => Err(LineStop::OutOfMemory),
+    }
+}
+
+// `open N NAME USER PROOF`
+fn sign_on<D: Disk, V: Verifier, N: Nonces>(
+    alloc: Global,
+    sessions: &mut Sessions<D>,
+    verifier: &mut V,
+    nonces: &mut N,
+    session: &NewSession,
+    out: &mut Vec<u8>,
+) -> Result<(), LineStop>
+    requires number { session.now.number ≤ 99 }
+    ensures { Turned (λ came. OpenCame V.Verifier N.Nonces session.now
+        sessions.old verifier.old nonces.old came sessions.new verifier.new nonces.new)
+        out.old.items result out.new.items }
+{
+    let Some(place) = sessions.named(session.host.as_str()) else {
+        return Err(LineStop::Malformed);
+    };
+    let number = session.number;
+    let proof = session.proof.as_slice();
+    let signed = sessions.sign_on(alloc, verifier, nonces, number, place, &session.user, proof);
+    say_signed(out, number, signed)
+}
+
+// What came of a sign-on.
+fn say_signed(
+    out: &mut Vec<u8>,
+    number: u64,
+    signed: Result<bool, LineFault>,
+) -> Result<(), LineStop>
+    ensures { Turned (λ came. came ≡ sign_said number signed) out.old.items result out.new.items }
+{
+    match signed {
+        Ok(true) => Ok(say_numbered(out, number, b"open")?),
+        Ok(false) => Ok(say_numbered(out, number, b"notsigned")?),
+        Err(LineFault::Fault) => Err(LineStop::HelperFault),
+        Err(LineFault::OutOfMemory) => Err(LineStop::OutOfMemory),
+    }
+}
+
+// A request of a session.
+fn ask<D: Disk, P: Loader, C: Clock>(
+    alloc: Global,
+    sessions: &mut Sessions<D>,
+    peers: &mut P,
+    clock: &mut C,
+    number: u64,
+    words: &[Bytes],
+    out: &mut Vec<u8>,
+) -> Result<(), LineStop>
+    requires words { AskSomething words.now }
+    ensures { Turned (λ came. AskCame D.Disk P.Loader C.Clock number words.now
+        sessions.old peers.old clock.old came sessions.new peers.new clock.new)
+        out.old.items result out.new.items }
+{
+    let Some(user) = sessions.user(number) else {
+        return Ok(say_numbered(out, number, b"nosession")?);
+    };
+    let Some(request) = read_request(alloc, words, user)? else {
+        unreachable!()
+    };
+    let now = clock.now();
+    let event = sessions.ask(alloc, peers, number, &request, now);
+    say_replied(alloc, out, number, &event.reply)
+}
+
+// What came of a request.
+fn say_replied(alloc: Global, out: &mut Vec<u8>, number: u64, reply: &Reply) -> Result<(), LineStop>
+    ensures { Turned (λ came. came ≡ replied number reply.now) out.old.items result out.new.items }
+{
+    if let Reply::OutOfMemory = reply {
+        return Err(LineStop::OutOfMemory);
+    }
+    Ok(say_reply(alloc, out, number, reply)?)
+}
+
+// What the client does in a session.
+fn call_client<D: Disk, P: Loader, C: Clock>(
+    alloc: Global,
+    sessions: &mut Sessions<D>,
+    peers: &mut P,
+    clock: &mut C,
+    number: u64,
+    call: &ClientLine,
+    out: &mut Vec<u8>,
+) -> Result<(), LineStop>
+    ensures { Turned (λ came. CallCame D.Disk P.Loader C.Clock number call.now
+        sessions.old peers.old clock.old came sessions.new peers.new clock.new)
+        out.old.items result out.new.items }
+{
+    let Some(_) = sessions.user(number) else {
+        return Ok(say_numbered(out, number, b"nosession")?);
+    };
+    match path_of(alloc, call)? {
+        Some(path) => call_at(alloc, sessions, peers, clock, number, call, &path, out),
+        None => {
+            let _now = clock.now();
+            Ok(say_numbered(out, number, b"invalid name")?)
+        }
+    }
+}
+
+// What the client does at a path.
+fn call_at<D: Disk, P: Loader, C: Clock>(
+    alloc: Global,
+    sessions: &mut Sessions<D>,
+    peers: &mut P,
+    clock: &mut C,
+    number: u64,
+    call: &ClientLine,
+    path: &Path,
+    out: &mut Vec<u8>,
+) -> Result<(), LineStop>
+    requires session { IsSome (session_at sessions.old number) }
+    requires path { call_path call.now ≡ Some path.now }
+    ensures { Turned (λ came. CallCame D.Disk P.Loader C.Clock number call.now
+        sessions.old peers.old clock.old came sessions.new peers.new clock.new)
+        out.old.items result out.new.items }
+{
+    let now = clock.now();
+    match call {
+        ClientLine::Put(_, time, sequence, bytes) => {
+            let bytes = bytes.as_slice();
+            let outcome = sessions.put(alloc, peers, number, path, *time, *sequence, bytes, now);
+            say_put(alloc, out, number, outcome)
+        }
+        ClientLine::Get(_) => {
+            let outcome = sessions.get(alloc, peers, number, path, now);
+            say_got(alloc, out, number, outcome)
+        }
+    }
+}
+
+// The path of a put or get, or none where it does not parse.
+fn path_of(alloc: Global, call: &ClientLine) -> Result<Option<Path>, AllocError>
+    ensures { IfOk result (λ found. found ≡ call_path call.now) }
+{
+    let text = match call {
+        ClientLine::Put(path, _, _, _) => path,
+        ClientLine::Get(path) => path,
+    };
+    match parse_path(alloc, text.as_slice()) {
+        Ok(path) => Ok(Some(path)),
+        Err(NameFault::OutOfMemory) => Err(AllocError),
+        Err(_) => Ok(None),
+    }
+}
+
+// What came of a put.
+fn say_put(
+    alloc: Global,
+    out: &mut Vec<u8>,
+    number: u64,
+    outcome: Result<u64, ClientFault>,
+) -> Result<(), LineStop>
+    ensures { Turned (λ came. came ≡ put_said number outcome) out.old.items result out.new.items }
+{
+    match outcome {
+        Ok(position) => Ok(say_done(alloc, out, number, Done::Changed(position))?),
+        Err(fault) => say_failed(alloc, out, number, &fault),
+    }
+}
+
+// What came of a get.
+fn say_got(
+    alloc: Global,
+    out: &mut Vec<u8>,
+    number: u64,
+    outcome: Result<Bytes, ClientFault>,
+) -> Result<(), LineStop>
+    ensures { Turned (λ came. came ≡ got_said number outcome) out.old.items result out.new.items }
+{
+    match outcome {
+        Ok(bytes) => Ok(say_done(alloc, out, number, Done::Bytes(bytes))?),
+        Err(fault) => say_failed(alloc, out, number, &fault),
+    }
+}
+
+// The reply to what was done.
+fn say_done(alloc: Global, out: &mut Vec<u8>, number: u64, done: Done) -> Result<(), AllocError>
+    ensures { OnOk result (out.new.items ≡ out.old.items
+        ++ all_numbered number (reply_lines (Reply.Ok done))) }
+{
+    let reply = Reply::Ok(done);
+    say_reply(alloc, out, number, &reply)
+}
+
+// Why a put or get failed.
+fn say_failed(
+    alloc: Global,
+    out: &mut Vec<u8>,
+    number: u64,
+    fault: &ClientFault,
+) -> Result<(), LineStop>
+    ensures said { OnOk result ((fault.now ≢ ClientFault.OutOfMemory)
+        × (out.new.items ≡ out.old.items ++ all_numbered number (fault_lines fault.now))) }
+    ensures wanting { IfErr result (λ why. why ≡ LineStop.OutOfMemory) }
+{
+    if let ClientFault::OutOfMemory = fault {
+        return Err(LineStop::OutOfMemory);
+    }
+    Ok(say_fault(alloc, out, number, fault)?)
+}
