@@ -1,10 +1,9 @@
 //! The client: what it gets and puts over a table of requests with their replies. The rows of a table come first, then the
 //! table, and then what is got and put over it.
 use std::alloc::Global;
-use std::borrow::CowSlice;
-use up_bytes::{Bytes, copy_of};
+use up_bytes::{Bytes, FieldFault, copy_of};
 use up_case_lines::{
-    Answer, Fault, Topic, Words, bytes_of_digits, int_of, number_of, path_of, text_of, user_of,
+    Answer, Fault, Topic, Words, bytes_of, bytes_of_digits, int_of, number_of, path_of, user_of,
 };
 use up_client::{ClientFault, TableAsk, get, put};
 use up_lists::Items;
@@ -71,9 +70,14 @@ fn numbers_of(alloc: Global, word: &str) -> Result<Items<u64>, Fault> {
         return Ok(numbers);
     }
     for number in word.split(',') {
-        numbers.push(number_of(number)?)?;
+        add_number(number, &mut numbers)?;
     }
     Ok(numbers)
+}
+
+fn add_number(word: &str, numbers: &mut Items<u64>) -> Result<(), Fault> {
+    numbers.push(number_of(word)?)?;
+    Ok(())
 }
 
 // `row HEX HEX`: a row of the request and the reply that these messages carry.
@@ -99,9 +103,18 @@ fn add_row(
 
 fn request_of(alloc: Global, digits: &str) -> Result<Request, Fault> {
     let bytes = bytes_of_digits(alloc, digits)?;
-    match read_client(alloc, bytes.as_slice()) {
+    let frame = read_client(alloc, bytes.as_slice());
+    drop(bytes);
+    asked_by(frame)
+}
+
+fn asked_by(frame: Result<ClientFrame, FieldFault>) -> Result<Request, Fault> {
+    match frame {
         Ok(ClientFrame::Ask(request)) => Ok(request),
-        _ => Err(Fault::BadLine),
+        other => {
+            drop(other);
+            Err(Fault::BadLine)
+        }
     }
 }
 
@@ -111,9 +124,18 @@ fn reply_of(alloc: Global, digits: &str) -> Result<Reply, Fault> {
         return Ok(Reply::OutOfMemory);
     }
     let bytes = bytes_of_digits(alloc, digits)?;
-    match read_server(alloc, bytes.as_slice()) {
+    let frame = read_server(alloc, bytes.as_slice());
+    drop(bytes);
+    told_by(frame)
+}
+
+fn told_by(frame: Result<ServerFrame, FieldFault>) -> Result<Reply, Fault> {
+    match frame {
         Ok(ServerFrame::Answer(reply)) => Ok(reply),
-        _ => Err(Fault::BadLine),
+        other => {
+            drop(other);
+            Err(Fault::BadLine)
+        }
     }
 }
 
@@ -310,9 +332,9 @@ fn add_put(
     }
 }
 
-fn told_text<'a>(alloc: Global, word: &'a str) -> Result<CowSlice<'a, u8>, Fault> {
+fn told_text(alloc: Global, word: &str) -> Result<Bytes, Fault> {
     match word.strip_prefix('=') {
-        Some(size) => Ok(CowSlice::Owned(long_text(alloc, number_of(size)?)?.into_vec())),
-        None => text_of(alloc, word),
+        Some(size) => long_text(alloc, number_of(size)?),
+        None => bytes_of(alloc, word),
     }
 }

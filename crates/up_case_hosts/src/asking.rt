@@ -1,6 +1,6 @@
 //! What a user asks of a host.
 use crate::events::{add_event, add_reply};
-use crate::requests::{File, at_address, file_request, line_request, store_request};
+use crate::requests::{File, file_request, line_request, store_request};
 use crate::sessions::session_of;
 use std::alloc::Global;
 use up_case_lines::{Answer, Fault, Words};
@@ -59,36 +59,26 @@ fn ask_as<L: Loader>(
 ) -> Result<(), Fault> {
     let line = words.some()?;
     match words.word()? {
-        "put" => put(alloc, host, loader, session, words, answer),
-        "remote" => remote(alloc, host, loader, session, words, answer),
-        _ => ask_line(alloc, host, loader, session, line, answer),
+        "put" => put(alloc, host, loader, session, file_told(words)?, answer),
+        "remote" => put_file(alloc, host, loader, session, remote_told(words)?, answer),
+        _ => {
+            let request = line_request(alloc, session.user(), line)?;
+            ask_request(alloc, host, loader, session, request, answer)
+        }
     }
 }
 
-// What the words of a line ask.
-fn ask_line<L: Loader>(
-    alloc: Global,
-    host: &mut Host<MemDisk>,
-    loader: &mut L,
-    session: &Session,
-    line: &str,
-    answer: &mut Answer,
-) -> Result<(), Fault> {
-    let request = line_request(alloc, session.user(), line)?;
-    let asked = ask_request(alloc, host, loader, session, &request, answer);
-    drop(request);
-    asked
-}
-
+// Asks what a line asks.
 fn ask_request<L: Loader>(
     alloc: Global,
     host: &mut Host<MemDisk>,
     loader: &mut L,
     session: &Session,
-    request: &Request,
+    request: Request,
     answer: &mut Answer,
 ) -> Result<(), Fault> {
-    let event = event_of(alloc, host, loader, session, request);
+    let event = event_of(alloc, host, loader, session, &request);
+    drop(request);
     let added = add_event(alloc, &event, answer);
     drop(event);
     added
@@ -105,32 +95,19 @@ fn event_of<L: Loader>(
     host.ask(alloc, loader, session, request, NOW)
 }
 
-// `PATH TIME SEQ BYTES`: the bytes are stored, and then the file is put.
+// The bytes are stored, and then the file is put. No bytes are no block.
 fn put<L: Loader>(
     alloc: Global,
     host: &mut Host<MemDisk>,
     loader: &mut L,
     session: &Session,
-    words: Words<'_>,
+    file: File<'_>,
     answer: &mut Answer,
 ) -> Result<(), Fault> {
-    let file = file_told(words)?;
-    if store(alloc, host, loader, session, file.bytes, answer)? {
+    if file.bytes == "-" || store(alloc, host, loader, session, file.bytes, answer)? {
         return put_file(alloc, host, loader, session, file, answer);
     }
     Ok(())
-}
-
-// `PATH TIME SEQ BYTES`.
-fn file_told(mut words: Words<'_>) -> Result<File<'_>, Fault> {
-    let (path, time, sequence) = words.next_three()?;
-    let bytes = words.one()?;
-    Ok(File {
-        path,
-        time,
-        sequence,
-        bytes,
-    })
 }
 
 fn put_file<L: Loader>(
@@ -142,12 +119,10 @@ fn put_file<L: Loader>(
     answer: &mut Answer,
 ) -> Result<(), Fault> {
     let request = file_request(alloc, session.user(), file)?;
-    let asked = ask_request(alloc, host, loader, session, &request, answer);
-    drop(request);
-    asked
+    ask_request(alloc, host, loader, session, request, answer)
 }
 
-// Stores the bytes of a word. Where they are not stored, the answer says why. No bytes are no block.
+// Stores the bytes of a word. Where they are not stored, the answer says why.
 fn store<L: Loader>(
     alloc: Global,
     host: &mut Host<MemDisk>,
@@ -156,24 +131,9 @@ fn store<L: Loader>(
     word: &str,
     answer: &mut Answer,
 ) -> Result<bool, Fault> {
-    if word == "-" {
-        return Ok(true);
-    }
     let request = store_request(alloc, word)?;
-    let stored = ask_store(alloc, host, loader, session, &request, answer);
+    let event = event_of(alloc, host, loader, session, &request);
     drop(request);
-    stored
-}
-
-fn ask_store<L: Loader>(
-    alloc: Global,
-    host: &mut Host<MemDisk>,
-    loader: &mut L,
-    session: &Session,
-    request: &Request,
-    answer: &mut Answer,
-) -> Result<bool, Fault> {
-    let event = event_of(alloc, host, loader, session, request);
     let stored = is_stored(alloc, &event.reply, answer);
     drop(event);
     stored
@@ -187,34 +147,28 @@ fn is_stored(alloc: Global, reply: &Reply, answer: &mut Answer) -> Result<bool, 
     Ok(false)
 }
 
-// `PATH TIME SEQ ADDRESS BYTES`: a file is put whose bytes are one block at an address.
-fn remote<L: Loader>(
-    alloc: Global,
-    host: &mut Host<MemDisk>,
-    loader: &mut L,
-    session: &Session,
-    words: Words<'_>,
-    answer: &mut Answer,
-) -> Result<(), Fault> {
-    let (address, file) = remote_told(words)?;
-    let mut request = file_request(alloc, session.user(), file)?;
-    let asked = match at_address(alloc, &mut request, address) {
-        Ok(()) => ask_request(alloc, host, loader, session, &request, answer),
-        Err(fault) => Err(fault),
-    };
-    drop(request);
-    asked
-}
-
-// `PATH TIME SEQ ADDRESS BYTES`: the address, and the file.
-fn remote_told(mut words: Words<'_>) -> Result<(&str, File<'_>), Fault> {
+// `PATH TIME SEQ BYTES`.
+fn file_told(mut words: Words<'_>) -> Result<File<'_>, Fault> {
     let (path, time, sequence) = words.next_three()?;
-    let (address, bytes) = words.two()?;
-    let file = File {
+    let bytes = words.one()?;
+    Ok(File {
         path,
         time,
         sequence,
+        address: "-",
         bytes,
-    };
-    Ok((address, file))
+    })
+}
+
+// `PATH TIME SEQ ADDRESS BYTES`.
+fn remote_told(mut words: Words<'_>) -> Result<File<'_>, Fault> {
+    let (path, time, sequence) = words.next_three()?;
+    let (address, bytes) = words.two()?;
+    Ok(File {
+        path,
+        time,
+        sequence,
+        address,
+        bytes,
+    })
 }

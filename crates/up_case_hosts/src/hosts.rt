@@ -6,8 +6,10 @@ use crate::asking::ask_alone;
 use crate::lines::{enrol_line, key_line, text_line};
 use crate::opening::{add_sizes, host_over, new_host};
 use crate::peers::{Has, Kind, Told, ask_peer, ask_with, has_of, kind_of, tree};
+use crate::words::cut;
 use std::alloc::Global;
 use std::hash::RandomState;
+use std::mem;
 use up_case_lines::{Answer, Fault, Topic, Words, user_of};
 use up_disk::{Disks, MemDisk};
 use up_host::{Host, TreePeer};
@@ -168,33 +170,26 @@ impl Hosts {
         mut words: Words<'_>,
         answer: &mut Answer,
     ) -> Result<(), Fault> {
-        let name = words.word()?;
-        let (told, asks) = words.some()?.split_once(" : ").ok_or(Fault::BadLine)?;
-        let told = self.told_peers(alloc, told)?;
-        self.ask_told(alloc, name, told, asks, answer)
+        let mut told = Vec::new(alloc);
+        let asked = self.ask_told(alloc, &mut words, &mut told, answer);
+        drop(told);
+        asked
     }
 
+    // Tells the peers, and asks the host that has them, which takes them.
     fn ask_told(
         &mut self,
         alloc: Global,
-        name: &str,
-        told: Vec<Told>,
-        asks: &str,
+        words: &mut Words<'_>,
+        told: &mut Vec<Told>,
         answer: &mut Answer,
     ) -> Result<(), Fault> {
+        let name = words.word()?;
+        let (peers, asks) = peers_and_asks(words.some()?)?;
+        self.add_all(alloc, peers, told)?;
+        let told = mem::replace(told, Vec::new(alloc));
         match self.get(name) {
             Ok(host) => ask_with(alloc, host, told, asks, answer),
-            Err(fault) => {
-                drop(told);
-                Err(fault)
-            }
-        }
-    }
-
-    fn told_peers(&mut self, alloc: Global, words: &str) -> Result<Vec<Told>, Fault> {
-        let mut told = Vec::new(alloc);
-        match self.add_all(alloc, words, &mut told) {
-            Ok(()) => Ok(told),
             Err(fault) => {
                 drop(told);
                 Err(fault)
@@ -221,8 +216,8 @@ impl Hosts {
 
     // `OWNERS/ADDRESS/KIND`: a peer that has the trees of these owners and the blocks of this address.
     fn told_peer(&mut self, alloc: Global, word: &str) -> Result<Told, Fault> {
-        let (owners, rest) = word.split_once('/').ok_or(Fault::BadLine)?;
-        let (address, kind) = rest.split_once('/').ok_or(Fault::BadLine)?;
+        let (owners, rest) = cut(word, '/')?;
+        let (address, kind) = cut(rest, '/')?;
         let has = has_of(alloc, owners, address)?;
         self.told_by(alloc, has, kind)
     }
@@ -246,7 +241,7 @@ impl Hosts {
     }
 
     fn told_tree(&mut self, alloc: Global, word: &str) -> Result<Kind, Fault> {
-        let (name, asker) = word.split_once(':').ok_or(Fault::BadLine)?;
+        let (name, asker) = cut(word, ':')?;
         let peer = self.tree_peer(alloc, name, asker)?;
         tree(alloc, peer)
     }
@@ -309,4 +304,9 @@ fn peer_of(alloc: Global, host: Host<MemDisk>, asker: &str) -> Result<TreePeer<M
             Err(fault)
         }
     }
+}
+
+// What stands before the first ` : `, and behind it.
+fn peers_and_asks(words: &str) -> Result<(&str, &str), Fault> {
+    words.split_once(" : ").ok_or(Fault::BadLine)
 }

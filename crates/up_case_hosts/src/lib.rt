@@ -11,5 +11,6 @@ mod opening;
 mod peers;
 mod requests;
 mod sessions;
+mod words;
 
 pub use hosts::Hosts;

@@ -1,9 +1,10 @@
 //! Hosts that are opened over disks in memory.
-ghost use Rattle.std.specs.Prelude.{◌≡◌, ◌==◌, ◌+◌, false, length, IfOk, OnOk};
+ghost use Rattle.std.specs.Prelude.{◌≡◌, ◌==◌, ◌+◌, false, length, IfOk};
 ghost use Rattle.std.specs.List.{AllByRecursion, IsDistinct};
 ghost use Rattle.std.specs.Str.{bytes_eq};
 ghost use Rattle.up_policy.specs.Trees.{owns_snapshots};
 
+use crate::words::cut;
 use std::alloc::Global;
 use std::hash::RandomState;
 use up_case_lines::{Answer, Fault, Words, number_of, user_of};
@@ -38,21 +39,8 @@ pub fn new_host(
     let operator = words.word()?;
     let owners = words.word()?;
     let whose = whose_of(alloc, operator, owners)?;
-    open_new(alloc, random, whose, words, answer)
-}
-
-fn open_new(
-    alloc: Global,
-    random: RandomState,
-    whose: Whose,
-    words: Words<'_>,
-    answer: &mut Answer,
-) -> Result<Option<Host<MemDisk>>, Fault>
-    requires distinct { IsDistinct bytes_eq whose.owners }
-    requires plain { AllByRecursion (λ owner. owns_snapshots owner ≡ false) whose.owners }
-{
     match disks_for(alloc, &whose.owners, words) {
-        Ok(disks) => Ok(open(alloc, random, whose, disks, answer)),
+        Ok(disks) => open_over(alloc, random, whose, disks, answer),
         Err(fault) => {
             drop(whose);
             Err(fault)
@@ -183,13 +171,6 @@ fn are_disks_for(disks: &Disks<MemDisk>, owners: &Items<User>) -> bool
     disks >= 2 && disks - 2 == owners
 }
 
-// The number of disks of a host of these owners.
-fn disk_count(owners: &Items<User>) -> Result<u64, Fault>
-    ensures { IfOk result (λ count. count ≡ length owners.now + 2) }
-{
-    owners.len().checked_add(2).ok_or(Fault::BadLine)
-}
-
 fn whose_of(alloc: Global, operator: &str, owners: &str) -> Result<Whose, Fault>
     ensures distinct { IfOk result (λ whose. IsDistinct bytes_eq whose.owners) }
     ensures plain { IfOk result (λ whose.
@@ -246,18 +227,13 @@ fn owns_snapshots(owner: &User) -> bool
 }
 
 // The empty disks of a host of these owners. A word `PLACE:CALL,CALL` has these calls of the disk at this place fail.
-fn disks_for(alloc: Global, owners: &Items<User>, words: Words<'_>) -> Result<Disks<MemDisk>, Fault>
-    ensures { IfOk result (λ disks. length disks.disks ≡ length owners.now + 2) }
-{
-    disks_of(alloc, disk_count(owners)?, words)
-}
-
-// So many of them.
-fn disks_of(alloc: Global, count: u64, words: Words<'_>) -> Result<Disks<MemDisk>, Fault>
-    ensures { IfOk result (λ disks. length disks.disks ≡ count) }
-{
+fn disks_for(
+    alloc: Global,
+    owners: &Items<User>,
+    words: Words<'_>,
+) -> Result<Disks<MemDisk>, Fault> {
     let mut disks = Disks::new(alloc);
-    for place in 0..count {
+    for place in 0..owners.len().saturating_add(2) {
         add_disk(alloc, place, words, &mut disks)?;
     }
     Ok(disks)
@@ -268,11 +244,8 @@ fn add_disk(
     place: u64,
     words: Words<'_>,
     disks: &mut Disks<MemDisk>,
-) -> Result<(), Fault>
-    ensures { OnOk result (length disks.new.disks ≡ length disks.old.disks + 1) }
-{
-    let disk = disk_at(alloc, place, words)?;
-    disks.push(disk)?;
+) -> Result<(), Fault> {
+    disks.push(disk_at(alloc, place, words)?)?;
     Ok(())
 }
 
@@ -292,7 +265,7 @@ fn fails_at(alloc: Global, place: u64, words: Words<'_>) -> Result<Items<u64>, F
 }
 
 fn add_fails(place: u64, word: &str, fails: &mut Items<u64>) -> Result<(), Fault> {
-    let (at, calls) = word.split_once(':').ok_or(Fault::BadLine)?;
+    let (at, calls) = cut(word, ':')?;
     if number_of(at)? == place {
         add_numbers(calls, fails)?;
     }
@@ -301,7 +274,12 @@ fn add_fails(place: u64, word: &str, fails: &mut Items<u64>) -> Result<(), Fault
 
 fn add_numbers(calls: &str, fails: &mut Items<u64>) -> Result<(), Fault> {
     for call in calls.split(',') {
-        fails.push(number_of(call)?)?;
+        add_number(call, fails)?;
     }
+    Ok(())
+}
+
+fn add_number(word: &str, numbers: &mut Items<u64>) -> Result<(), Fault> {
+    numbers.push(number_of(word)?)?;
     Ok(())
 }

@@ -1,5 +1,6 @@
 //! Peers as words tell them, and what is asked of a host that has them.
 use crate::asking::ask;
+use crate::words::cut;
 use std::alloc::Global;
 use up_bytes::Bytes;
 use up_case_lines::{Answer, Fault, Words, bytes_of, number_of, path_of, user_of};
@@ -66,9 +67,9 @@ pub fn kind_of(alloc: Global, word: &str) -> Result<Kind, Fault> {
     if word == "refuses" {
         return refusing(alloc);
     }
-    match word.split_once(':') {
-        Some(("list", answers)) => list(alloc, list_of(alloc, answers)?),
-        Some(("chain", rest)) => list(alloc, chain_of(alloc, rest)?),
+    match cut(word, ':')? {
+        ("list", answers) => list(alloc, list_of(alloc, answers)?),
+        ("chain", rest) => list(alloc, chain_of(alloc, rest)?),
         _ => Err(Fault::BadLine),
     }
 }
@@ -135,8 +136,8 @@ fn got(alloc: Global, text: &str) -> Result<PeerAnswer, Fault> {
 }
 
 fn chain_of(alloc: Global, word: &str) -> Result<Items<PeerAnswer>, Fault> {
-    let (owner, rest) = word.split_once(':').ok_or(Fault::BadLine)?;
-    let (count, last) = rest.split_once(':').ok_or(Fault::BadLine)?;
+    let (owner, rest) = cut(word, ':')?;
+    let (count, last) = cut(rest, ':')?;
     links_of(alloc, owner, number_of(count)?, last)
 }
 

@@ -1,6 +1,5 @@
 //! What is asked, by words.
 use std::alloc::{AllocError, Global};
-use std::mem;
 use up_bytes::{Bytes, copy_of};
 use up_case_lines::{Fault, bytes_of};
 use up_entry::{Block, Endpoint, Location};
@@ -10,12 +9,13 @@ use up_refs::Reference;
 use up_text::read_request;
 use up_wire::Request;
 
-/// The words that tell of a file: its bytes are one block, or none where there are none.
+/// The words that tell of a file: its bytes are one block at an address, `-` for the store of the host, or none where there are none.
 #[derive(Clone, Copy)]
 pub struct File<'a> {
     pub path: &'a str,
     pub time: &'a str,
     pub sequence: &'a str,
+    pub address: &'a str,
     pub bytes: &'a str,
 }
 
@@ -54,96 +54,67 @@ pub fn store_request(alloc: Global, word: &str) -> Result<Request, Fault> {
     Ok(Request::StorePut(bytes_of(alloc, word)?))
 }
 
-/// The request to put a file, whose bytes are in the store of the host.
+/// The request to put a file.
 pub fn file_request(alloc: Global, user: &User, file: File<'_>) -> Result<Request, Fault> {
     let line = file_line(alloc, file)?;
     let request = line_request(alloc, user, line.as_str());
     drop(line);
-    request
+    with_block(alloc, request?, file)
 }
 
-// The line that puts a file.
-fn file_line(alloc: Global, file: File<'_>) -> Result<String, Fault> {
-    let blocks = blocks_word(alloc, file.bytes)?;
-    let line = line_with(alloc, file, blocks.as_str());
-    drop(blocks);
-    Ok(line?)
+// The line that puts a file without a block.
+fn file_line(alloc: Global, file: File<'_>) -> Result<String, AllocError> {
+    let (path, time, sequence) = (file.path, file.time, file.sequence);
+    format!(in alloc; "file {path} 1 {time} {sequence} - -")
 }
 
-fn line_with(alloc: Global, file: File<'_>, blocks: &str) -> Result<String, AllocError> {
-    let File {
-        path,
-        time,
-        sequence,
-        bytes: _,
-    } = file;
-    format!(in alloc; "file {path} 1 {time} {sequence} - {blocks}")
-}
-
-// The word for the blocks of these bytes.
-fn blocks_word(alloc: Global, word: &str) -> Result<String, Fault> {
-    let bytes = bytes_of(alloc, word)?;
-    let blocks = block_word(alloc, bytes.as_slice());
-    drop(bytes);
-    Ok(blocks?)
-}
-
-fn block_word(alloc: Global, bytes: &[u8]) -> Result<String, AllocError> {
-    if bytes.is_empty() {
-        return "-".to_string(alloc);
+fn with_block(alloc: Global, mut request: Request, file: File<'_>) -> Result<Request, Fault> {
+    match add_block(alloc, &mut request, file) {
+        Ok(()) => Ok(request),
+        Err(fault) => {
+            drop(request);
+            Err(fault)
+        }
     }
-    sized_word(alloc, Reference::of(bytes), bytes.len())
 }
 
-fn sized_word(alloc: Global, reference: Reference, size: usize) -> Result<String, AllocError> {
-    let digits = reference.text(alloc)?;
-    let word = format!(in alloc; "{digits}:{size}");
-    drop(digits);
-    word
-}
-
-/// Has each block of the file that is put be at an address.
-pub fn at_address(alloc: Global, request: &mut Request, address: &str) -> Result<(), Fault> {
+fn add_block(alloc: Global, request: &mut Request, file: File<'_>) -> Result<(), Fault> {
     match request {
-        Request::Put(put) => move_blocks(alloc, &mut put.blocks, address),
-        _ => Err(Fault::BadLine),
+        Request::Put(put) if file.bytes != "-" => push_block(alloc, &mut put.blocks, file),
+        _ => Ok(()),
     }
 }
 
-fn move_blocks(alloc: Global, blocks: &mut Items<Block>, address: &str) -> Result<(), Fault> {
-    let moved = moved_blocks(alloc, blocks.as_slice(), address)?;
-    drop(mem::replace(blocks, moved));
+fn push_block(alloc: Global, blocks: &mut Items<Block>, file: File<'_>) -> Result<(), Fault> {
+    blocks.push(block_of(alloc, file)?)?;
     Ok(())
 }
 
-fn moved_blocks(alloc: Global, blocks: &[Block], address: &str) -> Result<Items<Block>, Fault> {
-    let mut moved = Items::new(alloc);
-    for block in blocks {
-        add_moved(alloc, block, address, &mut moved)?;
-    }
-    Ok(moved)
-}
-
-fn add_moved(
-    alloc: Global,
-    block: &Block,
-    address: &str,
-    moved: &mut Items<Block>,
-) -> Result<(), Fault> {
-    moved.push(moved_block(alloc, block, address)?)?;
-    Ok(())
-}
-
-// A block of a plain file, at an address.
-fn moved_block(alloc: Global, block: &Block, address: &str) -> Result<Block, Fault> {
-    let address = bytes_of(alloc, address)?;
+fn block_of(alloc: Global, file: File<'_>) -> Result<Block, Fault> {
+    let (reference, size) = digest_of(alloc, file.bytes)?;
+    let endpoint = endpoint_of(alloc, file.address)?;
     Ok(Block {
         location: Location {
-            endpoint: Endpoint::Address(address),
-            reference: block.location.reference,
+            endpoint,
+            reference,
         },
-        offset: block.offset,
-        size: block.size,
+        offset: 0,
+        size,
         packdata: Items::new(alloc),
     })
+}
+
+// The reference of the bytes that a word stands for, and how many they are.
+fn digest_of(alloc: Global, word: &str) -> Result<(Reference, u64), Fault> {
+    let bytes = bytes_of(alloc, word)?;
+    let digest = (Reference::of(bytes.as_slice()), bytes.len());
+    drop(bytes);
+    Ok(digest)
+}
+
+fn endpoint_of(alloc: Global, address: &str) -> Result<Endpoint, Fault> {
+    match address {
+        "-" => Ok(Endpoint::Local),
+        _ => Ok(Endpoint::Address(bytes_of(alloc, address)?)),
+    }
 }

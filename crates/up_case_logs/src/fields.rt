@@ -1,5 +1,5 @@
 //! Words and fields: how texts and numbers are written, and read again. A line stands alone.
-use std::alloc::Global;
+use std::alloc::{AllocError, Global};
 use std::borrow::CowSlice;
 use up_bytes::{Bytes, FieldFault, Reader, Writer, int_len, num_len};
 use up_case_lines::{
@@ -43,15 +43,20 @@ fn text_line(alloc: Global, digits: &str, answer: &mut Answer) -> Result<(), Fau
 fn word_line(alloc: Global, digits: &str, answer: &mut Answer) -> Result<(), Fault> {
     let word = bytes_of_digits(alloc, digits)?;
     let own = read_word(alloc, word.as_slice())?;
-    let lent = word_text(alloc, word.as_slice())?;
-    if !are_same(&own, &lent) {
+    if !is_lent(alloc, word.as_slice(), &own)? {
         answer.word("differ");
     }
-    match own {
+    match &own {
         Some(text) => answer.digits(text.as_slice()),
         None => answer.word("none"),
     }
     Ok(())
+}
+
+// Whether this is what may stand in a word itself.
+fn is_lent(alloc: Global, word: &[u8], own: &Option<Bytes>) -> Result<bool, AllocError> {
+    let lent = word_text(alloc, word)?;
+    Ok(are_same(own, &lent))
 }
 
 fn are_same(own: &Option<Bytes>, lent: &Option<CowSlice<'_, u8>>) -> bool {
@@ -105,9 +110,16 @@ fn write_field(alloc: Global, field: &str, out: &mut Writer) -> Result<(), Fault
     let (kind, value) = field.split_once(':').ok_or(Fault::BadLine)?;
     match kind {
         "byte" => out.byte(byte_of(value)?)?,
-        "text" => out.text(bytes_of_digits(alloc, value)?.as_slice())?,
-        "raw" => out.raw(bytes_of_digits(alloc, value)?.as_slice())?,
         "first" => out.truncate(number_of(value)?),
+        _ => write_bytes(kind, bytes_of_digits(alloc, value)?.as_slice(), out)?,
+    }
+    Ok(())
+}
+
+fn write_bytes(kind: &str, bytes: &[u8], out: &mut Writer) -> Result<(), Fault> {
+    match kind {
+        "text" => out.text(bytes)?,
+        "raw" => out.raw(bytes)?,
         _ => return Err(Fault::BadLine),
     }
     Ok(())
@@ -139,73 +151,45 @@ fn read_fields(
     Ok(())
 }
 
+// Adds what is read of a field. A reading that fails is told.
 fn read_field(
     alloc: Global,
     field: &str,
     input: &mut Reader<'_>,
     answer: &mut Answer,
 ) -> Result<(), Fault> {
+    let taken = match field.strip_prefix("raw:") {
+        Some(size) => take_raw(number_of(size)?, input, answer),
+        None => take_field(alloc, field, input, answer),
+    };
+    match taken {
+        Ok(true) => Ok(()),
+        Ok(false) => Err(Fault::BadLine),
+        Err(fault) => add_fault(fault, answer),
+    }
+}
+
+fn take_raw(size: u64, input: &mut Reader<'_>, answer: &mut Answer) -> Result<bool, FieldFault> {
+    answer.coded(input.raw(size)?);
+    Ok(true)
+}
+
+// Answers `false` where there is no such field.
+fn take_field(
+    alloc: Global,
+    field: &str,
+    input: &mut Reader<'_>,
+    answer: &mut Answer,
+) -> Result<bool, FieldFault> {
     match field {
-        "byte" => add_number(input.byte().map(u64::from), answer),
-        "num" => add_number(input.num(), answer),
-        "int" => add_int(input.int(), answer),
-        "slice" => add_bytes(input.slice(), answer),
-        "ahead" => add_bytes(input.fork().slice(), answer),
-        "text" => add_text(input.text(alloc), answer),
-        "reference" => add_reference(input.bytes_32(), answer),
-        _ => {
-            let size = field.strip_prefix("raw:").ok_or(Fault::BadLine)?;
-            add_bytes(input.raw(number_of(size)?), answer)
-        }
+        "byte" => answer.number(u64::from(input.byte()?)),
+        "num" => answer.number(input.num()?),
+        "int" => answer.int(input.int()?),
+        "slice" => answer.coded(input.slice()?),
+        "ahead" => answer.coded(input.fork().slice()?),
+        "text" => answer.coded(input.text(alloc)?.as_slice()),
+        "reference" => answer.coded(input.bytes_32()?.as_slice()),
+        _ => return Ok(false),
     }
-}
-
-fn add_number(read: Result<u64, FieldFault>, answer: &mut Answer) -> Result<(), Fault> {
-    match read {
-        Ok(number) => {
-            answer.number(number);
-            Ok(())
-        }
-        Err(fault) => add_fault(fault, answer),
-    }
-}
-
-fn add_int(read: Result<i64, FieldFault>, answer: &mut Answer) -> Result<(), Fault> {
-    match read {
-        Ok(number) => {
-            answer.int(number);
-            Ok(())
-        }
-        Err(fault) => add_fault(fault, answer),
-    }
-}
-
-fn add_bytes(read: Result<&[u8], FieldFault>, answer: &mut Answer) -> Result<(), Fault> {
-    match read {
-        Ok(bytes) => {
-            answer.coded(bytes);
-            Ok(())
-        }
-        Err(fault) => add_fault(fault, answer),
-    }
-}
-
-fn add_text(read: Result<Bytes, FieldFault>, answer: &mut Answer) -> Result<(), Fault> {
-    match read {
-        Ok(text) => {
-            answer.coded(text.as_slice());
-            Ok(())
-        }
-        Err(fault) => add_fault(fault, answer),
-    }
-}
-
-fn add_reference(read: Result<[u8; 32], FieldFault>, answer: &mut Answer) -> Result<(), Fault> {
-    match read {
-        Ok(bytes) => {
-            answer.coded(bytes.as_slice());
-            Ok(())
-        }
-        Err(fault) => add_fault(fault, answer),
-    }
+    Ok(true)
 }

@@ -1,10 +1,9 @@
 //! From an entry that a user hands in, by the record that puts it, to a journal that crashes and is opened again. The lines
 //! are those of records and of crashes, and two more: `keep` appends a record, and `kept` reads it from the journal.
-use crate::crashes::{Running, Stage, new_disk, payload, stage_turn};
-use crate::records::Records;
+use crate::crashes::{Running, Stage, Watched, stage_turn};
+use crate::records::{Records, add_record_of};
 use std::alloc::Global;
-use up_case_lines::{Answer, Fault, Topic, Words, add_fault, add_record};
-use up_entry::read_rec;
+use up_case_lines::{Answer, Fault, Topic, Words};
 use up_journal::ReadWhy;
 
 /// A user's session, and a disk or what stands on it: an empty disk at first, and again behind a line that does not fit.
@@ -39,9 +38,8 @@ impl Logs {
 
     // `kept N`: the words of record N.
     fn kept(&mut self, alloc: Global, n: u64, answer: &mut Answer) -> Result<(), Fault> {
-        let found = payload(&mut self.running()?.journal, n).ok_or(Fault::BadLine)?;
-        match found {
-            Ok(bytes) => add_kept(alloc, bytes.as_slice(), answer),
+        match self.running()?.payload(n).ok_or(Fault::BadLine)? {
+            Ok(bytes) => add_record_of(alloc, bytes.as_slice(), answer),
             Err(ReadWhy::Fault) => {
                 answer.word("fault");
                 Ok(())
@@ -54,9 +52,10 @@ impl Logs {
     fn go_on(&mut self, alloc: Global, line: &str, answer: &mut Answer) -> Result<(), Fault> {
         let stage = match self.stage.take() {
             Some(stage) => stage,
-            None => Stage::Disk(new_disk(alloc, 0, 0)?),
+            None => Stage::Disk(Watched::empty(alloc)),
         };
-        self.stage = Some(stage_turn(alloc, stage, Words::new(line), answer)?);
+        let stage = stage_turn(alloc, stage, Words::new(line), answer)?;
+        drop(self.stage.replace(stage));
         Ok(())
     }
 }
@@ -70,16 +69,5 @@ impl Topic for Logs {
             "kept" => self.kept(alloc, words.last_number()?, answer),
             _ => self.go_on(alloc, line, answer),
         }
-    }
-}
-
-// The words of the record that these bytes are.
-fn add_kept(alloc: Global, bytes: &[u8], answer: &mut Answer) -> Result<(), Fault> {
-    match read_rec(alloc, bytes) {
-        Ok(rec) => {
-            add_record(alloc, &rec, answer);
-            Ok(())
-        }
-        Err(fault) => add_fault(fault, answer),
     }
 }

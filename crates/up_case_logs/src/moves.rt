@@ -2,7 +2,7 @@
 //! is a case of its own, over two empty disks: commands of the one or of the other, parted by `; `, and so are their answers.
 ghost use Rattle.up_journal.specs.Journal.{AreLimits};
 
-use crate::crashes::{Watched, add_log_of, limits_of, new_disk, on_disk_turn};
+use crate::crashes::{Watched, add_counted, add_log_of, limits_of, on_disk_turn};
 use std::alloc::{AllocError, Global};
 use up_case_lines::{Answer, Fault, Topic, Words};
 use up_disk::MemDisk;
@@ -20,20 +20,16 @@ struct Pair {
 
 impl Topic for Moves {
     fn turn(&mut self, alloc: Global, line: &str, answer: &mut Answer) -> Result<(), Fault> {
-        let mut pair = empty_pair(alloc)?;
+        let mut pair = Pair {
+            old: Watched::empty(alloc),
+            new: Watched::empty(alloc),
+        };
         for command in line.split("; ") {
             answer.part();
             pair_turn(alloc, &mut pair, Words::new(command), answer)?;
         }
         Ok(())
     }
-}
-
-// Two empty disks.
-fn empty_pair(alloc: Global) -> Result<Pair, AllocError> {
-    let old = new_disk(alloc, 0, 0)?;
-    let new = new_disk(alloc, 0, 0)?;
-    Ok(Pair { old, new })
 }
 
 // Does one command.
@@ -44,8 +40,8 @@ fn pair_turn(
     answer: &mut Answer,
 ) -> Result<(), Fault> {
     match words.word()? {
-        "old" => disk_turn(alloc, &mut pair.old, words, answer),
-        "new" => disk_turn(alloc, &mut pair.new, words, answer),
+        "old" => on_disk_turn(alloc, &mut pair.old, words, answer),
+        "new" => on_disk_turn(alloc, &mut pair.new, words, answer),
         keyword => both_turn(alloc, pair, keyword, limits_of(words)?, answer),
     }
 }
@@ -69,55 +65,14 @@ fn both_turn(
     Ok(())
 }
 
-// A command of one disk.
-fn disk_turn(
-    alloc: Global,
-    disk: &mut Watched,
-    mut words: Words<'_>,
-    answer: &mut Answer,
-) -> Result<(), Fault> {
-    match words.word()? {
-        "fail" => fail_line(alloc, disk, words, answer),
-        keyword => on_disk_turn(alloc, disk, keyword, words, answer),
-    }
-}
-
-// `fail N M`: it is an empty disk of which the calls N to N + M - 1 fail.
-fn fail_line(
-    alloc: Global,
-    disk: &mut Watched,
-    mut words: Words<'_>,
-    answer: &mut Answer,
-) -> Result<(), Fault> {
-    let (first, count) = words.two_numbers()?;
-    *disk = new_disk(alloc, first, count)?;
-    answer.word("ok");
-    Ok(())
-}
-
 fn add_moved(outcome: Result<Moved, MoveWhy>, answer: &mut Answer) {
     match outcome {
         Ok(Moved::Already) => answer.word("already"),
-        Ok(Moved::Copied(records)) => {
-            answer.word("copied");
-            answer.number(records);
-        }
-        Err(why) => add_not_moved(why, answer),
-    }
-}
-
-fn add_not_moved(why: MoveWhy, answer: &mut Answer) {
-    match why {
-        MoveWhy::Old(place) => {
-            answer.word("old");
-            answer.number(place);
-        }
-        MoveWhy::Full(records) => {
-            answer.word("full");
-            answer.number(records);
-        }
-        MoveWhy::Fault => answer.word("fault"),
-        MoveWhy::OutOfMemory => answer.word("out of memory"),
+        Ok(Moved::Copied(records)) => add_counted("copied", records, answer),
+        Err(MoveWhy::Old(place)) => add_counted("old", place, answer),
+        Err(MoveWhy::Full(records)) => add_counted("full", records, answer),
+        Err(MoveWhy::Fault) => answer.word("fault"),
+        Err(MoveWhy::OutOfMemory) => answer.word("out of memory"),
     }
 }
 
@@ -131,7 +86,7 @@ fn add_left(
 ) -> Result<(), AllocError>
     requires { AreLimits limits }
 {
-    for image in &pair.new.noted {
+    for image in &pair.new.notes.noted {
         add_moved_to(alloc, &pair.old.disk, image, limits, answer)?;
     }
     Ok(())
@@ -150,7 +105,7 @@ fn add_moved_to(
     let mut old = old.image(1)?;
     let mut new = new.image(0)?;
     add_moved(migrate(alloc, &mut old, &mut new, limits), answer);
-    add_log_of(alloc, new, answer);
+    add_log_of(alloc, Watched::new(alloc, new), answer);
     Ok(())
 }
 
@@ -164,9 +119,35 @@ fn add_same(
     requires { AreLimits limits }
 {
     let one = opened(alloc, &pair.old.disk, limits)?;
-    let other = opened(alloc, &pair.new.disk, limits)?;
-    add_same_heads(&one, &other, answer);
+    let told = add_same_as(alloc, &one, &pair.new.disk, limits, answer);
+    drop(one);
+    told
+}
+
+fn add_same_as(
+    alloc: Global,
+    one: &Option<Journal<MemDisk>>,
+    disk: &MemDisk,
+    limits: Limits,
+    answer: &mut Answer,
+) -> Result<(), AllocError>
+    requires { AreLimits limits }
+{
+    let other = opened(alloc, disk, limits)?;
+    add_same_heads(one, &other, answer);
+    drop(other);
     Ok(())
+}
+
+fn add_same_heads(
+    one: &Option<Journal<MemDisk>>,
+    other: &Option<Journal<MemDisk>>,
+    answer: &mut Answer,
+) {
+    match (one, other) {
+        (Some(one), Some(other)) => answer.yes(same_heads(one, other)),
+        _ => answer.word("not opened"),
+    }
 }
 
 // The journal on a disk, if it is opened.
@@ -179,15 +160,4 @@ fn opened(
 {
     let disk = disk.image(1)?;
     Ok(Journal::open(alloc, disk, limits).ok())
-}
-
-fn add_same_heads(
-    one: &Option<Journal<MemDisk>>,
-    other: &Option<Journal<MemDisk>>,
-    answer: &mut Answer,
-) {
-    match (one, other) {
-        (Some(one), Some(other)) => answer.yes(same_heads(one, other)),
-        _ => answer.word("not opened"),
-    }
 }

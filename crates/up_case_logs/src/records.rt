@@ -5,6 +5,7 @@ mod taken;
 mod written;
 
 use std::alloc::Global;
+pub use taken::add_record_of;
 use up_bytes::Bytes;
 use up_case_lines::{Answer, Fault, Topic, Words, user_of};
 use up_entry::Entry;
@@ -35,7 +36,7 @@ impl Topic for Records {
         let mut words = Words::new(line);
         let keyword = words.word()?;
         if keyword == "user" {
-            self.session = Some(user_line(alloc, words)?);
+            drop(self.session.replace(user_line(alloc, words)?));
             return Ok(());
         }
         match &mut self.session {

@@ -1,6 +1,8 @@
 //! Sources and sinks, in memory and over the readers and writers of std: read to their ends and written whole; and a clock,
 //! nonces and a verifier in memory. A line stands alone.
+use crate::lists::{Part, list_of};
 use std::alloc::{AllocError, Global};
+use up_bytes::Bytes;
 use up_case_lines::{Answer, Fault, Topic, Words, byte_of, bytes_of, number_of};
 use up_ends::{
     Clock, END_OF_MOMENTS, Failed, FixedClock, FixedVerifier, ListNonces, MemSink, MemSource,
@@ -17,9 +19,9 @@ impl Topic for Ends {
         let mut words = Words::new(line);
         match words.word()? {
             "reads" => reads_line(alloc, words, answer),
-            "writes" => writes_line(alloc, words, answer),
+            "writes" => writes_line(alloc, words, answer, false),
             "all" => all_line(alloc, words, answer),
-            "whole" => whole_line(alloc, words, answer),
+            "whole" => writes_line(alloc, words, answer, true),
             "copy" => copy_line(alloc, words, answer),
             "clock" => clock_line(words, answer),
             "nonces" => nonces_line(alloc, words, answer),
@@ -29,30 +31,22 @@ impl Topic for Ends {
     }
 }
 
-// The numbers that a word is, joined by commas; `-` for none.
-fn numbers_of(alloc: Global, word: &str) -> Result<Items<u64>, Fault> {
-    let mut numbers = Items::new(alloc);
-    if word == "-" {
-        return Ok(numbers);
-    }
-    for digits in word.split(',') {
-        numbers.push(number_of(digits)?)?;
-    }
-    Ok(numbers)
-}
-
 // `TEXT PIECES FAILS`: a source in memory of this text, that gives it in these pieces, and fails in these calls, from 0.
 fn source_of(alloc: Global, mut words: Words<'_>) -> Result<MemSource, Fault> {
     let (text, pieces, fails) = words.three()?;
-    let text = bytes_of(alloc, text)?.into_vec();
-    let pieces = numbers_of(alloc, pieces)?;
-    let fails = numbers_of(alloc, fails)?;
-    Ok(MemSource::new(text, pieces, fails))
+    let text = bytes_of(alloc, text)?;
+    told_source(alloc, text, pieces, fails)
+}
+
+fn told_source(alloc: Global, text: Bytes, pieces: &str, fails: &str) -> Result<MemSource, Fault> {
+    let pieces = list_of(alloc, pieces)?;
+    let fails = list_of(alloc, fails)?;
+    Ok(MemSource::new(text.into_vec(), pieces, fails))
 }
 
 // `reads SIZES TEXT PIECES FAILS`: what reads into buffers of these sizes give of a source in memory.
 fn reads_line(alloc: Global, mut words: Words<'_>, answer: &mut Answer) -> Result<(), Fault> {
-    let sizes = numbers_of(alloc, words.word()?)?;
+    let sizes: Items<u64> = list_of(alloc, words.word()?)?;
     let mut source = source_of(alloc, words)?;
     for size in sizes.as_slice() {
         add_read(alloc, &mut source, *size, answer)?;
@@ -79,31 +73,32 @@ fn all_line(alloc: Global, mut words: Words<'_>, answer: &mut Answer) -> Result<
     let limit = words.number()?;
     let mut source = source_of(alloc, words)?;
     match read_all(alloc, &mut source, limit) {
-        Ok(text) => answer.coded(&text),
-        Err(ReadFault::TooLong) => answer.word("too long"),
-        Err(ReadFault::Failed) => answer.word("fault"),
-        Err(ReadFault::OutOfMemory) => return Err(Fault::OutOfMemory),
+        Ok(text) => {
+            answer.coded(&text);
+            Ok(())
+        }
+        Err(fault) => add_fault(fault, answer),
+    }
+}
+
+fn add_fault(fault: ReadFault, answer: &mut Answer) -> Result<(), Fault> {
+    match fault {
+        ReadFault::TooLong => answer.word("too long"),
+        ReadFault::Failed => answer.word("fault"),
+        ReadFault::OutOfMemory => return Err(Fault::OutOfMemory),
     }
     Ok(())
 }
 
 // `writes FAILS PIECES`: what a sink in memory, of which these calls fail, answers to each piece, and last what it holds.
-fn writes_line(alloc: Global, words: Words<'_>, answer: &mut Answer) -> Result<(), Fault> {
-    with_sink(alloc, words, answer, false)
-}
-
 // `whole FAILS PIECES`: the same where each piece is written whole.
-fn whole_line(alloc: Global, words: Words<'_>, answer: &mut Answer) -> Result<(), Fault> {
-    with_sink(alloc, words, answer, true)
-}
-
-fn with_sink(
+fn writes_line(
     alloc: Global,
     mut words: Words<'_>,
     answer: &mut Answer,
     is_whole: bool,
 ) -> Result<(), Fault> {
-    let mut sink = MemSink::new(alloc, numbers_of(alloc, words.word()?)?);
+    let mut sink = MemSink::new(alloc, list_of(alloc, words.word()?)?);
     for piece in words.some()?.split(' ') {
         let piece = bytes_of(alloc, piece)?;
         add_write(&mut sink, piece.as_slice(), is_whole, answer);
@@ -115,7 +110,7 @@ fn with_sink(
 
 fn add_write(sink: &mut MemSink, piece: &[u8], is_whole: bool, answer: &mut Answer) {
     let written = if is_whole {
-        write_all(sink, piece).map(|()| piece.len())
+        write_whole(sink, piece)
     } else {
         sink.write(piece)
     };
@@ -123,6 +118,12 @@ fn add_write(sink: &mut MemSink, piece: &[u8], is_whole: bool, answer: &mut Answ
         Ok(count) => answer.number(count as u64),
         Err(Failed) => answer.word("fault"),
     }
+}
+
+// Writes the whole piece, and says how long it is.
+fn write_whole(sink: &mut MemSink, piece: &[u8]) -> Result<usize, Failed> {
+    write_all(sink, piece)?;
+    Ok(piece.len())
 }
 
 // `copy TEXT TEXT`: two texts, each read to its end from a reader of std and written whole to one writer: what that holds.
@@ -137,9 +138,18 @@ fn copy_line(alloc: Global, mut words: Words<'_>, answer: &mut Answer) -> Result
 
 fn copy_text(alloc: Global, text: &[u8], copy: &mut Vec<u8>) -> Result<(), Fault> {
     let mut source = StdSource::new(text);
-    let read = read_all(alloc, &mut source, 1_000).map_err(|_| Fault::BadLine)?;
+    match read_all(alloc, &mut source, 1_000) {
+        Ok(read) => write_copy(&read, copy),
+        Err(_) => Err(Fault::BadLine),
+    }
+}
+
+fn write_copy(text: &[u8], copy: &mut Vec<u8>) -> Result<(), Fault> {
     let mut sink = StdSink::new(copy);
-    write_all(&mut sink, &read).map_err(|_| Fault::BadLine)
+    match write_all(&mut sink, text) {
+        Ok(()) => Ok(()),
+        Err(Failed) => Err(Fault::BadLine),
+    }
 }
 
 // `clock MOMENT N`: what a clock in memory answers N times.
@@ -157,7 +167,7 @@ fn clock_line(mut words: Words<'_>, answer: &mut Answer) -> Result<(), Fault> {
 
 // `nonces LIST N`: the first and the last byte of each of N nonces, of which the first ones are told: each is 32 times a byte.
 fn nonces_line(alloc: Global, mut words: Words<'_>, answer: &mut Answer) -> Result<(), Fault> {
-    let first = nonces_of(alloc, words.word()?)?;
+    let first = list_of(alloc, words.word()?)?;
     let count = words.last_number()?;
     let mut nonces = ListNonces::new(first);
     for _ in 0..count {
@@ -168,15 +178,11 @@ fn nonces_line(alloc: Global, mut words: Words<'_>, answer: &mut Answer) -> Resu
     Ok(())
 }
 
-fn nonces_of(alloc: Global, word: &str) -> Result<Items<[u8; 32]>, Fault> {
-    let mut nonces = Items::new(alloc);
-    if word == "-" {
-        return Ok(nonces);
+// A nonce is told by its byte.
+impl Part for [u8; 32] {
+    fn of_part(_alloc: Global, part: &str) -> Result<[u8; 32], Fault> {
+        Ok([byte_of(part)?; 32])
     }
-    for digits in word.split(',') {
-        nonces.push([byte_of(digits)?; 32])?;
-    }
-    Ok(nonces)
 }
 
 // `verdicts LIST AFTER N`: what a verifier in memory answers to N questions, and last how many it has judged, and its word for
@@ -185,7 +191,7 @@ fn verdicts_line(alloc: Global, mut words: Words<'_>, answer: &mut Answer) -> Re
     let (first, after, count) = words.three()?;
     let count = number_of(count)?;
     let after = verdict_of(after)?;
-    let first = verdicts_of(alloc, first)?;
+    let first = list_of(alloc, first)?;
     let mut verifier = FixedVerifier::new(alloc, first, after);
     for n in 0..count {
         add_verdict(
@@ -197,18 +203,14 @@ fn verdicts_line(alloc: Global, mut words: Words<'_>, answer: &mut Answer) -> Re
     Ok(())
 }
 
-fn verdicts_of(alloc: Global, word: &str) -> Result<Items<Option<Verdict>>, Fault> {
-    let mut verdicts = Items::new(alloc);
-    if word == "-" {
-        return Ok(verdicts);
+impl Part for Option<Verdict> {
+    fn of_part(_alloc: Global, part: &str) -> Result<Option<Verdict>, Fault> {
+        verdict_of(part)
     }
-    for verdict in word.split(',') {
-        verdicts.push(verdict_of(verdict)?)?;
-    }
-    Ok(verdicts)
 }
 
-fn verdict_of(word: &str) -> Result<Option<Verdict>, Fault> {
+/// A verdict, or `None` for a verifier that fails.
+pub fn verdict_of(word: &str) -> Result<Option<Verdict>, Fault> {
     match word {
         "yes" => Ok(Some(Verdict::Yes)),
         "no" => Ok(Some(Verdict::No)),

@@ -89,11 +89,17 @@ fn take_step(
 fn add_fed(outcome: Result<(), FrameFault>, answer: &mut Answer) {
     match outcome {
         Ok(()) => answer.word("ok"),
-        Err(FrameFault::BadFrame(place)) => {
+        Err(fault) => add_fault(fault, answer),
+    }
+}
+
+fn add_fault(fault: FrameFault, answer: &mut Answer) {
+    match fault {
+        FrameFault::BadFrame(place) => {
             answer.word("bad");
             answer.number(place);
         }
-        Err(FrameFault::OutOfMemory) => answer.word("out of memory"),
+        FrameFault::OutOfMemory => answer.word("out of memory"),
     }
 }
 
@@ -149,8 +155,8 @@ fn of_bytes(alloc: Global, limit: u64, bytes: &[u8]) -> Result<String, AllocErro
 
 // A piece that is not taken.
 fn note(outcome: Result<(), FrameFault>, answer: &mut Answer) {
-    if outcome.is_err() {
-        add_fed(outcome, answer);
+    if let Err(fault) = outcome {
+        add_fault(fault, answer);
     }
 }
 

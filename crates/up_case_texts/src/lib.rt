@@ -5,6 +5,7 @@
 
 mod ends;
 mod frames;
+mod lists;
 mod messages;
 mod names;
 mod patterns;

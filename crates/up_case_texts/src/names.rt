@@ -3,7 +3,7 @@ use std::alloc::{AllocError, Global};
 use up_case_lines::{
     Answer, Fault, Topic, Words, add_item, number_of, path_of, string_of, text_of, user_of,
 };
-use up_names::{Item, NameFault, Path, parse_item, parse_path, parse_user};
+use up_names::{Item, NameFault, Path, User, parse_item, parse_path, parse_user};
 
 /// Lines about names. They keep nothing.
 #[derive(Clone, Copy)]
@@ -13,14 +13,14 @@ impl Topic for Names {
     fn turn(&mut self, alloc: Global, line: &str, answer: &mut Answer) -> Result<(), Fault> {
         let mut words = Words::new(line);
         match words.word()? {
-            "user" => user_line(alloc, words.one()?, answer),
-            "parts" => parts_line(alloc, words.one()?, answer),
-            "root" => root_line(alloc, words.one()?, answer),
+            "user" => user_line(alloc, words, answer),
+            "parts" => parts_line(alloc, words, answer),
+            "root" => root_line(alloc, words, answer),
             "reuse" => reuse_line(alloc, words, answer),
-            "path" => path_line(alloc, words.one()?, answer),
+            "path" => path_line(alloc, words, answer),
             "again" => again_line(alloc, words, answer),
             "long" => long_line(alloc, words, answer),
-            "above" => above_line(alloc, words.one()?, answer),
+            "above" => above_line(alloc, words, answer),
             "join" => join_line(alloc, words, answer),
             "joins" => joins_line(alloc, words, answer),
             "compare" => compare_line(alloc, words, answer),
@@ -31,8 +31,8 @@ impl Topic for Names {
 }
 
 // `user TEXT`: the canonical name of the user, or the fault.
-fn user_line(alloc: Global, word: &str, answer: &mut Answer) -> Result<(), Fault> {
-    let text = text_of(alloc, word)?;
+fn user_line(alloc: Global, mut words: Words<'_>, answer: &mut Answer) -> Result<(), Fault> {
+    let text = text_of(alloc, words.one()?)?;
     match parse_user(alloc, text.as_slice()) {
         Ok(user) => answer.coded(user.text().as_bytes()),
         Err(fault) => add_fault(fault, answer),
@@ -41,18 +41,24 @@ fn user_line(alloc: Global, word: &str, answer: &mut Answer) -> Result<(), Fault
 }
 
 // `parts USER`: the base user, the domain, and the suffix where there is one.
-fn parts_line(alloc: Global, word: &str, answer: &mut Answer) -> Result<(), Fault> {
-    let user = user_of(alloc, word)?;
-    let base = user.base()?;
-    answer.coded(base.text().as_bytes());
+fn parts_line(alloc: Global, mut words: Words<'_>, answer: &mut Answer) -> Result<(), Fault> {
+    let user = user_of(alloc, words.one()?)?;
+    add_base(&user, answer)?;
     answer.coded(user.domain().as_bytes());
     answer.coded(user.suffix().unwrap_or("").as_bytes());
     Ok(())
 }
 
+fn add_base(user: &User, answer: &mut Answer) -> Result<(), AllocError> {
+    let base = user.base()?;
+    answer.coded(base.text().as_bytes());
+    Ok(())
+}
+
 // `root USER`: the root of the user's tree.
-fn root_line(alloc: Global, word: &str, answer: &mut Answer) -> Result<(), Fault> {
-    let root = Path::root(user_of(alloc, word)?)?;
+fn root_line(alloc: Global, mut words: Words<'_>, answer: &mut Answer) -> Result<(), Fault> {
+    let user = user_of(alloc, words.one()?)?;
+    let root = Path::root(user)?;
     answer.coded(root.as_str().as_bytes());
     Ok(())
 }
@@ -62,9 +68,7 @@ fn reuse_line(alloc: Global, mut words: Words<'_>, answer: &mut Answer) -> Resul
     let (user, text) = words.two()?;
     let text = text_of(alloc, text)?;
     let mut user = user_of(alloc, user)?;
-    if let Err(fault) = user.read(text.as_slice()) {
-        add_fault(fault, answer);
-    }
+    note(user.read(text.as_slice()), answer);
     answer.coded(user.text().as_bytes());
     Ok(())
 }
@@ -74,16 +78,14 @@ fn again_line(alloc: Global, mut words: Words<'_>, answer: &mut Answer) -> Resul
     let (path, text) = words.two()?;
     let text = text_of(alloc, text)?;
     let mut path = path_of(alloc, path)?;
-    if let Err(fault) = path.read(text.as_slice()) {
-        add_fault(fault, answer);
-    }
+    note(path.read(text.as_slice()), answer);
     answer.coded(path.as_str().as_bytes());
     Ok(())
 }
 
 // `path TEXT`: the canonical text of the path, or the fault.
-fn path_line(alloc: Global, word: &str, answer: &mut Answer) -> Result<(), Fault> {
-    let text = text_of(alloc, word)?;
+fn path_line(alloc: Global, mut words: Words<'_>, answer: &mut Answer) -> Result<(), Fault> {
+    let text = text_of(alloc, words.one()?)?;
     add_path(parse_path(alloc, text.as_slice()), answer);
     Ok(())
 }
@@ -92,6 +94,13 @@ fn add_path(path: Result<Path, NameFault>, answer: &mut Answer) {
     match path {
         Ok(path) => answer.coded(path.as_str().as_bytes()),
         Err(fault) => add_fault(fault, answer),
+    }
+}
+
+// The fault, where there is one.
+fn note(outcome: Result<(), NameFault>, answer: &mut Answer) {
+    if let Err(fault) = outcome {
+        add_fault(fault, answer);
     }
 }
 
@@ -137,13 +146,17 @@ pub fn repeated(alloc: Global, text: &str, count: u64, piece: &str) -> Result<St
 }
 
 // `above PATH`: the path one element shorter, or `none`.
-fn above_line(alloc: Global, word: &str, answer: &mut Answer) -> Result<(), Fault> {
-    let path = path_of(alloc, word)?;
-    match path.parent()? {
+fn above_line(alloc: Global, mut words: Words<'_>, answer: &mut Answer) -> Result<(), Fault> {
+    let path = path_of(alloc, words.one()?)?;
+    add_above(&path.parent()?, answer);
+    Ok(())
+}
+
+fn add_above(above: &Option<Path>, answer: &mut Answer) {
+    match above {
         Some(above) => answer.coded(above.as_str().as_bytes()),
         None => answer.word("none"),
     }
-    Ok(())
 }
 
 // `join PATH TEXT`: the path with this element behind it, or the fault.

@@ -1,4 +1,5 @@
 //! Peers: what is loaded and fetched of a list of them, and what those in memory keep. A line stands alone.
+use crate::lists::{Part, list_of, parts_of};
 use std::alloc::Global;
 use up_bytes::Bytes;
 use up_case_lines::{
@@ -12,7 +13,7 @@ use up_policy::LoadAnswer;
 use up_refs::Reference;
 
 /// Lines about peers. They keep nothing.
-#[derive(Clone, Copy, Debug)]
+#[derive(Clone, Copy)]
 pub struct PeerLines;
 
 impl Topic for PeerLines {
@@ -37,34 +38,20 @@ struct Told {
 }
 
 // `OWNERS/ADDRESS/ANSWERS`: owners joined by commas, and answers, or `refuses`.
-fn told_peer(alloc: Global, word: &str) -> Result<Told, Fault> {
-    let (owners, rest) = word.split_once('/').ok_or(Fault::BadLine)?;
-    let (address, answers) = rest.split_once('/').ok_or(Fault::BadLine)?;
-    told_by(alloc, owners, address, answers)
+impl Part for Told {
+    fn of_part(alloc: Global, part: &str) -> Result<Told, Fault> {
+        let (owners, rest) = part.split_once('/').ok_or(Fault::BadLine)?;
+        let (address, answers) = rest.split_once('/').ok_or(Fault::BadLine)?;
+        told_by(alloc, owners, address, answers)
+    }
 }
 
 fn told_by(alloc: Global, owners: &str, address: &str, answers: &str) -> Result<Told, Fault> {
     Ok(Told {
-        owners: users_of(alloc, owners)?,
+        owners: list_of(alloc, owners)?,
         address: bytes_of(alloc, address)?,
         answers: told_answers(alloc, answers)?,
     })
-}
-
-fn users_of(alloc: Global, word: &str) -> Result<Items<User>, Fault> {
-    let mut users = Items::new(alloc);
-    if word == "-" {
-        return Ok(users);
-    }
-    for name in word.split(',') {
-        add_user(alloc, &mut users, name)?;
-    }
-    Ok(users)
-}
-
-fn add_user(alloc: Global, users: &mut Items<User>, name: &str) -> Result<(), Fault> {
-    users.push(user_of(alloc, name)?)?;
-    Ok(())
 }
 
 fn told_answers(alloc: Global, word: &str) -> Result<Option<Items<PeerAnswer>>, Fault> {
@@ -74,19 +61,10 @@ fn told_answers(alloc: Global, word: &str) -> Result<Option<Items<PeerAnswer>>, 
     Ok(Some(list_of(alloc, word)?))
 }
 
-fn list_of(alloc: Global, word: &str) -> Result<Items<PeerAnswer>, Fault> {
-    let mut answers = Items::new(alloc);
-    if word != "-" {
-        for one in word.split(',') {
-            add_one(alloc, &mut answers, one)?;
-        }
+impl Part for PeerAnswer {
+    fn of_part(alloc: Global, part: &str) -> Result<PeerAnswer, Fault> {
+        told_answer(alloc, part)
     }
-    Ok(answers)
-}
-
-fn add_one(alloc: Global, answers: &mut Items<PeerAnswer>, word: &str) -> Result<(), Fault> {
-    answers.push(told_answer(alloc, word)?)?;
-    Ok(())
 }
 
 // `=TEXT`, `nothing` or `failed`.
@@ -104,21 +82,8 @@ fn told_answer(alloc: Global, word: &str) -> Result<PeerAnswer, Fault> {
 // `peers PEER .. : QUESTION; ..`: what a list of peers gives to each question, and the sum of the counts as it is closed.
 fn peers_line(alloc: Global, words: Words<'_>, answer: &mut Answer) -> Result<(), Fault> {
     let (told, questions) = words.some()?.split_once(" : ").ok_or(Fault::BadLine)?;
-    let told = told_peers(alloc, told)?;
-    ask_peers(alloc, told, questions, answer)
-}
-
-fn told_peers(alloc: Global, words: &str) -> Result<Vec<Told>, Fault> {
-    let mut told = Vec::new(alloc);
-    for word in words.split(' ') {
-        add_told(alloc, &mut told, word)?;
-    }
-    Ok(told)
-}
-
-fn add_told(alloc: Global, told: &mut Vec<Told>, word: &str) -> Result<(), Fault> {
-    told.push(told_peer(alloc, word)?)?;
-    Ok(())
+    let told = parts_of::<Told>(alloc, told, ' ')?;
+    ask_peers(alloc, told.into_vec(), questions, answer)
 }
 
 // Makes the list of peers and asks it. The boxes are made here, where the list ends too.

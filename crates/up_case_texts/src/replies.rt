@@ -1,9 +1,9 @@
 //! The lines that tell a reply. A line stands alone.
 use std::alloc::{AllocError, Global};
-use up_bytes::Bytes;
+use up_bytes::{Bytes, FieldFault};
 use up_case_lines::{Answer, Fault, Topic, Words, bytes_of_digits};
 use up_text::reply_lines;
-use up_wire::{ServerFrame, read_server};
+use up_wire::{Reply, ServerFrame, read_server};
 
 /// Lines about the lines of replies. They keep nothing.
 #[derive(Clone, Copy)]
@@ -23,17 +23,25 @@ impl Topic for Replies {
 // In a line each byte that is no printing character is coded, and so is `%`.
 fn tell_line(alloc: Global, digits: &str, answer: &mut Answer) -> Result<(), Fault> {
     let bytes = bytes_of_digits(alloc, digits)?;
-    match read_server(alloc, bytes.as_slice()) {
-        Ok(frame) => Ok(add_frame(alloc, &frame, answer)?),
+    let read = read_server(alloc, bytes.as_slice());
+    add_told(alloc, &read, answer)
+}
+
+fn add_told(
+    alloc: Global,
+    read: &Result<ServerFrame, FieldFault>,
+    answer: &mut Answer,
+) -> Result<(), Fault> {
+    match read {
+        Ok(ServerFrame::Answer(given)) => Ok(add_reply(alloc, given, answer)?),
+        Ok(_) => Ok(()),
         Err(_) => Err(Fault::BadLine),
     }
 }
 
-fn add_frame(alloc: Global, frame: &ServerFrame, answer: &mut Answer) -> Result<(), AllocError> {
-    if let ServerFrame::Answer(given) = frame {
-        let lines = reply_lines(alloc, given)?;
-        add_lines(lines.as_slice(), answer);
-    }
+fn add_reply(alloc: Global, given: &Reply, answer: &mut Answer) -> Result<(), AllocError> {
+    let lines = reply_lines(alloc, given)?;
+    add_lines(lines.as_slice(), answer);
     Ok(())
 }
 

@@ -1,4 +1,5 @@
 //! Lines of a script that ask something of a session. A line stands alone.
+use crate::lists::parts_of;
 use crate::messages::add_request;
 use std::alloc::{AllocError, Global};
 use up_bytes::Bytes;
@@ -6,6 +7,7 @@ use up_case_lines::{Answer, Fault, Topic, Words, user_of};
 use up_lists::Items;
 use up_names::User;
 use up_text::{ClientLine, is_request, read_client_line, read_request};
+use up_wire::Request;
 
 /// Lines about the lines of a script. They keep nothing.
 #[derive(Clone, Copy)]
@@ -30,20 +32,11 @@ fn ask_line(alloc: Global, mut words: Words<'_>, answer: &mut Answer) -> Result<
 }
 
 // The words of a line, each as it stands.
-fn words_of(alloc: Global, rest: Option<&str>) -> Result<Vec<Bytes>, AllocError> {
-    let mut words = Vec::new(alloc);
-    if let Some(rest) = rest {
-        for word in rest.split(' ') {
-            push_word(alloc, &mut words, word)?;
-        }
+fn words_of(alloc: Global, rest: Option<&str>) -> Result<Items<Bytes>, Fault> {
+    match rest {
+        Some(rest) => parts_of(alloc, rest, ' '),
+        None => Ok(Items::new(alloc)),
     }
-    Ok(words)
-}
-
-fn push_word(alloc: Global, words: &mut Vec<Bytes>, word: &str) -> Result<(), AllocError> {
-    let bytes = Vec::from_slice(alloc, word.as_bytes())?;
-    words.push(Items::from_vec(bytes))?;
-    Ok(())
 }
 
 fn add_asked(
@@ -52,8 +45,18 @@ fn add_asked(
     words: &[Bytes],
     answer: &mut Answer,
 ) -> Result<(), Fault> {
-    match read_request(alloc, words, user)? {
-        Some(asked) => add_request(alloc, &asked, answer),
+    let asked = read_request(alloc, words, user)?;
+    add_meant(alloc, &asked, words, answer)
+}
+
+fn add_meant(
+    alloc: Global,
+    asked: &Option<Request>,
+    words: &[Bytes],
+    answer: &mut Answer,
+) -> Result<(), Fault> {
+    match asked {
+        Some(asked) => add_request(alloc, asked, answer),
         None => add_client_line(alloc, words, answer)?,
     }
     if !is_request(words) {
@@ -63,8 +66,9 @@ fn add_asked(
 }
 
 fn add_client_line(alloc: Global, words: &[Bytes], answer: &mut Answer) -> Result<(), AllocError> {
-    if let Some(line) = read_client_line(alloc, words)? {
-        add_client(&line, answer);
+    let line = read_client_line(alloc, words)?;
+    if let Some(line) = &line {
+        add_client(line, answer);
     }
     Ok(())
 }

@@ -1,13 +1,14 @@
 //! Sign-on: the message of a challenge, and what comes of a signature. A line stands alone.
+use crate::ends::verdict_of;
 use std::alloc::Global;
 use up_case_lines::{Answer, Fault, Topic, Words, bytes_of, bytes_of_digits, text_of, user_of};
-use up_ends::{FixedVerifier, Verdict};
+use up_ends::FixedVerifier;
 use up_lists::Items;
 use up_sign::{SignFault, SignOn};
 use up_wire::KeyRecord;
 
 /// Lines about sign-on. They keep nothing.
-#[derive(Clone, Copy, Debug)]
+#[derive(Clone, Copy)]
 pub struct Signing;
 
 impl Topic for Signing {
@@ -91,15 +92,6 @@ fn prove(
     }
     add_judged(&verifier, answer);
     Ok(())
-}
-
-fn verdict_of(word: &str) -> Result<Option<Verdict>, Fault> {
-    match word {
-        "yes" => Ok(Some(Verdict::Yes)),
-        "no" => Ok(Some(Verdict::No)),
-        "fault" => Ok(None),
-        _ => Err(Fault::BadLine),
-    }
 }
 
 fn add_judged(verifier: &FixedVerifier, answer: &mut Answer) {

@@ -4,7 +4,7 @@ use std::alloc::Global;
 use up_access::{AccessText, parse_access, print_access};
 use up_case_lines::{Answer, Fault, Topic, Words, add_item, add_members, text_of, user_of};
 use up_group::{GroupText, parse_group};
-use up_names::TextFault;
+use up_names::{TextFault, User};
 
 /// Lines about texts. They keep nothing.
 #[derive(Clone, Copy)]
@@ -13,22 +13,34 @@ pub struct Texts;
 impl Topic for Texts {
     fn turn(&mut self, alloc: Global, line: &str, answer: &mut Answer) -> Result<(), Fault> {
         let mut words = Words::new(line);
-        match words.word()? {
-            "access" => access_line(alloc, words, answer),
-            "rules" => rules_line(alloc, words, answer),
-            "group" => group_line(alloc, words, answer),
-            _ => Err(Fault::BadLine),
-        }
+        let keyword = words.word()?;
+        let (owner, text) = words.two()?;
+        let owner = user_of(alloc, owner)?;
+        text_line(alloc, keyword, &owner, text, answer)
+    }
+}
+
+// A line about a text of this owner.
+fn text_line(
+    alloc: Global,
+    keyword: &str,
+    owner: &User,
+    text: &str,
+    answer: &mut Answer,
+) -> Result<(), Fault> {
+    let text = text_of(alloc, text)?;
+    match keyword {
+        "access" => access_line(alloc, owner, text.as_slice(), answer),
+        "rules" => rules_line(owner, text.as_slice(), answer),
+        "group" => group_line(owner, text.as_slice(), answer),
+        _ => Err(Fault::BadLine),
     }
 }
 
 // `access OWNER TEXT`: the text as it is printed, or the number of the first bad line. A word `differ` follows where the
 // printed text, read as another owner's, is not the same.
-fn access_line(alloc: Global, mut words: Words<'_>, answer: &mut Answer) -> Result<(), Fault> {
-    let (owner, text) = words.two()?;
-    let owner = user_of(alloc, owner)?;
-    let text = text_of(alloc, text)?;
-    match parse_access(&owner, text.as_slice()) {
+fn access_line(alloc: Global, owner: &User, text: &[u8], answer: &mut Answer) -> Result<(), Fault> {
+    match parse_access(owner, text) {
         Ok(access) => add_printed(alloc, &access, answer),
         Err(fault) => add_fault(fault, answer),
     }
@@ -58,11 +70,8 @@ fn add_fault(fault: TextFault, answer: &mut Answer) -> Result<(), Fault> {
 }
 
 // `rules OWNER TEXT`: how many rules the text has, and of each the rights and the number of its names.
-fn rules_line(alloc: Global, mut words: Words<'_>, answer: &mut Answer) -> Result<(), Fault> {
-    let (owner, text) = words.two()?;
-    let owner = user_of(alloc, owner)?;
-    let text = text_of(alloc, text)?;
-    let access = parse_access(&owner, text.as_slice())?;
+fn rules_line(owner: &User, text: &[u8], answer: &mut Answer) -> Result<(), Fault> {
+    let access = parse_access(owner, text)?;
     answer.number(access.len());
     for i in 0..access.len() {
         add_rule(&access, i, answer);
@@ -78,11 +87,8 @@ fn add_rule(access: &AccessText, i: u64, answer: &mut Answer) {
 }
 
 // `group OWNER TEXT`: how many names the text has, and whom each stands for; or the number of the first bad line.
-fn group_line(alloc: Global, mut words: Words<'_>, answer: &mut Answer) -> Result<(), Fault> {
-    let (owner, text) = words.two()?;
-    let owner = user_of(alloc, owner)?;
-    let text = text_of(alloc, text)?;
-    match parse_group(&owner, text.as_slice()) {
+fn group_line(owner: &User, text: &[u8], answer: &mut Answer) -> Result<(), Fault> {
+    match parse_group(owner, text) {
         Ok(group) => {
             add_members(&group, answer);
             Ok(())

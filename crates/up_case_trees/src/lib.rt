@@ -3,12 +3,9 @@
 //! This crate promises nothing: the program `up_cases` runs on it.
 #![tactic(auto)]
 
-mod globs;
-mod steps;
+mod asked;
+mod looked;
 mod tree;
-mod watches;
 
-pub use globs::Globs;
-pub use steps::Steps;
+pub use asked::Asked;
 pub use tree::Trees;
-pub use watches::Watches;

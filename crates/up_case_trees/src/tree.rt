@@ -5,8 +5,10 @@ mod disk;
 mod many;
 mod recs;
 
+pub use many::put_files;
 pub use recs::turn as record_turn;
 use std::alloc::Global;
+use std::mem;
 use up_case_lines::{Answer, Fault, Topic, Words};
 use up_disk::MemDisk;
 use up_lists::Items;
@@ -18,61 +20,63 @@ pub struct Trees;
 
 impl Topic for Trees {
     fn turn(&mut self, alloc: Global, line: &str, answer: &mut Answer) -> Result<(), Fault> {
-        let mut stage = Stage::Disk(MemDisk::new(alloc, Items::new(alloc)));
+        let mut stage = Stage {
+            disk: empty_disk(alloc),
+            tree: None,
+        };
+        let told = stage.turn_each(alloc, line, answer);
+        drop(stage);
+        told
+    }
+}
+
+fn empty_disk(alloc: Global) -> MemDisk {
+    MemDisk::new(alloc, Items::new(alloc))
+}
+
+/// A disk, or a tree over its log on it. After a line that does not fit it goes.
+#[derive(Drop)]
+struct Stage {
+    /// An empty one where the tree has the disk.
+    disk: MemDisk,
+    tree: Option<TreeState<MemDisk>>,
+}
+
+impl Stage {
+    fn turn_each(&mut self, alloc: Global, line: &str, answer: &mut Answer) -> Result<(), Fault> {
         for command in line.split("; ") {
             answer.part();
-            stage = stage_turn(alloc, stage, Words::new(command), answer)?;
+            self.turn(alloc, Words::new(command), answer)?;
         }
-        drop(stage);
         Ok(())
     }
-}
 
-/// A disk, or a tree over its log on it.
-#[derive(Drop)]
-enum Stage {
-    Disk(MemDisk),
-    Tree(TreeState<MemDisk>),
-}
-
-// Does one command. A command of a disk ends the tree that stands on it.
-fn stage_turn(
-    alloc: Global,
-    stage: Stage,
-    words: Words<'_>,
-    answer: &mut Answer,
-) -> Result<Stage, Fault> {
-    match stage {
-        Stage::Disk(disk) => disk::turn(alloc, disk, words, answer),
-        Stage::Tree(tree) => tree_turn(alloc, tree, words, answer),
-    }
-}
-
-fn tree_turn(
-    alloc: Global,
-    mut tree: TreeState<MemDisk>,
-    words: Words<'_>,
-    answer: &mut Answer,
-) -> Result<Stage, Fault> {
-    match done(alloc, &mut tree, words, answer) {
-        Ok(true) => Ok(Stage::Tree(tree)),
-        Ok(false) => disk::turn(alloc, tree.into_disk(), words, answer),
-        Err(fault) => {
-            drop(tree);
-            Err(fault)
+    // Does one command, of the disk or of the tree.
+    fn turn(
+        &mut self,
+        alloc: Global,
+        mut words: Words<'_>,
+        answer: &mut Answer,
+    ) -> Result<(), Fault> {
+        match words.word()? {
+            "open" => disk::open_line(alloc, self, words, answer),
+            "fail" => disk::fail_line(alloc, self.disk(), words, answer),
+            "crash" => disk::crash_line(self.disk(), words, answer),
+            "append" => disk::append_line(alloc, self.disk(), words, answer),
+            "trees" => disk::trees_line(alloc, self.disk(), words, answer),
+            "digest" => disk::digest_line(alloc, self.disk(), words, answer),
+            keyword => match &mut self.tree {
+                Some(tree) => asked::turn(alloc, tree, keyword, words, answer),
+                None => Err(Fault::BadLine),
+            },
         }
     }
-}
 
-// Does a command of a tree, or answers `false` where it is none.
-fn done(
-    alloc: Global,
-    tree: &mut TreeState<MemDisk>,
-    words: Words<'_>,
-    answer: &mut Answer,
-) -> Result<bool, Fault> {
-    if recs::turn(alloc, tree, words, answer)? || many::turn(alloc, tree, words, answer)? {
-        return Ok(true);
+    // The disk. A command of it ends the tree that stands on it.
+    fn disk(&mut self) -> &mut MemDisk {
+        if let Some(tree) = self.tree.take() {
+            drop(mem::replace(&mut self.disk, tree.into_disk()));
+        }
+        &mut self.disk
     }
-    asked::turn(alloc, tree, words, answer)
 }

@@ -12,7 +12,7 @@ use up_case_texts::{
     Ends, Messages, Names, Patterns, PeerLines, References, Replies, Requests, Rights, Signing,
     Streams, Texts,
 };
-use up_case_trees::{Globs, Steps, Trees, Watches};
+use up_case_trees::{Asked, Trees};
 use up_case_worlds::Worlds;
 
 /// Runs each file of a folder, in order of their names.
@@ -76,16 +76,16 @@ fn run_file<R: Files + RandomSource + AllocGlobal + Print>(
         "records" => run_lines(rt, file, Records::new(), tally),
         "scripts" => run_scripts(rt, file, Command::Can, RandomState::new(rt)?, tally),
         "sessions" => run_scripts(rt, file, Command::Script, RandomState::new(rt)?, tally),
-        "globs" => run_lines(rt, file, Globs::new(RandomState::new(rt)?), tally),
         "hosts" => run_lines(
             rt,
             file,
             Hosts::new(rt.alloc(), RandomState::new(rt)?),
             tally,
         ),
-        "steps" => run_lines(rt, file, Steps::new(RandomState::new(rt)?), tally),
+        "globs" | "steps" | "watches" => {
+            run_lines(rt, file, Asked::new(RandomState::new(rt)?), tally)
+        }
         "rights" => run_lines(rt, file, Rights::new(RandomState::new(rt)?), tally),
-        "watches" => run_lines(rt, file, Watches::new(RandomState::new(rt)?), tally),
         "worlds" => run_lines(rt, file, Worlds::new(RandomState::new(rt)?), tally),
         _ => {
             tally.fail();

@@ -1,12 +1,12 @@
 //! Commands of a journal.
 ghost use Rattle.std.specs.Prelude.{◌≡◌};
 
+use super::add_counted;
 use super::on_disk::add_outcome;
 use super::watched::Watched;
 use std::alloc::Global;
 use up_bytes::Bytes;
 use up_case_lines::{Answer, Fault, Words, bytes_of};
-use up_disk::{Disk, MemDisk};
 use up_journal::{AppendWhy, Journal, Limits, OpenWhy, ReadWhy};
 
 /// The limits with which images are opened.
@@ -33,28 +33,17 @@ pub fn turn(
 ) -> Result<bool, Fault> {
     match words.word()? {
         "append" => append_line(alloc, running, 1, words, answer)?,
-        "fill" => fill_line(alloc, running, words, answer)?,
-        "payload" => payload_line(running, words, answer)?,
+        "fill" => append_line(alloc, running, words.number()?, words, answer)?,
+        "payload" => payload_line(running, words.last_number()?, answer),
         "resolve" => add_outcome(running.journal.resolve(), answer),
-        "log" => add_log(&mut running.journal, answer),
+        "log" => running.add_log(answer),
         "head" => answer.digits(running.journal.head().bytes()),
         _ => return Ok(false),
     }
     Ok(true)
 }
 
-// `fill N BYTES`: appends these bytes so many times, and answers for the last time.
-fn fill_line(
-    alloc: Global,
-    running: &mut Running,
-    mut words: Words<'_>,
-    answer: &mut Answer,
-) -> Result<(), Fault> {
-    let count = words.number()?;
-    append_line(alloc, running, count, words, answer)
-}
-
-// `append BYTES`, done so many times.
+// `append BYTES`, and `fill N BYTES`, which appends these bytes so many times and answers for the last time.
 fn append_line(
     alloc: Global,
     running: &mut Running,
@@ -65,6 +54,12 @@ fn append_line(
     let payload = bytes_of(alloc, words.one()?)?;
     running.fill(count, payload.as_slice(), answer);
     Ok(())
+}
+
+// `payload N`: the payload of record N.
+fn payload_line(running: &mut Running, n: u64, answer: &mut Answer) {
+    answer.begin();
+    running.add_payload(n, answer);
 }
 
 impl Running {
@@ -87,18 +82,52 @@ impl Running {
         }
         Some(self.journal.append(payload))
     }
+
+    /// The payload of record `n`, or `None` where there is none.
+    pub fn payload(&mut self, n: u64) -> Option<Result<Bytes, ReadWhy>> {
+        if n == 0 || n > self.journal.len() {
+            return None;
+        }
+        Some(self.journal.payload(n))
+    }
+
+    // The number of records, the bytes of the log, and the payloads.
+    fn add_log(&mut self, answer: &mut Answer) {
+        add_counted("records", self.journal.len(), answer);
+        answer.push(",");
+        add_counted("bytes", self.journal.bytes(), answer);
+        answer.push(":");
+        self.add_payloads(answer);
+    }
+
+    // A word of all payloads, in order.
+    fn add_payloads(&mut self, answer: &mut Answer) {
+        answer.begin();
+        if self.journal.is_empty() {
+            answer.push("empty");
+        }
+        for n in 0..self.journal.len() {
+            answer.push(if n == 0 { "" } else { "," });
+            self.add_payload(n.saturating_add(1), answer);
+        }
+    }
+
+    // The payload of record `n`.
+    fn add_payload(&mut self, n: u64, answer: &mut Answer) {
+        match self.payload(n) {
+            Some(Ok(bytes)) => answer.field(bytes.as_slice()),
+            Some(Err(ReadWhy::Fault)) => answer.push("fault"),
+            Some(Err(ReadWhy::OutOfMemory)) => answer.push("out of memory"),
+            None => answer.push("none"),
+        }
+    }
 }
 
+/// Adds what came of an append.
 pub fn add_appended(outcome: Result<u64, AppendWhy>, answer: &mut Answer) {
     match outcome {
-        Ok(position) => {
-            answer.word("ok");
-            answer.number(position);
-        }
-        Err(AppendWhy::Full(records)) => {
-            answer.word("full");
-            answer.number(records);
-        }
+        Ok(position) => add_counted("ok", position, answer),
+        Err(AppendWhy::Full(records)) => add_counted("full", records, answer),
         Err(AppendWhy::Fault) => answer.word("fault"),
         Err(AppendWhy::OutOfMemory) => answer.word("out of memory"),
     }
@@ -107,13 +136,9 @@ pub fn add_appended(outcome: Result<u64, AppendWhy>, answer: &mut Answer) {
 /// Adds why a device was not opened.
 pub fn add_open_fault(why: OpenWhy, answer: &mut Answer) {
     match why {
-        OpenWhy::Damaged(gate) => {
-            answer.word("damaged");
-            answer.number(gate);
-        }
+        OpenWhy::Damaged(gate) => add_counted("damaged", gate, answer),
         OpenWhy::Chain(gate, wanted, got) => {
-            answer.word("chain");
-            answer.number(gate);
+            add_counted("chain", gate, answer);
             answer.digits(wanted.bytes());
             answer.digits(got.bytes());
         }
@@ -123,76 +148,11 @@ pub fn add_open_fault(why: OpenWhy, answer: &mut Answer) {
     }
 }
 
-// `payload N`: the payload of record N.
-fn payload_line(
-    running: &mut Running,
-    mut words: Words<'_>,
-    answer: &mut Answer,
-) -> Result<(), Fault> {
-    let n = words.last_number()?;
-    answer.begin();
-    add_payload(&mut running.journal, n, answer);
-    Ok(())
-}
-
-/// The payload of record `n`, or `None` where there is none.
-pub fn payload<D: Disk>(journal: &mut Journal<D>, n: u64) -> Option<Result<Bytes, ReadWhy>>
-    ensures { journal.new.limits ≡ journal.old.limits }
-{
-    if n == 0 || n > journal.len() {
-        return None;
-    }
-    Some(journal.payload(n))
-}
-
-fn add_payload<D: Disk>(journal: &mut Journal<D>, n: u64, answer: &mut Answer)
-    ensures { journal.new.limits ≡ journal.old.limits }
-{
-    match payload(journal, n) {
-        Some(Ok(bytes)) => answer.field(bytes.as_slice()),
-        Some(Err(why)) => add_unread(why, answer),
-        None => answer.push("none"),
-    }
-}
-
-fn add_unread(why: ReadWhy, answer: &mut Answer) {
-    match why {
-        ReadWhy::Fault => answer.push("fault"),
-        ReadWhy::OutOfMemory => answer.push("out of memory"),
-    }
-}
-
-// The number of records, the bytes of the log, and the payloads.
-fn add_log<D: Disk>(journal: &mut Journal<D>, answer: &mut Answer)
-    ensures { journal.new.limits ≡ journal.old.limits }
-{
-    answer.word("records");
-    answer.number(journal.len());
-    answer.push(",");
-    answer.word("bytes");
-    answer.number(journal.bytes());
-    answer.push(":");
-    add_payloads(journal, answer);
-}
-
-// A word of all payloads, in order.
-fn add_payloads<D: Disk>(journal: &mut Journal<D>, answer: &mut Answer)
-    ensures { journal.new.limits ≡ journal.old.limits }
-{
-    answer.begin();
-    if journal.is_empty() {
-        answer.push("empty");
-    }
-    for n in 0..journal.len() {
-        answer.push(if n == 0 { "" } else { "," });
-        add_payload(journal, n.saturating_add(1), answer);
-    }
-}
-
 /// Adds the payloads on a disk, or why it is refused.
-pub fn add_log_of(alloc: Global, disk: MemDisk, answer: &mut Answer) {
-    match Journal::open(alloc, disk, IMAGE_LIMITS) {
-        Ok(mut journal) => add_payloads(&mut journal, answer),
+pub fn add_log_of(alloc: Global, disk: Watched, answer: &mut Answer) {
+    let limits = IMAGE_LIMITS;
+    match Journal::open(alloc, disk, limits) {
+        Ok(journal) => Running { journal, limits }.add_payloads(answer),
         Err(fault) => add_open_fault(fault.why, answer),
     }
 }

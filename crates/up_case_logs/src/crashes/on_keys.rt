@@ -6,14 +6,15 @@ use super::on_disk::add_outcome;
 use super::on_journal::add_open_fault;
 use super::replies::{add_key, add_reply};
 use super::watched::Watched;
+use super::{add_counted, so_many};
 use std::alloc::Global;
 use up_bytes::Bytes;
 use up_case_lines::{Answer, Fault, Words, bytes_of, number_of, user_of};
-use up_disk::{Disk, MemDisk};
 use up_entry::Endpoint;
 use up_journal::Limits;
 use up_keys::{Keys, key_step};
 use up_lists::Items;
+use up_names::User;
 use up_wire::{KeyCard, Request};
 
 /// The least that the limits leave for a record.
@@ -39,7 +40,7 @@ pub fn turn(
     match words.word()? {
         "look" => look_line(alloc, keys, words, answer)?,
         "step" => step_line(alloc, keys, words, answer)?,
-        "count" => add_count(keys, answer),
+        "count" => add_counted("records", keys.position(), answer),
         "resolve" => add_outcome(keys.resolve(), answer),
         _ => return Ok(false),
     }
@@ -47,9 +48,9 @@ pub fn turn(
 }
 
 // `look USER`: the record that the log has for a user.
-fn look_line<D: Disk>(
+fn look_line(
     alloc: Global,
-    keys: &Keys<D>,
+    keys: &Keys<Watched>,
     mut words: Words<'_>,
     answer: &mut Answer,
 ) -> Result<(), Fault> {
@@ -59,12 +60,6 @@ fn look_line<D: Disk>(
         None => answer.word("none"),
     }
     Ok(())
-}
-
-// `count`: how many records there are.
-fn add_count<D: Disk>(keys: &Keys<D>, answer: &mut Answer) {
-    answer.word("records");
-    answer.number(keys.position());
 }
 
 // `step USER key NAME`, `step USER setkey NAME DIRS STORES KEY`: the reply to a user's request.
@@ -89,8 +84,8 @@ fn step_as(
     requires { IsAsked request.now }
 {
     let user = user_of(alloc, user)?;
-    add_reply(&key_step(keys, &user, request), answer);
-    Ok(())
+    let reply = key_step(keys, &user, request);
+    Ok(add_reply(alloc, reply, answer)?)
 }
 
 fn request_of(alloc: Global, mut words: Words<'_>) -> Result<Request, Fault>
@@ -132,14 +127,9 @@ fn endpoints_of(alloc: Global, word: &str) -> Result<Items<Endpoint>, Fault> {
         return Ok(endpoints);
     }
     for piece in word.split(',') {
-        add_endpoint(alloc, &mut endpoints, piece)?;
+        endpoints.push(endpoint_of(alloc, piece)?)?;
     }
     Ok(endpoints)
-}
-
-fn add_endpoint(alloc: Global, endpoints: &mut Items<Endpoint>, piece: &str) -> Result<(), Fault> {
-    endpoints.push(endpoint_of(alloc, piece)?)?;
-    Ok(())
 }
 
 // `local`, or an address.
@@ -153,31 +143,26 @@ fn endpoint_of(alloc: Global, piece: &str) -> Result<Endpoint, Fault> {
 // A word's bytes, or for `*N` so many bytes `k`.
 fn told_bytes(alloc: Global, word: &str) -> Result<Bytes, Fault> {
     match word.strip_prefix('*') {
-        Some(number) => many(alloc, number_of(number)?.min(LONGEST)),
+        Some(number) => Ok(so_many(alloc, b'k', number_of(number)?.min(LONGEST))?),
         None => bytes_of(alloc, word),
     }
 }
 
-fn many(alloc: Global, size: u64) -> Result<Bytes, Fault> {
-    let bytes = vec![in alloc; b'k'; size as usize]?;
-    Ok(Items::from_vec(bytes))
-}
-
-/// Adds how many records a key server's log over each of the images 0 to 7 has, and the key of `ann@a.example`, or why it is
-/// refused.
-pub fn add_key_logs(alloc: Global, disk: &MemDisk, answer: &mut Answer) -> Result<(), Fault> {
+/// Adds how many records a key server's log over a disk has, and the key of `ann@a.example`, or why it is refused.
+pub fn add_key_log(alloc: Global, disk: Watched, answer: &mut Answer) -> Result<(), Fault> {
     let ann = user_of(alloc, "ann@a.example")?;
-    for choice in 0..8 {
-        match Keys::open(alloc, disk.image(choice)?, IMAGE_LIMITS) {
-            Ok(keys) => {
-                answer.number(keys.position());
-                match keys.lookup(&ann) {
-                    Some(known) => answer.coded(known.key.as_slice()),
-                    None => answer.word("none"),
-                }
-            }
-            Err(fault) => add_open_fault(fault.why, answer),
-        }
+    match Keys::open(alloc, disk, IMAGE_LIMITS) {
+        Ok(keys) => add_key_of(&keys, &ann, answer),
+        Err(fault) => add_open_fault(fault.why, answer),
     }
     Ok(())
+}
+
+// The number of records, and a user's key.
+fn add_key_of(keys: &Keys<Watched>, user: &User, answer: &mut Answer) {
+    answer.number(keys.position());
+    match keys.lookup(user) {
+        Some(known) => answer.coded(known.key.as_slice()),
+        None => answer.word("none"),
+    }
 }

@@ -1,4 +1,5 @@
 //! Commands of a ledger.
+use super::add_counted;
 use super::on_disk::add_outcome;
 use super::watched::Watched;
 use up_case_lines::{Answer, Fault, Words};
@@ -23,14 +24,8 @@ pub fn turn(
 
 fn add_entered(outcome: Result<u64, EntryWhy>, answer: &mut Answer) {
     match outcome {
-        Ok(position) => {
-            answer.word("ok");
-            answer.number(position);
-        }
-        Err(EntryWhy::Full(records)) => {
-            answer.word("full");
-            answer.number(records);
-        }
+        Ok(position) => add_counted("ok", position, answer),
+        Err(EntryWhy::Full(records)) => add_counted("full", records, answer),
         Err(EntryWhy::Refused) => answer.word("refused"),
         Err(EntryWhy::Fault) => answer.word("fault"),
         Err(EntryWhy::OutOfMemory) => answer.word("out of memory"),
@@ -39,23 +34,15 @@ fn add_entered(outcome: Result<u64, EntryWhy>, answer: &mut Answer) {
 
 // The balance, and the number of entries.
 fn add_balance(ledger: &Ledger<Watched>, answer: &mut Answer) {
-    answer.word("balance");
-    answer.number(ledger.balance());
+    add_counted("balance", ledger.balance(), answer);
     answer.push(",");
-    answer.word("entries");
-    answer.number(ledger.len());
+    add_counted("entries", ledger.len(), answer);
 }
 
 fn add_entry(entry: Option<&Entry>, answer: &mut Answer) {
     match entry {
-        Some(Entry::Deposit(amount)) => {
-            answer.word("deposit");
-            answer.number(*amount);
-        }
-        Some(Entry::Withdraw(amount)) => {
-            answer.word("withdraw");
-            answer.number(*amount);
-        }
+        Some(Entry::Deposit(amount)) => add_counted("deposit", *amount, answer),
+        Some(Entry::Withdraw(amount)) => add_counted("withdraw", *amount, answer),
         None => answer.word("none"),
     }
 }

@@ -6,13 +6,12 @@ use super::on_disk::add_outcome;
 use super::on_journal::add_open_fault;
 use super::replies::add_reply;
 use super::watched::Watched;
+use super::{add_counted, so_many};
 use std::alloc::Global;
 use up_blocks::{BlockWhy, Blocks};
 use up_bytes::Bytes;
-use up_case_lines::{Answer, Fault, Words, bytes_of, user_of};
-use up_disk::{Disk, MemDisk};
+use up_case_lines::{Answer, Fault, Words, bytes_of, number_of, user_of};
 use up_journal::Limits;
-use up_lists::Items;
 use up_refs::Reference;
 use up_store::store_step;
 use up_wire::Request;
@@ -38,8 +37,8 @@ pub fn turn(
     answer: &mut Answer,
 ) -> Result<bool, Fault> {
     match words.word()? {
-        "get" => get_line(store, words, answer)?,
-        "delete" => delete_line(store, words, answer)?,
+        "get" => add_got(store.get(&reference_of(words)?), answer),
+        "delete" => add_deleted(store.delete(&reference_of(words)?), answer),
         "step" => step_line(alloc, store, words, answer)?,
         "held" => add_held(store, answer),
         "resolve" => add_outcome(store.resolve(), answer),
@@ -48,49 +47,31 @@ pub fn turn(
     Ok(true)
 }
 
-// The reference of which a word is the text.
-fn reference_of(word: &str) -> Result<Reference, Fault> {
-    Reference::parse(word.as_bytes()).ok_or(Fault::BadLine)
+// The reference of which the last word is the text.
+fn reference_of(mut words: Words<'_>) -> Result<Reference, Fault> {
+    Reference::parse(words.one()?.as_bytes()).ok_or(Fault::BadLine)
 }
 
 // `get REF`: the bytes, or why not.
-fn get_line(
-    store: &mut Blocks<Watched>,
-    mut words: Words<'_>,
-    answer: &mut Answer,
-) -> Result<(), Fault> {
-    let reference = reference_of(words.one()?)?;
-    match store.get(&reference) {
+fn add_got(outcome: Result<Bytes, BlockWhy>, answer: &mut Answer) {
+    match outcome {
         Ok(bytes) => answer.coded(bytes.as_slice()),
         Err(why) => add_why(why, answer),
     }
-    Ok(())
 }
 
 // `delete REF`: the position, or why not.
-fn delete_line(
-    store: &mut Blocks<Watched>,
-    mut words: Words<'_>,
-    answer: &mut Answer,
-) -> Result<(), Fault> {
-    let reference = reference_of(words.one()?)?;
-    match store.delete(&reference) {
-        Ok(position) => {
-            answer.word("ok");
-            answer.number(position);
-        }
+fn add_deleted(outcome: Result<u64, BlockWhy>, answer: &mut Answer) {
+    match outcome {
+        Ok(position) => add_counted("ok", position, answer),
         Err(why) => add_why(why, answer),
     }
-    Ok(())
 }
 
 fn add_why(why: BlockWhy, answer: &mut Answer) {
     match why {
         BlockWhy::NotExist => answer.word("notexist"),
-        BlockWhy::Full(records) => {
-            answer.word("full");
-            answer.number(records);
-        }
+        BlockWhy::Full(records) => add_counted("full", records, answer),
         BlockWhy::Fault => answer.word("fault"),
         BlockWhy::OutOfMemory => answer.word("out of memory"),
     }
@@ -119,8 +100,8 @@ fn step_as(
 {
     let operator = user_of(alloc, "op@s.example")?;
     let user = user_of(alloc, user)?;
-    add_reply(&store_step(store, &operator, &user, request), answer);
-    Ok(())
+    let reply = store_step(store, &operator, &user, request);
+    Ok(add_reply(alloc, reply, answer)?)
 }
 
 // `store BYTES`, `long N` of a block of N bytes `a`, `fetch REF`, `drop REF`.
@@ -129,32 +110,19 @@ fn request_of(alloc: Global, keyword: &str, word: &str) -> Result<Request, Fault
 {
     match keyword {
         "store" => Ok(Request::StorePut(bytes_of(alloc, word)?)),
-        "long" => Ok(Request::StorePut(long_block(alloc, word)?)),
+        "long" => Ok(Request::StorePut(so_many(alloc, b'a', number_of(word)?.min(LONGEST))?)),
         "fetch" => Ok(Request::Get(bytes_of(alloc, word)?)),
         "drop" => Ok(Request::StoreDelete(bytes_of(alloc, word)?)),
         _ => Err(Fault::BadLine),
     }
 }
 
-// A block of so many bytes `a`.
-fn long_block(alloc: Global, word: &str) -> Result<Bytes, Fault> {
-    let size = up_case_lines::number_of(word)?.min(LONGEST);
-    let bytes = vec![in alloc; b'a'; size as usize]?;
-    Ok(Items::from_vec(bytes))
-}
-
 // How many records there are, and the references that are held, in order, each by its first four bytes.
-fn add_held<D: Disk>(store: &Blocks<D>, answer: &mut Answer) {
-    answer.word("records");
-    answer.number(store.position());
+fn add_held(store: &Blocks<Watched>, answer: &mut Answer) {
+    add_counted("records", store.position(), answer);
     answer.push(",");
-    answer.word("held");
-    answer.number(store.len());
+    add_counted("held", store.len(), answer);
     answer.push(":");
-    add_references(store, answer);
-}
-
-fn add_references<D: Disk>(store: &Blocks<D>, answer: &mut Answer) {
     for i in 0..store.len() {
         if let Some(reference) = store.reference(i) {
             answer.digits(&reference.bytes()[..4]);
@@ -162,15 +130,8 @@ fn add_references<D: Disk>(store: &Blocks<D>, answer: &mut Answer) {
     }
 }
 
-/// Adds what a store over each of the images 0 to 7 holds, or why it is refused.
-pub fn add_stores(alloc: Global, disk: &MemDisk, answer: &mut Answer) -> Result<(), Fault> {
-    for choice in 0..8 {
-        add_store(alloc, disk.image(choice)?, answer);
-    }
-    Ok(())
-}
-
-fn add_store(alloc: Global, disk: MemDisk, answer: &mut Answer) {
+/// Adds what a store over a disk holds, or why it is refused.
+pub fn add_store(alloc: Global, disk: Watched, answer: &mut Answer) {
     match Blocks::open(alloc, disk, IMAGE_LIMITS) {
         Ok(store) => add_held(&store, answer),
         Err(fault) => add_open_fault(fault.why, answer),

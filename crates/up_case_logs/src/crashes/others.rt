@@ -1,4 +1,5 @@
 //! A list of disks with spare room, and a disk with a hook.
+use super::add_counted;
 use super::on_disk::add_outcome;
 use std::alloc::{AllocError, Global};
 use up_case_lines::Answer;
@@ -13,14 +14,11 @@ pub fn add_lists(alloc: Global, answer: &mut Answer) -> Result<(), AllocError> {
     }
     let first = disks.take().unwrap_or(0);
     disks.push(first)?;
-    answer.word("took");
-    answer.number(first);
+    add_counted("took", first, answer);
     answer.push(",");
-    answer.word("next");
-    answer.number(disks.take().unwrap_or(0));
+    add_counted("next", disks.take().unwrap_or(0), answer);
     answer.push(",");
-    answer.word("left");
-    answer.number(disks.len());
+    add_counted("left", disks.len(), answer);
     Ok(())
 }
 
@@ -56,8 +54,7 @@ fn hooked_syncs(alloc: Global) -> Result<(u64, Result<(), Failed>), AllocError> 
 /// `hooks`: how often a hook was called, and what the sync that failed answered.
 pub fn add_hooks(alloc: Global, answer: &mut Answer) -> Result<(), AllocError> {
     let (times, outcome) = hooked_syncs(alloc)?;
-    answer.word("hook called");
-    answer.number(times);
+    add_counted("hook called", times, answer);
     answer.push(",");
     add_outcome(outcome, answer);
     Ok(())

@@ -1,48 +1,26 @@
 //! A reply of a store or a key server, in the words of a script.
+use std::alloc::{AllocError, Global};
+use up_bytes::Bytes;
 use up_case_lines::Answer;
-use up_entry::{Endpoint, What};
-use up_rights::Right;
-use up_wire::{Done, KeyRecord, Reply};
+use up_entry::Endpoint;
+use up_text::reply_lines;
+use up_wire::{KeyRecord, Reply};
 
-/// Adds a reply. One that neither answers is `other`.
-pub fn add_reply(reply: &Reply, answer: &mut Answer) {
-    match reply {
-        Reply::Ok(done) => add_done(done, answer),
-        Reply::Invalid(what) => {
-            answer.word("invalid");
-            answer.word(what_word(*what));
-        }
-        Reply::Permission(right) => {
-            answer.word("permission");
-            answer.word(Right::word(*right));
-        }
-        Reply::NotExist => answer.word("notexist"),
-        Reply::Full(records) => {
-            answer.word("full");
-            answer.number(*records);
-        }
-        Reply::Io => answer.word("io"),
-        Reply::OutOfMemory => answer.word("nomemory"),
-        _ => answer.word("other"),
-    }
+/// Adds the one line of a reply. Want of memory has none.
+pub fn add_reply(alloc: Global, reply: Reply, answer: &mut Answer) -> Result<(), AllocError> {
+    let lines = reply_lines(alloc, &reply);
+    drop(reply);
+    add_line(alloc, lines?.as_slice(), answer);
+    Ok(())
 }
 
-fn add_done(done: &Done, answer: &mut Answer) {
-    match done {
-        Done::Changed(position) => {
-            answer.word("ok");
-            answer.number(*position);
+fn add_line(alloc: Global, lines: &[Bytes], answer: &mut Answer) {
+    match lines.first() {
+        Some(line) => {
+            answer.begin();
+            answer.made(String::from_utf8_lossy(alloc, line.as_slice()));
         }
-        Done::Reference(reference) => {
-            answer.word("ref");
-            answer.digits(reference.bytes());
-        }
-        Done::Bytes(bytes) => {
-            answer.word("bytes");
-            answer.coded(bytes.as_slice());
-        }
-        Done::Key(known) => add_key(known, answer),
-        _ => answer.word("other"),
+        None => answer.word("nomemory"),
     }
 }
 
@@ -67,15 +45,5 @@ fn add_endpoints(endpoints: &[Endpoint], answer: &mut Answer) {
             Endpoint::Local => answer.push("local"),
             Endpoint::Address(address) => answer.field(address.as_slice()),
         }
-    }
-}
-
-fn what_word(what: What) -> &'static str {
-    match what {
-        What::Name => "name",
-        What::Reference => "reference",
-        What::Block => "block",
-        What::Key => "key",
-        _ => "other",
     }
 }

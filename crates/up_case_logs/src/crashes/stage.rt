@@ -2,14 +2,13 @@
 ghost use Rattle.std.specs.Prelude.{◌≡◌, ◌<◌, ◌≤◌, ◌^◌, min, IfOk};
 ghost use Rattle.up_journal.specs.Journal.{AreLimits};
 
-use super::on_disk::new_disk;
-use super::on_journal::Running;
+use super::on_journal::{Running, add_open_fault};
 use super::watched::Watched;
-use super::{on_disk, on_journal, on_keys, on_ledger, on_store};
+use super::{add_counted, on_disk, on_journal, on_keys, on_ledger, on_store};
 use std::alloc::Global;
 use up_blocks::Blocks;
 use up_case_lines::{Answer, Fault, Words};
-use up_journal::{Journal, Limits};
+use up_journal::{Journal, Limits, OpenFault};
 use up_keys::Keys;
 use up_ledger::Ledger;
 
@@ -26,82 +25,59 @@ pub enum Stage {
 /// Does one command. A command of a disk ends what stands on it.
 pub fn stage_turn(
     alloc: Global,
-    stage: Stage,
+    mut stage: Stage,
     words: Words<'_>,
     answer: &mut Answer,
 ) -> Result<Stage, Fault> {
-    match stage {
-        Stage::Disk(disk) => disk_turn(alloc, disk, words, answer),
-        Stage::Journal(running) => journal_turn(alloc, running, words, answer),
-        Stage::Ledger(ledger) => ledger_turn(alloc, ledger, words, answer),
-        Stage::Store(store) => store_turn(alloc, store, words, answer),
-        Stage::Keys(keys) => keys_turn(alloc, keys, words, answer),
+    match stage.turn(alloc, words, answer) {
+        Ok(true) => Ok(stage),
+        Ok(false) => disk_turn(alloc, stage.into_disk(), words, answer),
+        Err(fault) => {
+            drop(stage);
+            Err(fault)
+        }
     }
 }
 
-fn journal_turn(
-    alloc: Global,
-    mut running: Running,
-    words: Words<'_>,
-    answer: &mut Answer,
-) -> Result<Stage, Fault> {
-    if on_journal::turn(alloc, &mut running, words, answer)? {
-        return Ok(Stage::Journal(running));
+impl Stage {
+    // Does a command of what stands on the disk, or answers `false` where it is none.
+    fn turn(
+        &mut self,
+        alloc: Global,
+        words: Words<'_>,
+        answer: &mut Answer,
+    ) -> Result<bool, Fault> {
+        match self {
+            Stage::Disk(_) => Ok(false),
+            Stage::Journal(running) => on_journal::turn(alloc, running, words, answer),
+            Stage::Ledger(ledger) => on_ledger::turn(ledger, words, answer),
+            Stage::Store(store) => on_store::turn(alloc, store, words, answer),
+            Stage::Keys(keys) => on_keys::turn(alloc, keys, words, answer),
+        }
     }
-    disk_turn(alloc, running.journal.into_disk(), words, answer)
-}
 
-fn ledger_turn(
-    alloc: Global,
-    mut ledger: Ledger<Watched>,
-    words: Words<'_>,
-    answer: &mut Answer,
-) -> Result<Stage, Fault> {
-    if on_ledger::turn(&mut ledger, words, answer)? {
-        return Ok(Stage::Ledger(ledger));
+    fn into_disk(self) -> Watched {
+        match self {
+            Stage::Disk(disk) => disk,
+            Stage::Journal(running) => running.journal.into_disk(),
+            Stage::Ledger(ledger) => ledger.into_disk(),
+            Stage::Store(store) => store.into_disk(),
+            Stage::Keys(keys) => keys.into_disk(),
+        }
     }
-    disk_turn(alloc, ledger.into_disk(), words, answer)
-}
-
-fn store_turn(
-    alloc: Global,
-    mut store: Blocks<Watched>,
-    words: Words<'_>,
-    answer: &mut Answer,
-) -> Result<Stage, Fault> {
-    if on_store::turn(alloc, &mut store, words, answer)? {
-        return Ok(Stage::Store(store));
-    }
-    disk_turn(alloc, store.into_disk(), words, answer)
-}
-
-fn keys_turn(
-    alloc: Global,
-    mut keys: Keys<Watched>,
-    words: Words<'_>,
-    answer: &mut Answer,
-) -> Result<Stage, Fault> {
-    if on_keys::turn(alloc, &mut keys, words, answer)? {
-        return Ok(Stage::Keys(keys));
-    }
-    disk_turn(alloc, keys.into_disk(), words, answer)
 }
 
 // Does one command of a disk.
 fn disk_turn(
     alloc: Global,
     disk: Watched,
-    mut words: Words<'_>,
+    words: Words<'_>,
     answer: &mut Answer,
 ) -> Result<Stage, Fault> {
-    match words.word()? {
-        "open" => open(alloc, disk, limits_of(words)?, answer),
-        "ledger" => open_ledger(alloc, disk, limits_of(words)?, answer),
-        "store" => open_store(alloc, disk, limits_of(words)?, answer),
-        "keys" => open_keys(alloc, disk, limits_of(words)?, answer),
-        "fail" => fail(alloc, words, answer),
-        "crash" => crash(alloc, &disk, words, answer),
-        keyword => stay(alloc, disk, keyword, words, answer),
+    let mut rest = words;
+    match service_of(rest.word()?) {
+        Some(service) => Ok(open(alloc, disk, service, limits_of(rest)?, answer)),
+        None => stay(alloc, disk, words, answer),
     }
 }
 
@@ -109,32 +85,11 @@ fn disk_turn(
 fn stay(
     alloc: Global,
     mut disk: Watched,
-    keyword: &str,
     words: Words<'_>,
     answer: &mut Answer,
 ) -> Result<Stage, Fault> {
-    on_disk::turn(alloc, &mut disk, keyword, words, answer)?;
+    on_disk::turn(alloc, &mut disk, words, answer)?;
     Ok(Stage::Disk(disk))
-}
-
-// `fail N M`: an empty disk of which the calls N to N + M - 1 fail.
-fn fail(alloc: Global, mut words: Words<'_>, answer: &mut Answer) -> Result<Stage, Fault> {
-    let (first, count) = words.two_numbers()?;
-    answer.word("ok");
-    Ok(Stage::Disk(new_disk(alloc, first, count)?))
-}
-
-// `crash N`: the disk is the image N from now on.
-fn crash(
-    alloc: Global,
-    disk: &Watched,
-    mut words: Words<'_>,
-    answer: &mut Answer,
-) -> Result<Stage, Fault> {
-    let choice = words.last_number()?;
-    answer.word("ok");
-    let image = disk.disk.image(choice)?;
-    Ok(Stage::Disk(Watched::new(alloc, image)))
 }
 
 /// The limits that three numbers are.
@@ -157,86 +112,78 @@ fn limits(records: u64, device: u64, largest: u64) -> Limits
     }
 }
 
-// Opens a journal, or keeps the disk that is handed back.
-fn open(alloc: Global, disk: Watched, limits: Limits, answer: &mut Answer) -> Result<Stage, Fault>
+/// What is opened on a disk.
+#[derive(Clone, Copy)]
+enum Service {
+    Journal,
+    Ledger,
+    Store,
+    Keys,
+}
+
+// What a keyword opens.
+fn service_of(keyword: &str) -> Option<Service> {
+    match keyword {
+        "open" => Some(Service::Journal),
+        "ledger" => Some(Service::Ledger),
+        "store" => Some(Service::Store),
+        "keys" => Some(Service::Keys),
+        _ => None,
+    }
+}
+
+// Opens a service, or keeps the disk that is handed back.
+fn open(
+    alloc: Global,
+    disk: Watched,
+    service: Service,
+    limits: Limits,
+    answer: &mut Answer,
+) -> Stage
     requires { AreLimits limits }
 {
-    match Journal::open(alloc, disk, limits) {
-        Ok(journal) => {
-            answer.word("open");
-            answer.number(journal.len());
-            Ok(Stage::Journal(Running { journal, limits }))
+    match opened(alloc, disk, service, limits) {
+        Ok(stage) => {
+            add_opened(&stage, answer);
+            stage
         }
         Err(fault) => {
-            on_journal::add_open_fault(fault.why, answer);
-            Ok(Stage::Disk(fault.disk))
+            add_open_fault(fault.why, answer);
+            Stage::Disk(fault.disk)
         }
     }
 }
 
-// Opens a ledger, or keeps the disk that is handed back.
-fn open_ledger(
+// The service, whose limits leave room for its largest record.
+fn opened(
     alloc: Global,
     disk: Watched,
+    service: Service,
     limits: Limits,
-    answer: &mut Answer,
-) -> Result<Stage, Fault>
+) -> Result<Stage, OpenFault<Watched>>
     requires { AreLimits limits }
 {
-    match Ledger::open(alloc, disk, with_room(limits, 11)) {
-        Ok(ledger) => {
-            answer.word("ledger");
-            answer.number(ledger.len());
-            Ok(Stage::Ledger(ledger))
+    Ok(match service {
+        Service::Journal => Stage::Journal(Running {
+            journal: Journal::open(alloc, disk, limits)?,
+            limits,
+        }),
+        Service::Ledger => Stage::Ledger(Ledger::open(alloc, disk, with_room(limits, 11))?),
+        Service::Store => {
+            Stage::Store(Blocks::open(alloc, disk, with_room(limits, on_store::LARGEST))?)
         }
-        Err(fault) => {
-            on_journal::add_open_fault(fault.why, answer);
-            Ok(Stage::Disk(fault.disk))
-        }
-    }
+        Service::Keys => Stage::Keys(Keys::open(alloc, disk, with_room(limits, on_keys::ROOM))?),
+    })
 }
 
-// Opens a store, or keeps the disk that is handed back.
-fn open_store(
-    alloc: Global,
-    disk: Watched,
-    limits: Limits,
-    answer: &mut Answer,
-) -> Result<Stage, Fault>
-    requires { AreLimits limits }
-{
-    match Blocks::open(alloc, disk, with_room(limits, on_store::LARGEST)) {
-        Ok(store) => {
-            answer.word("store");
-            answer.number(store.position());
-            Ok(Stage::Store(store))
-        }
-        Err(fault) => {
-            on_journal::add_open_fault(fault.why, answer);
-            Ok(Stage::Disk(fault.disk))
-        }
-    }
-}
-
-// Opens a key server's log, or keeps the disk that is handed back.
-fn open_keys(
-    alloc: Global,
-    disk: Watched,
-    limits: Limits,
-    answer: &mut Answer,
-) -> Result<Stage, Fault>
-    requires { AreLimits limits }
-{
-    match Keys::open(alloc, disk, with_room(limits, on_keys::ROOM)) {
-        Ok(keys) => {
-            answer.word("keys");
-            answer.number(keys.position());
-            Ok(Stage::Keys(keys))
-        }
-        Err(fault) => {
-            on_journal::add_open_fault(fault.why, answer);
-            Ok(Stage::Disk(fault.disk))
-        }
+// What was opened, and how many records it has.
+fn add_opened(stage: &Stage, answer: &mut Answer) {
+    match stage {
+        Stage::Disk(_) => {}
+        Stage::Journal(running) => add_counted("open", running.journal.len(), answer),
+        Stage::Ledger(ledger) => add_counted("ledger", ledger.len(), answer),
+        Stage::Store(store) => add_counted("store", store.position(), answer),
+        Stage::Keys(keys) => add_counted("keys", keys.position(), answer),
     }
 }
 

@@ -1,14 +1,19 @@
 //! A disk in memory that is watched.
-ghost use Rattle.std.specs.Prelude.{◌≡◌};
-
 use std::alloc::{AllocError, Global};
 use up_disk::{Disk, Failed, MemDisk};
+use up_lists::Items;
 
-/// A disk in memory that counts its calls, from 0, and keeps its crash images as they are before one of them. It notes its
-/// reads.
+/// A disk in memory, and what was noted of its calls.
 #[derive(Drop)]
 pub struct Watched {
     pub disk: MemDisk,
+    pub notes: Notes,
+}
+
+/// The calls of a disk are counted, from 0, its reads are noted, and its crash images are kept as they are before one of the
+/// calls.
+#[derive(Drop)]
+pub struct Notes {
     pub calls: u64,
     /// The call before which the images are kept.
     pub noted_call: Option<u64>,
@@ -26,6 +31,19 @@ impl Watched {
     pub fn new(alloc: Global, disk: MemDisk) -> Watched {
         Watched {
             disk,
+            notes: Notes::new(alloc),
+        }
+    }
+
+    /// An empty disk.
+    pub fn empty(alloc: Global) -> Watched {
+        Watched::new(alloc, MemDisk::new(alloc, Items::new(alloc)))
+    }
+}
+
+impl Notes {
+    fn new(alloc: Global) -> Notes {
+        Notes {
             calls: 0,
             noted_call: None,
             noted: Vec::new(alloc),
@@ -36,26 +54,30 @@ impl Watched {
     }
 
     // Counts a call that is about to come.
-    fn count(&mut self)
-        ensures { self.new.disk ≡ self.old.disk }
-    {
+    fn count(&mut self, disk: &MemDisk) {
         if self.noted_call == Some(self.calls) {
-            // Where there is no memory, no images are kept, and none are printed.
-            if let Ok(images) = images_of(*self.noted.allocator(), &self.disk) {
-                self.noted = images;
-            }
+            // Where there is no memory, not all images are kept.
+            let _ = keep_images(&mut self.noted, disk);
         }
         self.calls = self.calls.saturating_add(1);
     }
+
+    // Counts a read that is about to come.
+    fn count_read(&mut self, disk: &MemDisk, at: u64, size: usize) {
+        self.count(disk);
+        self.reads = self.reads.saturating_add(1);
+        self.last_read = (at, size as u64);
+        touch(&mut self.seen, at as usize, size);
+    }
 }
 
-// The images 0 to 7.
-fn images_of(alloc: Global, disk: &MemDisk) -> Result<Vec<MemDisk>, AllocError> {
-    let mut images = Vec::new(alloc);
+// Keeps the images 0 to 7.
+fn keep_images(images: &mut Vec<MemDisk>, disk: &MemDisk) -> Result<(), AllocError> {
+    images.clear();
     for choice in 0..8 {
         images.push(disk.image(choice)?)?;
     }
-    Ok(images)
+    Ok(())
 }
 
 // Counts a read of each of these bytes, as far as they are counted at all.
@@ -98,25 +120,22 @@ impl Disk for Watched {
     }
 
     fn read(&mut self, at: u64, buf: &mut [u8]) -> Result<(), Failed> {
-        self.count();
-        self.reads = self.reads.saturating_add(1);
-        self.last_read = (at, buf.len() as u64);
-        touch(&mut self.seen, at as usize, buf.len());
+        self.notes.count_read(&self.disk, at, buf.len());
         self.disk.read(at, buf)
     }
 
     fn write_at(&mut self, at: u64, bytes: &[u8]) -> Result<(), Failed> {
-        self.count();
+        self.notes.count(&self.disk);
         self.disk.write_at(at, bytes)
     }
 
     fn cut(&mut self, size: u64) -> Result<(), Failed> {
-        self.count();
+        self.notes.count(&self.disk);
         self.disk.cut(size)
     }
 
     fn sync(&mut self) -> Result<(), Failed> {
-        self.count();
+        self.notes.count(&self.disk);
         self.disk.sync()
     }
 }

@@ -1,8 +1,9 @@
 //! Entries of many blocks, which would make long lines.
 use super::Session;
+use super::puts::{empty_put, set_text};
 use super::written::record_bytes;
-use std::alloc::{AllocError, Global};
-use up_bytes::Bytes;
+use std::alloc::Global;
+use std::mem;
 use up_case_lines::{Answer, Fault, Words};
 use up_entry::{Block, Endpoint, Location, PutEntry, Rec, check_entry};
 use up_lists::Items;
@@ -22,7 +23,9 @@ pub fn many_line(
 ) -> Result<(), Fault> {
     let count = words.last_number()?;
     let rec = record_of_blocks(alloc, &session.user, count)?;
-    add_size(alloc, &rec, answer)
+    let told = add_size(alloc, &rec, answer);
+    drop(rec);
+    told
 }
 
 fn add_size(alloc: Global, rec: &Rec, answer: &mut Answer) -> Result<(), Fault> {
@@ -35,34 +38,35 @@ fn add_size(alloc: Global, rec: &Rec, answer: &mut Answer) -> Result<(), Fault> 
 
 // The record that puts a file of so many blocks.
 fn record_of_blocks(alloc: Global, user: &User, count: u64) -> Result<Rec, Fault> {
-    let put = put_of_blocks(alloc, user, blocks(alloc, count)?)?;
-    let checked = check_entry(alloc, &put, user)?;
-    Ok(Rec::Put(checked.entry, Items::new(alloc)))
+    let put = put_of_blocks(alloc, user, count)?;
+    let checked = check_entry(alloc, &put, user);
+    drop(put);
+    Ok(Rec::Put(checked?.entry, Items::new(alloc)))
 }
 
-// A file of these blocks.
-fn put_of_blocks(alloc: Global, user: &User, blocks: Items<Block>) -> Result<PutEntry, AllocError> {
-    Ok(PutEntry {
-        signed_name: name(alloc, user)?,
-        packing: 1,
-        time: 0,
-        blocks,
-        packdata: Items::new(alloc),
-        link: Items::new(alloc),
-        writer: text(alloc, user.text())?,
-        name: name(alloc, user)?,
-        attr: 0,
-        sequence: 0,
-    })
+// The user's file of so many blocks.
+fn put_of_blocks(alloc: Global, user: &User, count: u64) -> Result<PutEntry, Fault> {
+    let mut put = empty_put(alloc);
+    put.packing = 1;
+    match fill(alloc, &mut put, user, count) {
+        Ok(()) => Ok(put),
+        Err(fault) => {
+            drop(put);
+            Err(fault)
+        }
+    }
 }
 
-// The name of the file.
-fn name(alloc: Global, user: &User) -> Result<Bytes, AllocError> {
-    text(alloc, format!(in alloc; "{}/many", user.text())?.as_str())
+fn fill(alloc: Global, put: &mut PutEntry, user: &User, count: u64) -> Result<(), Fault> {
+    drop(mem::replace(&mut put.blocks, blocks(alloc, count)?));
+    let name = format!(in alloc; "{}/many", user.text())?;
+    fill_names(alloc, put, name.as_str(), user.text())
 }
 
-fn text(alloc: Global, text: &str) -> Result<Bytes, AllocError> {
-    Ok(Items::from_vec(Vec::from_slice(alloc, text.as_bytes())?))
+fn fill_names(alloc: Global, put: &mut PutEntry, name: &str, writer: &str) -> Result<(), Fault> {
+    set_text(alloc, &mut put.name, name)?;
+    set_text(alloc, &mut put.signed_name, name)?;
+    set_text(alloc, &mut put.writer, writer)
 }
 
 // So many blocks, each where the one before it ends.

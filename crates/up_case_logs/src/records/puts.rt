@@ -1,11 +1,12 @@
 //! The lines that hand in an entry, and that show it.
 use super::Session;
 use std::alloc::Global;
+use std::mem;
 use up_bytes::Bytes;
 use up_case_lines::{
     Answer, Fault, Words, add_entry, blocks_of, byte_of, bytes_of, int_of, number_of, what_word,
 };
-use up_entry::{Block, Checked, EntryFault, PutEntry, check_entry, shown};
+use up_entry::{Checked, EntryFault, PutEntry, check_entry, shown};
 use up_lists::Items;
 
 /// `put NAME SIGNED WRITER PACKING ATTR TIME SEQUENCE LINK PACKDATA BLOCKS`: `ok SEQUENCE`, and the entry is the current
@@ -17,7 +18,9 @@ pub fn put_line(
     answer: &mut Answer,
 ) -> Result<(), Fault> {
     let put = put_of(alloc, words)?;
-    match check_entry(alloc, &put, &session.user) {
+    let checked = check_entry(alloc, &put, &session.user);
+    drop(put);
+    match checked {
         Ok(checked) => {
             keep(session, checked, answer);
             Ok(())
@@ -35,88 +38,73 @@ pub fn put_line(
 fn keep(session: &mut Session, checked: Checked, answer: &mut Answer) {
     answer.word("ok");
     answer.int(checked.sequence);
-    session.entry = Some(checked.entry);
+    drop(session.entry.replace(checked.entry));
 }
 
 // The entry that all of a line's words stand for.
-fn put_of(alloc: Global, mut words: Words<'_>) -> Result<PutEntry, Fault> {
-    let names = names_of(alloc, &mut words)?;
-    let numbers = numbers_of(&mut words)?;
-    let content = content_of(alloc, words)?;
-    Ok(PutEntry {
-        signed_name: names.signed_name,
-        packing: numbers.packing,
-        time: numbers.time,
-        blocks: content.blocks,
-        packdata: content.packdata,
-        link: content.link,
-        writer: names.writer,
-        name: names.name,
-        attr: numbers.attr,
-        sequence: numbers.sequence,
-    })
+fn put_of(alloc: Global, words: Words<'_>) -> Result<PutEntry, Fault> {
+    let mut put = empty_put(alloc);
+    match fill(alloc, &mut put, words) {
+        Ok(()) => Ok(put),
+        Err(fault) => {
+            drop(put);
+            Err(fault)
+        }
+    }
 }
 
-/// The first three words of an entry.
-#[derive(Drop)]
-struct Names {
-    name: Bytes,
-    signed_name: Bytes,
-    writer: Bytes,
+/// An entry of no words.
+pub fn empty_put(alloc: Global) -> PutEntry {
+    PutEntry {
+        signed_name: Items::new(alloc),
+        packing: 0,
+        time: 0,
+        blocks: Items::new(alloc),
+        packdata: Items::new(alloc),
+        link: Items::new(alloc),
+        writer: Items::new(alloc),
+        name: Items::new(alloc),
+        attr: 0,
+        sequence: 0,
+    }
 }
 
-fn names_of(alloc: Global, words: &mut Words<'_>) -> Result<Names, Fault> {
+fn fill(alloc: Global, put: &mut PutEntry, mut words: Words<'_>) -> Result<(), Fault> {
+    fill_names(alloc, put, &mut words)?;
+    fill_numbers(put, &mut words)?;
+    fill_content(alloc, put, words)
+}
+
+// The first three words.
+fn fill_names(alloc: Global, put: &mut PutEntry, words: &mut Words<'_>) -> Result<(), Fault> {
     let (name, signed_name, writer) = words.next_three()?;
-    let name = bytes_of(alloc, name)?;
-    let signed_name = bytes_of(alloc, signed_name)?;
-    let writer = bytes_of(alloc, writer)?;
-    Ok(Names {
-        name,
-        signed_name,
-        writer,
-    })
+    set_text(alloc, &mut put.name, name)?;
+    set_text(alloc, &mut put.signed_name, signed_name)?;
+    set_text(alloc, &mut put.writer, writer)
 }
 
-/// The four words behind them.
-#[derive(Clone, Copy)]
-struct Numbers {
-    packing: u8,
-    attr: u8,
-    time: i64,
-    sequence: i64,
+// The four words behind them.
+fn fill_numbers(put: &mut PutEntry, words: &mut Words<'_>) -> Result<(), Fault> {
+    put.packing = byte_of(words.word()?)?;
+    put.attr = byte_of(words.word()?)?;
+    put.time = int_of(words.word()?)?;
+    put.sequence = int_of(words.word()?)?;
+    Ok(())
 }
 
-fn numbers_of(words: &mut Words<'_>) -> Result<Numbers, Fault> {
-    let packing = byte_of(words.word()?)?;
-    let attr = byte_of(words.word()?)?;
-    let time = int_of(words.word()?)?;
-    let sequence = int_of(words.word()?)?;
-    Ok(Numbers {
-        packing,
-        attr,
-        time,
-        sequence,
-    })
-}
-
-/// The last three words.
-#[derive(Drop)]
-struct Content {
-    link: Bytes,
-    packdata: Bytes,
-    blocks: Items<Block>,
-}
-
-fn content_of(alloc: Global, mut words: Words<'_>) -> Result<Content, Fault> {
+// The last three words.
+fn fill_content(alloc: Global, put: &mut PutEntry, mut words: Words<'_>) -> Result<(), Fault> {
     let (link, packdata, blocks) = words.three()?;
-    let link = bytes_of(alloc, link)?;
-    let packdata = bytes_of(alloc, packdata)?;
-    let blocks = blocks_of(alloc, blocks)?;
-    Ok(Content {
-        link,
-        packdata,
-        blocks,
-    })
+    set_text(alloc, &mut put.link, link)?;
+    set_text(alloc, &mut put.packdata, packdata)?;
+    drop(mem::replace(&mut put.blocks, blocks_of(alloc, blocks)?));
+    Ok(())
+}
+
+/// Puts the text that a word stands for in the place of another.
+pub fn set_text(alloc: Global, text: &mut Bytes, word: &str) -> Result<(), Fault> {
+    drop(mem::replace(text, bytes_of(alloc, word)?));
+    Ok(())
 }
 
 /// `position N`: the current entry gets the sequence N, as an entry does that was put at position N of a log.
@@ -141,6 +129,7 @@ pub fn show_line(
     let may_read = is_yes(words.one()?)?;
     let entry = shown(alloc, session.current()?, may_read)?;
     add_entry(alloc, &entry, answer);
+    drop(entry);
     Ok(())
 }
 

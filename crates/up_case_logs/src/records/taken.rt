@@ -41,9 +41,15 @@ fn part_of(keyword: &str) -> Option<Part> {
 // The record that is the whole of the bytes, or the fault.
 fn record_line(alloc: Global, digits: &str, answer: &mut Answer) -> Result<(), Fault> {
     let bytes = bytes_of_digits(alloc, digits)?;
-    match read_rec(alloc, bytes.as_slice()) {
+    add_record_of(alloc, bytes.as_slice(), answer)
+}
+
+/// Adds the words of the record that these bytes are, or the fault.
+pub fn add_record_of(alloc: Global, bytes: &[u8], answer: &mut Answer) -> Result<(), Fault> {
+    match read_rec(alloc, bytes) {
         Ok(rec) => {
             add_record(alloc, &rec, answer);
+            drop(rec);
             Ok(())
         }
         Err(fault) => add_fault(fault, answer),
@@ -51,7 +57,7 @@ fn record_line(alloc: Global, digits: &str, answer: &mut Answer) -> Result<(), F
 }
 
 /// What is read from the front of some bytes.
-#[derive(Clone, Copy, Debug, PartialEq, Eq)]
+#[derive(Clone, Copy)]
 enum Part {
     Entry,
     Path,
@@ -118,7 +124,9 @@ fn take_entry(
 ) -> Result<(), FieldFault> {
     let entry = read_entry(alloc, input)?;
     add_entry(alloc, &entry, answer);
-    Ok(write_entry(&entry, again)?)
+    let written = write_entry(&entry, again);
+    drop(entry);
+    Ok(written?)
 }
 
 fn take_path(

@@ -32,9 +32,15 @@ fn entry_bytes(alloc: Global, entry: &Entry) -> Result<Bytes, AllocError> {
 fn is_entry(alloc: Global, bytes: &[u8], entry: &Entry) -> Result<bool, Fault> {
     let mut input = Reader::new(bytes);
     match read_entry(alloc, &mut input) {
-        Ok(again) => Ok(again == *entry && input.at_end()),
+        Ok(again) => Ok(is_same_entry(again, entry) && input.at_end()),
         Err(fault) => is_nothing(fault),
     }
+}
+
+fn is_same_entry(again: Entry, entry: &Entry) -> bool {
+    let is_same = again == *entry;
+    drop(again);
+    is_same
 }
 
 // What is not read is nothing; but want of memory does not tell.
@@ -56,7 +62,9 @@ pub fn record_line(
 ) -> Result<(), Fault> {
     let (kind, argument) = words.two()?;
     let rec = record_of(alloc, session, kind, argument)?;
-    add_digits(alloc, &rec, answer)
+    let told = add_digits(alloc, &rec, answer);
+    drop(rec);
+    told
 }
 
 fn add_digits(alloc: Global, rec: &Rec, answer: &mut Answer) -> Result<(), Fault> {
@@ -74,11 +82,10 @@ pub fn bytes_of_record(
     mut words: Words<'_>,
 ) -> Result<Bytes, Fault> {
     let (kind, argument) = words.two()?;
-    written(alloc, record_of(alloc, session, kind, argument)?)
-}
-
-fn written(alloc: Global, rec: Rec) -> Result<Bytes, Fault> {
-    Ok(write_rec(alloc, &rec)?)
+    let rec = record_of(alloc, session, kind, argument)?;
+    let bytes = write_rec(alloc, &rec);
+    drop(rec);
+    Ok(bytes?)
 }
 
 // The record that two words stand for.
@@ -111,7 +118,13 @@ pub fn record_bytes(alloc: Global, rec: &Rec) -> Result<Option<Bytes>, Fault> {
 // Whether the bytes are read as this record.
 fn is_record(alloc: Global, bytes: &[u8], rec: &Rec) -> Result<bool, Fault> {
     match read_rec(alloc, bytes) {
-        Ok(again) => Ok(again == *rec),
+        Ok(again) => Ok(is_same_record(again, rec)),
         Err(fault) => is_nothing(fault),
     }
+}
+
+fn is_same_record(again: Rec, rec: &Rec) -> bool {
+    let is_same = again == *rec;
+    drop(again);
+    is_same
 }

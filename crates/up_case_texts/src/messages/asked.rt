@@ -1,35 +1,28 @@
 //! What a client sends.
 use super::known::add_card;
-use std::alloc::Global;
-use up_bytes::Bytes;
-use up_case_lines::{Answer, Fault, add_blocks, add_fault, bytes_of_digits};
+use super::read::Message;
+use std::alloc::{AllocError, Global};
+use up_bytes::{Bytes, FieldFault};
+use up_case_lines::{Answer, add_blocks};
 use up_entry::PutEntry;
 use up_wire::{ClientFrame, Request, read_client, write_client};
 
-/// `client HEX`: the message that is the whole of these bytes, in words, or the fault. A word `differ` follows where the
-/// message is not written again as it stood.
-pub fn client_line(alloc: Global, digits: &str, answer: &mut Answer) -> Result<(), Fault> {
-    let bytes = bytes_of_digits(alloc, digits)?;
-    match read_client(alloc, bytes.as_slice()) {
-        Ok(frame) => {
-            add_client(alloc, &frame, answer);
-            add_again(alloc, &frame, &bytes, answer)
-        }
-        Err(fault) => add_fault(fault, answer),
+impl Message for ClientFrame {
+    fn read(alloc: Global, bytes: &[u8]) -> Result<ClientFrame, FieldFault> {
+        read_client(alloc, bytes)
     }
-}
 
-fn add_again(
-    alloc: Global,
-    frame: &ClientFrame,
-    bytes: &Bytes,
-    answer: &mut Answer,
-) -> Result<(), Fault> {
-    let again = write_client(alloc, frame)?;
-    if again != *bytes {
-        answer.word("differ");
+    fn written(&self, alloc: Global) -> Result<Bytes, AllocError> {
+        write_client(alloc, self)
     }
-    Ok(())
+
+    fn has_size(&self, _bytes: u64) -> bool {
+        true
+    }
+
+    fn add(&self, alloc: Global, answer: &mut Answer) {
+        add_client(alloc, self, answer);
+    }
 }
 
 fn add_client(alloc: Global, frame: &ClientFrame, answer: &mut Answer) {

@@ -1,46 +1,31 @@
 //! What a server sends.
 use super::known::add_record;
-use std::alloc::Global;
-use up_bytes::Bytes;
-use up_case_lines::{Answer, Fault, add_entry, add_fault, bytes_of_digits, what_word};
+use super::read::Message;
+use std::alloc::{AllocError, Global};
+use up_bytes::{Bytes, FieldFault};
+use up_case_lines::{Answer, add_entry, what_word};
 use up_entry::{Entry, What};
 use up_refs::Reference;
 use up_wire::{Done, Reply, Row, ServerFrame, WatchEvent, read_server, reply_size, write_server};
 
-/// `server HEX`: the message that is the whole of these bytes, in words, or the fault. A word `differ` follows where the
-/// message is not written again as it stood, and `size` where a reply is said to have another length.
-pub fn server_line(alloc: Global, digits: &str, answer: &mut Answer) -> Result<(), Fault> {
-    let bytes = bytes_of_digits(alloc, digits)?;
-    match read_server(alloc, bytes.as_slice()) {
-        Ok(frame) => {
-            add_server(alloc, &frame, answer);
-            add_again(alloc, &frame, &bytes, answer)
+impl Message for ServerFrame {
+    fn read(alloc: Global, bytes: &[u8]) -> Result<ServerFrame, FieldFault> {
+        read_server(alloc, bytes)
+    }
+
+    fn written(&self, alloc: Global) -> Result<Bytes, AllocError> {
+        write_server(alloc, self)
+    }
+
+    fn has_size(&self, bytes: u64) -> bool {
+        match self {
+            ServerFrame::Answer(given) => reply_size(given) == bytes,
+            _ => true,
         }
-        Err(fault) => add_fault(fault, answer),
     }
-}
 
-fn add_again(
-    alloc: Global,
-    frame: &ServerFrame,
-    bytes: &Bytes,
-    answer: &mut Answer,
-) -> Result<(), Fault> {
-    let again = write_server(alloc, frame)?;
-    if again != *bytes {
-        answer.word("differ");
-    }
-    if !has_size(frame, bytes.len()) {
-        answer.word("size");
-    }
-    Ok(())
-}
-
-// Whether a reply is said to have this many bytes.
-fn has_size(frame: &ServerFrame, bytes: u64) -> bool {
-    match frame {
-        ServerFrame::Answer(given) => reply_size(given) == bytes,
-        _ => true,
+    fn add(&self, alloc: Global, answer: &mut Answer) {
+        add_server(alloc, self, answer);
     }
 }
 

@@ -1,37 +1,27 @@
 //! What a key server keeps.
-use std::alloc::Global;
-use up_bytes::Bytes;
-use up_case_lines::{Answer, Fault, add_endpoint, add_fault, bytes_of_digits};
+use super::read::Message;
+use std::alloc::{AllocError, Global};
+use up_bytes::{Bytes, FieldFault};
+use up_case_lines::{Answer, add_endpoint};
 use up_entry::Endpoint;
 use up_wire::{KeyCard, KeyRecord, key_record_size, read_key_record, write_key_record};
 
-/// `known HEX`: the record of a key server's log that is the whole of these bytes, in words, or the fault. A word `differ`
-/// follows where it is not written again as it stood, and `size` where it is said to have another length.
-pub fn known_line(alloc: Global, digits: &str, answer: &mut Answer) -> Result<(), Fault> {
-    let bytes = bytes_of_digits(alloc, digits)?;
-    match read_key_record(alloc, bytes.as_slice()) {
-        Ok(known) => {
-            add_record(&known, answer);
-            add_again(alloc, &known, &bytes, answer)
-        }
-        Err(fault) => add_fault(fault, answer),
+impl Message for KeyRecord {
+    fn read(alloc: Global, bytes: &[u8]) -> Result<KeyRecord, FieldFault> {
+        read_key_record(alloc, bytes)
     }
-}
 
-fn add_again(
-    alloc: Global,
-    known: &KeyRecord,
-    bytes: &Bytes,
-    answer: &mut Answer,
-) -> Result<(), Fault> {
-    let again = write_key_record(alloc, known)?;
-    if again != *bytes {
-        answer.word("differ");
+    fn written(&self, alloc: Global) -> Result<Bytes, AllocError> {
+        write_key_record(alloc, self)
     }
-    if key_record_size(known) != bytes.len() {
-        answer.word("size");
+
+    fn has_size(&self, bytes: u64) -> bool {
+        key_record_size(self) == bytes
     }
-    Ok(())
+
+    fn add(&self, _alloc: Global, answer: &mut Answer) {
+        add_record(self, answer);
+    }
 }
 
 /// Adds a record: its user, directories, stores and key.

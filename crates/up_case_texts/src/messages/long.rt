@@ -8,10 +8,16 @@ use up_wire::{Done, Reply, bounded, reply_size};
 /// `long N`: how many bytes the reply has that gives a block of N bytes, and `kept`, or `toolarge` and the number in the
 /// reply that stands in its place.
 pub fn long_line(alloc: Global, count: &str, answer: &mut Answer) -> Result<(), Fault> {
-    let given = Reply::Ok(Done::Bytes(zeros(alloc, number_of(count)?)?));
-    answer.number(reply_size(&given));
-    add_bounded(&bounded(given), answer);
+    let bytes = zeros(alloc, number_of(count)?)?;
+    add_long(Reply::Ok(Done::Bytes(bytes)), answer);
     Ok(())
+}
+
+fn add_long(given: Reply, answer: &mut Answer) {
+    answer.number(reply_size(&given));
+    let kept = bounded(given);
+    add_bounded(&kept, answer);
+    drop(kept);
 }
 
 // So many bytes 0.

@@ -1,6 +1,6 @@
 //! What is timed: a reply of many rows is written and read, and its bytes are copied.
 use std::alloc::{AllocError, Global};
-use up_bytes::{Bytes, Writer, copy_of};
+use up_bytes::{Bytes, FieldFault, Writer, copy_of};
 use up_case_lines::{Answer, Fault, bytes_of_digits, number_of};
 use up_wire::{ServerFrame, read_server, write_server};
 
@@ -20,64 +20,54 @@ pub fn timed_line(
     answer: &mut Answer,
 ) -> Result<(), Fault> {
     let bytes = message(alloc, number_of(count)?)?;
-    match read_server(alloc, bytes.as_slice()) {
-        Ok(frame) => answer.number(turned(alloc, keyword, &frame, &bytes)),
-        Err(_) => answer.word("unread"),
-    }
+    let read = read_server(alloc, bytes.as_slice());
+    add_turned(alloc, keyword, &read, &bytes, answer);
     Ok(())
 }
 
-fn turned(alloc: Global, keyword: &str, frame: &ServerFrame, bytes: &Bytes) -> u64 {
-    match keyword {
-        "writes" => writes(alloc, frame),
-        "reads" => reads(alloc, bytes),
-        "copies" => copies(alloc, bytes),
-        _ => bytes.len(),
+fn add_turned(
+    alloc: Global,
+    keyword: &str,
+    read: &Result<ServerFrame, FieldFault>,
+    bytes: &Bytes,
+    answer: &mut Answer,
+) {
+    match read {
+        Ok(_) if keyword == "makes" => answer.number(bytes.len()),
+        Ok(frame) => answer.number(turned(alloc, keyword, frame, bytes)),
+        Err(_) => answer.word("unread"),
     }
 }
 
-fn writes(alloc: Global, frame: &ServerFrame) -> u64 {
+// How many bytes come of all turns.
+fn turned(alloc: Global, keyword: &str, frame: &ServerFrame, bytes: &Bytes) -> u64 {
     let mut size = 0u64;
     for _ in 0..TURNS {
-        size = size.saturating_add(written(alloc, frame));
+        size = size.saturating_add(turn(alloc, keyword, frame, bytes));
     }
     size
 }
 
-fn written(alloc: Global, frame: &ServerFrame) -> u64 {
-    match write_server(alloc, frame) {
+// How many bytes come of a turn, none where there is no memory for it.
+fn turn(alloc: Global, keyword: &str, frame: &ServerFrame, bytes: &Bytes) -> u64 {
+    match keyword {
+        "writes" => len_of(write_server(alloc, frame)),
+        "reads" => len_read(alloc, bytes),
+        _ => len_of(copy_of(alloc, bytes.as_slice())),
+    }
+}
+
+fn len_of(made: Result<Bytes, AllocError>) -> u64 {
+    match made {
         Ok(bytes) => bytes.len(),
         Err(_) => 0,
     }
 }
 
-fn reads(alloc: Global, bytes: &Bytes) -> u64 {
-    let mut size = 0u64;
-    for _ in 0..TURNS {
-        size = size.saturating_add(read(alloc, bytes));
-    }
-    size
-}
-
-fn read(alloc: Global, bytes: &Bytes) -> u64 {
-    match read_server(alloc, bytes.as_slice()) {
-        Ok(_) => bytes.len(),
-        Err(_) => 0,
-    }
-}
-
-fn copies(alloc: Global, bytes: &Bytes) -> u64 {
-    let mut size = 0u64;
-    for _ in 0..TURNS {
-        size = size.saturating_add(copied(alloc, bytes));
-    }
-    size
-}
-
-fn copied(alloc: Global, bytes: &Bytes) -> u64 {
-    match copy_of(alloc, bytes.as_slice()) {
-        Ok(copy) => copy.len(),
-        Err(_) => 0,
+fn len_read(alloc: Global, bytes: &Bytes) -> u64 {
+    match read_server(alloc, bytes.as_slice()).err() {
+        None => bytes.len(),
+        Some(_) => 0,
     }
 }
 

@@ -19,8 +19,19 @@ pub fn can_line(
     let (user, right, path) = words.three()?;
     let right = Right::from_word(right.as_bytes()).ok_or(Fault::BadLine)?;
     let user = user_of(alloc, user)?;
+    add_verdict(alloc, tree, &user, right, path, answer)
+}
+
+fn add_verdict(
+    alloc: Global,
+    tree: &Tree,
+    user: &User,
+    right: Right,
+    path: &str,
+    answer: &mut Answer,
+) -> Result<(), Fault> {
     let path = tree.path(alloc, path)?;
-    let verdict = tree.allows(alloc, &user, right, &path)?;
+    let verdict = tree.allows(alloc, user, right, &path)?;
     answer.yes(verdict);
     Ok(())
 }
@@ -36,8 +47,22 @@ pub fn rights_line(
     let (user, path) = words.two()?;
     let user = user_of(alloc, user)?;
     let path = tree.path(alloc, path)?;
-    let rights = tree.rights(alloc, &user, &path)?;
-    if are_verdicts(alloc, tree, &user, &path, rights)? {
+    add_held(alloc, tree, &user, &path, answer)?;
+    Ok(())
+}
+
+// Adds the rights that the user has on the path.
+fn add_held(
+    alloc: Global,
+    tree: &Tree,
+    user: &User,
+    path: &Path,
+    answer: &mut Answer,
+) -> Result<(), AllocError>
+    requires { path.now.owner ≡ (facts_of tree.now.facts).owner }
+{
+    let rights = tree.rights(alloc, user, path)?;
+    if are_verdicts(alloc, tree, user, path, rights)? {
         add_rights(rights, answer);
     } else {
         answer.word("differ");

@@ -1,5 +1,6 @@
-//! Commands that ask what a tree says.
-use std::alloc::Global;
+//! Commands that ask what a tree says. Those that ask nothing are handed on.
+use super::{many, recs};
+use std::alloc::{AllocError, Global};
 use up_access::{AccessText, print_access};
 use up_case_lines::{Answer, Fault, Words, add_members, add_record, path_of};
 use up_disk::MemDisk;
@@ -8,79 +9,131 @@ use up_group::GroupText;
 use up_names::Path;
 use up_tree::{Node, TreeState};
 
-/// Does a command that asks, or answers `false` where it is none.
+/// Does a command of a tree.
 pub fn turn(
     alloc: Global,
-    tree: &TreeState<MemDisk>,
+    tree: &mut TreeState<MemDisk>,
+    keyword: &str,
     mut words: Words<'_>,
     answer: &mut Answer,
-) -> Result<bool, Fault> {
-    match words.word()? {
-        "node" => add_node(tree.node(&path_of(alloc, words.one()?)?), answer),
-        "children" => add_children(tree, &path_of(alloc, words.one()?)?, answer),
-        "rec" => rec_line(alloc, tree, words, answer)?,
-        "snapat" => add_place(tree.snap_at(words.last_number()?), answer),
-        "before" => add_place(tree.change_before(words.last_number()?), answer),
-        "under" => under_line(alloc, tree, words, answer)?,
-        keyword => return counted(alloc, tree, keyword, words, answer),
-    }
-    Ok(true)
-}
-
-// A command that counts something, or one about the texts of control files.
-fn counted(
-    alloc: Global,
-    tree: &TreeState<MemDisk>,
-    keyword: &str,
-    words: Words<'_>,
-    answer: &mut Answer,
-) -> Result<bool, Fault> {
+) -> Result<(), Fault> {
     match keyword {
         "count" => answer.number(tree.position()),
         "bytes" => answer.number(tree.bytes()),
         "owner" => answer.coded(tree.owner().text().as_bytes()),
         "snaps" => add_snaps(tree, answer),
-        _ => return text_turn(alloc, tree, keyword, words, answer),
+        "rec" => add_rec(alloc, tree, words.last_number()?, answer),
+        "snapat" => add_place(tree.snap_at(words.last_number()?), answer),
+        "before" => add_place(tree.change_before(words.last_number()?), answer),
+        "node" | "children" | "access" | "group" | "nearest" | "under" | "kids" => {
+            return path_line(alloc, tree, keyword, words, answer);
+        }
+        "grow" | "nodes" => return many::turn(alloc, tree, keyword, words, answer),
+        _ => return recs::turn(alloc, tree, keyword, words, answer),
     }
-    Ok(true)
+    Ok(())
 }
 
-// `access DIR`, `group PATH`: a text as it is now; `access DIR N`, `group PATH N`, `nearest PATH N`: after the first N records.
-fn text_turn(
+// The times of the snapshots, in order.
+fn add_snaps(tree: &TreeState<MemDisk>, answer: &mut Answer) {
+    answer.word("snaps");
+    for i in 0..tree.position() {
+        if let Some(time) = tree.snap_time(i) {
+            answer.number(time);
+        }
+    }
+}
+
+// `rec N`: record N.
+fn add_rec(alloc: Global, tree: &TreeState<MemDisk>, n: u64, answer: &mut Answer) {
+    match tree.rec_at(n) {
+        Some(rec) => add_record(alloc, rec, answer),
+        None => answer.word("none"),
+    }
+}
+
+fn add_place(found: Option<u64>, answer: &mut Answer) {
+    match found {
+        Some(position) => answer.number(position),
+        None => answer.word("none"),
+    }
+}
+
+// A command whose next word is a path, with or without a number behind.
+fn path_line(
     alloc: Global,
     tree: &TreeState<MemDisk>,
     keyword: &str,
     mut words: Words<'_>,
     answer: &mut Answer,
-) -> Result<bool, Fault> {
-    if !matches!(keyword, "access" | "group" | "nearest") {
-        return Ok(false);
-    }
+) -> Result<(), Fault> {
     let path = path_of(alloc, words.word()?)?;
     match words.rest() {
-        Some(_) => add_text_at(tree, keyword, &path, words.last_number()?, answer),
-        None => add_text_now(tree, keyword, &path, answer),
-    }
-    Ok(true)
-}
-
-fn add_text_now(tree: &TreeState<MemDisk>, keyword: &str, path: &Path, answer: &mut Answer) {
-    if keyword == "access" {
-        add_access(tree.access(path), answer);
-    } else {
-        add_group(tree.group(path), answer);
+        Some(_) => add_at(tree, keyword, &path, words.last_number()?, answer),
+        None => add_now(tree, keyword, &path, answer),
     }
 }
 
-fn add_text_at(tree: &TreeState<MemDisk>, keyword: &str, path: &Path, n: u64, answer: &mut Answer) {
-    if n > tree.position() {
-        return answer.word("no record");
-    }
+// `node PATH`, `children DIR`, `access DIR`, `group PATH`: what there is now.
+fn add_now(
+    tree: &TreeState<MemDisk>,
+    keyword: &str,
+    path: &Path,
+    answer: &mut Answer,
+) -> Result<(), Fault> {
     match keyword {
+        "node" => add_node(tree.node(path), answer),
+        "children" => add_children(tree, path, answer),
+        "access" => add_access(tree.access(path), answer),
+        "group" => add_group(tree.group(path), answer),
+        _ => return Err(Fault::BadLine),
+    }
+    Ok(())
+}
+
+// `kids DIR N`: of the children 0 to N - 1 of a directory, how many there are; `under PATH N`: the positions above N of the records
+// that change a path under this one; `access DIR N`, `group PATH N`, `nearest PATH N`: a text after the first N records.
+fn add_at(
+    tree: &TreeState<MemDisk>,
+    keyword: &str,
+    path: &Path,
+    n: u64,
+    answer: &mut Answer,
+) -> Result<(), Fault> {
+    match keyword {
+        "kids" => answer.number(kids(tree, path, n)),
+        "under" => add_under(tree, path, n, answer)?,
+        _ if n > tree.position() => answer.word("no record"),
         "access" => add_access(tree.access_at(path, n), answer),
         "group" => add_group(tree.group_at(path, n), answer),
-        _ => add_nearest(tree.nearest_at(path, n), answer),
+        "nearest" => add_nearest(tree.nearest_at(path, n), answer),
+        _ => return Err(Fault::BadLine),
     }
+    Ok(())
+}
+
+fn kids(tree: &TreeState<MemDisk>, dir: &Path, count: u64) -> u64 {
+    let mut found: u64 = 0;
+    for i in 0..count {
+        if tree.child(dir, i).is_some() {
+            found = found.saturating_add(1);
+        }
+    }
+    found
+}
+
+fn add_under(
+    tree: &TreeState<MemDisk>,
+    path: &Path,
+    n: u64,
+    answer: &mut Answer,
+) -> Result<(), AllocError> {
+    answer.word("under");
+    let found = tree.changes_under(path, n)?;
+    for position in found.as_slice() {
+        answer.number(*position);
+    }
+    Ok(())
 }
 
 fn add_access(found: Option<&AccessText>, answer: &mut Answer) {
@@ -139,51 +192,4 @@ fn add_children(tree: &TreeState<MemDisk>, dir: &Path, answer: &mut Answer) {
             answer.coded(path.as_str().as_bytes());
         }
     }
-}
-
-// The times of the snapshots, in order.
-fn add_snaps(tree: &TreeState<MemDisk>, answer: &mut Answer) {
-    answer.word("snaps");
-    for i in 0..tree.position() {
-        if let Some(time) = tree.snap_time(i) {
-            answer.number(time);
-        }
-    }
-}
-
-// `rec N`: record N.
-fn rec_line(
-    alloc: Global,
-    tree: &TreeState<MemDisk>,
-    mut words: Words<'_>,
-    answer: &mut Answer,
-) -> Result<(), Fault> {
-    match tree.rec_at(words.last_number()?) {
-        Some(rec) => add_record(alloc, rec, answer),
-        None => answer.word("none"),
-    }
-    Ok(())
-}
-
-fn add_place(found: Option<u64>, answer: &mut Answer) {
-    match found {
-        Some(position) => answer.number(position),
-        None => answer.word("none"),
-    }
-}
-
-// `under PATH N`: the positions above N of the records that change a path under this one.
-fn under_line(
-    alloc: Global,
-    tree: &TreeState<MemDisk>,
-    mut words: Words<'_>,
-    answer: &mut Answer,
-) -> Result<(), Fault> {
-    let path = path_of(alloc, words.word()?)?;
-    let found = tree.changes_under(&path, words.last_number()?)?;
-    answer.word("under");
-    for position in found.as_slice() {
-        answer.number(*position);
-    }
-    Ok(())
 }

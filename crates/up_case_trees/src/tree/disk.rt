@@ -3,8 +3,9 @@ ghost use Rattle.std.specs.Prelude.{◌≡◌, ◌≤◌, false, length};
 ghost use Rattle.up_journal.specs.Journal.{AreLimits};
 ghost use Rattle.up_policy.specs.Trees.{owns_snapshots};
 
-use super::Stage;
-use std::alloc::Global;
+use super::{Stage, empty_disk};
+use std::alloc::{AllocError, Global};
+use std::mem;
 use up_case_asks::{WIDE, owner_of};
 use up_case_lines::{Answer, Fault, Words, bytes_of};
 use up_case_logs::{add_appended, add_open_fault, limits_of};
@@ -15,85 +16,88 @@ use up_names::User;
 use up_refs::Reference;
 use up_tree::TreeState;
 
-/// Does one command of a disk.
-pub fn turn(
+/// `open OWNER R D L`: the number of records, or why the disk is refused. The limits are R records, a device of D bytes and payloads
+/// of L bytes.
+pub fn open_line(
     alloc: Global,
-    disk: MemDisk,
+    stage: &mut Stage,
     mut words: Words<'_>,
     answer: &mut Answer,
-) -> Result<Stage, Fault> {
-    match words.word()? {
-        "open" => open_line(alloc, disk, words, answer),
-        "fail" => fail_line(alloc, words, answer),
-        "crash" => crash_line(&disk, words, answer),
-        "append" => append_line(alloc, disk, words, answer),
-        "trees" => trees_line(alloc, disk, words, answer),
-        "digest" => digest_line(alloc, disk, words, answer),
-        _ => Err(Fault::BadLine),
-    }
-}
-
-// `open OWNER R D L`: the number of records, or why the disk is refused. The limits are R records, a device of D bytes and payloads
-// of L bytes.
-fn open_line(
-    alloc: Global,
-    disk: MemDisk,
-    mut words: Words<'_>,
-    answer: &mut Answer,
-) -> Result<Stage, Fault> {
-    let owner = owner_of(alloc, words.word()?)?;
+) -> Result<(), Fault> {
+    let owner = words.word()?;
     let limits = limits_of(words)?;
-    Ok(open(alloc, disk, owner, limits, answer))
+    let owner = owner_of(alloc, owner)?;
+    open(alloc, stage, owner, limits, answer);
+    Ok(())
 }
 
 // Opens a tree, or keeps the disk that is handed back.
-fn open(alloc: Global, disk: MemDisk, owner: User, limits: Limits, answer: &mut Answer) -> Stage
+fn open(alloc: Global, stage: &mut Stage, owner: User, limits: Limits, answer: &mut Answer)
     requires limits { AreLimits limits }
     requires plain { owns_snapshots owner ≡ false }
 {
+    let disk = mem::replace(stage.disk(), empty_disk(alloc));
     match TreeState::open(alloc, disk, owner, limits) {
         Ok(tree) => {
             answer.word("open");
             answer.number(tree.position());
-            Stage::Tree(tree)
+            drop(stage.tree.replace(tree));
         }
         Err(fault) => {
             add_open_fault(fault.why, answer);
-            Stage::Disk(fault.disk)
+            drop(mem::replace(&mut stage.disk, fault.disk));
         }
     }
 }
 
-// `fail N M`: an empty disk of which the calls N to N + M - 1 fail.
-fn fail_line(alloc: Global, mut words: Words<'_>, answer: &mut Answer) -> Result<Stage, Fault> {
-    let (first, count) = words.two_numbers()?;
-    answer.word("ok");
-    let mut fails = Items::new(alloc);
-    for n in 0..count {
-        fails.push(first.saturating_add(n))?;
-    }
-    Ok(Stage::Disk(MemDisk::new(alloc, fails)))
-}
-
-// `crash N`: the disk is the image N from now on.
-fn crash_line(disk: &MemDisk, mut words: Words<'_>, answer: &mut Answer) -> Result<Stage, Fault> {
-    let choice = words.last_number()?;
-    answer.word("ok");
-    Ok(Stage::Disk(disk.image(choice)?))
-}
-
-// `append BYTES`: a payload is appended that may be no record's.
-fn append_line(
+/// `fail N M`: an empty disk of which the calls N to N + M - 1 fail.
+pub fn fail_line(
     alloc: Global,
-    disk: MemDisk,
+    disk: &mut MemDisk,
     mut words: Words<'_>,
     answer: &mut Answer,
-) -> Result<Stage, Fault> {
+) -> Result<(), Fault> {
+    let (first, count) = words.two_numbers()?;
+    let fails = numbers_from(alloc, first, count)?;
+    drop(mem::replace(disk, MemDisk::new(alloc, fails)));
+    answer.word("ok");
+    Ok(())
+}
+
+fn numbers_from(alloc: Global, first: u64, count: u64) -> Result<Items<u64>, AllocError> {
+    let mut numbers = Items::new(alloc);
+    for n in 0..count {
+        numbers.push(first.saturating_add(n))?;
+    }
+    Ok(numbers)
+}
+
+/// `crash N`: the disk is the image N from now on.
+pub fn crash_line(
+    disk: &mut MemDisk,
+    mut words: Words<'_>,
+    answer: &mut Answer,
+) -> Result<(), Fault> {
+    let image = disk.image(words.last_number()?)?;
+    drop(mem::replace(disk, image));
+    answer.word("ok");
+    Ok(())
+}
+
+/// `append BYTES`: a payload is appended that may be no record's.
+pub fn append_line(
+    alloc: Global,
+    disk: &mut MemDisk,
+    mut words: Words<'_>,
+    answer: &mut Answer,
+) -> Result<(), Fault> {
     let payload = bytes_of(alloc, words.one()?)?;
     if payload.len() > WIDE.largest {
         return Err(Fault::BadLine);
     }
-    Ok(Stage::Disk(append(alloc, disk, payload.as_slice(), answer)))
+    let before = mem::replace(disk, empty_disk(alloc));
+    drop(mem::replace(disk, append(alloc, before, payload.as_slice(), answer)));
+    Ok(())
 }
 
 fn append(alloc: Global, disk: MemDisk, payload: &[u8], answer: &mut Answer) -> MemDisk
@@ -111,18 +115,18 @@ fn append(alloc: Global, disk: MemDisk, payload: &[u8], answer: &mut Answer) -> 
     }
 }
 
-// `trees OWNER`: of a tree over each of the crash images 0 to 7 the number of records, or why it is refused.
-fn trees_line(
+/// `trees OWNER`: of a tree over each of the crash images 0 to 7 the number of records, or why it is refused.
+pub fn trees_line(
     alloc: Global,
-    disk: MemDisk,
+    disk: &MemDisk,
     mut words: Words<'_>,
     answer: &mut Answer,
-) -> Result<Stage, Fault> {
+) -> Result<(), Fault> {
     let owner = words.one()?;
     for choice in 0..8 {
-        add_image(alloc, &disk, owner, choice, answer)?;
+        add_image(alloc, disk, owner, choice, answer)?;
     }
-    Ok(Stage::Disk(disk))
+    Ok(())
 }
 
 fn add_image(
@@ -133,7 +137,13 @@ fn add_image(
     answer: &mut Answer,
 ) -> Result<(), Fault> {
     let owner = owner_of(alloc, owner)?;
-    let image = disk.image(choice)?;
+    add_opened(alloc, disk.image(choice)?, owner, answer);
+    Ok(())
+}
+
+fn add_opened(alloc: Global, image: MemDisk, owner: User, answer: &mut Answer)
+    requires { owns_snapshots owner ≡ false }
+{
     match TreeState::open(alloc, image, owner, WIDE) {
         Ok(tree) => {
             answer.number(tree.position());
@@ -144,26 +154,10 @@ fn add_image(
             drop(fault.disk);
         }
     }
-    Ok(())
 }
 
-// `digest`: the digest of all bytes of the disk.
-fn digest_line(
-    alloc: Global,
-    mut disk: MemDisk,
-    words: Words<'_>,
-    answer: &mut Answer,
-) -> Result<Stage, Fault> {
-    match add_digest(alloc, &mut disk, words, answer) {
-        Ok(()) => Ok(Stage::Disk(disk)),
-        Err(fault) => {
-            drop(disk);
-            Err(fault)
-        }
-    }
-}
-
-fn add_digest(
+/// `digest`: the digest of all bytes of the disk.
+pub fn digest_line(
     alloc: Global,
     disk: &mut MemDisk,
     words: Words<'_>,

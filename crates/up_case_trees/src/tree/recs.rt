@@ -1,36 +1,30 @@
 //! Commands that add a record to a tree's log.
 use std::alloc::{AllocError, Global};
-use up_bytes::{Bytes, FieldFault};
+use up_bytes::FieldFault;
 use up_case_lines::{Answer, Fault, Words, bytes_of, bytes_of_digits, number_of, path_of};
 use up_case_logs::add_appended;
 use up_disk::MemDisk;
 use up_entry::{Attr, Entry, Kind, Rec, read_rec, rec_size};
 use up_lists::Items;
-use up_names::Path;
 use up_nodes::fits_is_told_by_rules;
 use up_tree::TreeState;
 
-/// Does a command that adds a record, or that settles the log; answers `false` where it is none.
+/// Does a command that adds a record, or that settles the log.
 pub fn turn(
     alloc: Global,
     tree: &mut TreeState<MemDisk>,
-    mut words: Words<'_>,
+    keyword: &str,
+    words: Words<'_>,
     answer: &mut Answer,
-) -> Result<bool, Fault> {
-    let keyword = words.word()?;
+) -> Result<(), Fault> {
     if keyword == "resolve" {
-        answer.word(if tree.resolve().is_ok() {
-            "ok"
-        } else {
-            "fault"
-        });
-        return Ok(true);
+        let resolved = tree.resolve().is_ok();
+        answer.word(if resolved { "ok" } else { "fault" });
+        return Ok(());
     }
-    match rec_of(alloc, keyword, words)? {
-        Some(rec) => add(tree, rec, answer),
-        None => return Ok(false),
-    }
-    Ok(true)
+    let rec = rec_of(alloc, keyword, words)?;
+    add(tree, rec, answer);
+    Ok(())
 }
 
 /// Adds a record where it fits: `ok` and its position, or `unfit`, or why not.
@@ -39,123 +33,91 @@ pub fn add(tree: &mut TreeState<MemDisk>, rec: Rec, answer: &mut Answer) {
     let _records = tree.position();
     match tree.fits(&rec) {
         Ok(true) if rec_size(&rec) <= tree.largest() => add_appended(tree.apply(rec), answer),
-        Ok(true) => answer.word("too large"),
-        Ok(false) => answer.word("unfit"),
-        Err(AllocError) => answer.word("out of memory"),
+        fitting => {
+            drop(rec);
+            answer.word(refusal(fitting));
+        }
     }
 }
 
-// The record that a command adds, or `None` where it adds none.
-fn rec_of(alloc: Global, keyword: &str, words: Words<'_>) -> Result<Option<Rec>, Fault> {
+// Why a record is not added, by whether it fits.
+fn refusal(fitting: Result<bool, AllocError>) -> &'static str {
+    match fitting {
+        Ok(true) => "too large",
+        Ok(false) => "unfit",
+        Err(AllocError) => "out of memory",
+    }
+}
+
+// The record that a command adds.
+fn rec_of(alloc: Global, keyword: &str, mut words: Words<'_>) -> Result<Rec, Fault> {
     match keyword {
         "dir" => dir_rec(alloc, words),
         "file" => file_rec(alloc, words),
         "link" => link_rec(alloc, words),
-        "delete" | "snap" | "record" => short_rec(alloc, keyword, words),
-        _ => Ok(None),
-    }
-}
-
-// A command of one word more.
-fn short_rec(alloc: Global, keyword: &str, mut words: Words<'_>) -> Result<Option<Rec>, Fault> {
-    let word = words.one()?;
-    match keyword {
-        "delete" => Ok(Some(Rec::Delete(path_of(alloc, word)?))),
-        "snap" => Ok(Some(Rec::Snap(number_of(word)?))),
-        _ => spelled_rec(alloc, word),
+        "delete" => Ok(Rec::Delete(path_of(alloc, words.one()?)?)),
+        "snap" => Ok(Rec::Snap(words.last_number()?)),
+        "record" => spelled_rec(alloc, words.one()?),
+        _ => Err(Fault::BadLine),
     }
 }
 
 // `dir PATH SEQUENCE`: puts a directory.
-fn dir_rec(alloc: Global, mut words: Words<'_>) -> Result<Option<Rec>, Fault> {
+fn dir_rec(alloc: Global, mut words: Words<'_>) -> Result<Rec, Fault> {
     let (path, sequence) = words.two()?;
-    let sequence = number_of(sequence)?;
-    let path = path_of(alloc, path)?;
-    put(
-        alloc,
-        Made::new(path, Kind::Directory, sequence),
-        Items::new(alloc),
-    )
+    let entry = entry_of(alloc, path, Kind::Directory, number_of(sequence)?)?;
+    Ok(Rec::Put(entry, Items::new(alloc)))
 }
 
 // `file PATH SEQUENCE TEXT`: puts a file, with the text of a control file.
-fn file_rec(alloc: Global, mut words: Words<'_>) -> Result<Option<Rec>, Fault> {
+fn file_rec(alloc: Global, mut words: Words<'_>) -> Result<Rec, Fault> {
     let (path, sequence, text) = words.three()?;
     let sequence = number_of(sequence)?;
-    let path = path_of(alloc, path)?;
     let text = bytes_of(alloc, text)?;
-    put(alloc, Made::new(path, Kind::File, sequence), text)
+    Ok(Rec::Put(entry_of(alloc, path, Kind::File, sequence)?, text))
 }
 
 // `link PATH SEQUENCE TARGET`: puts a link.
-fn link_rec(alloc: Global, mut words: Words<'_>) -> Result<Option<Rec>, Fault> {
+fn link_rec(alloc: Global, mut words: Words<'_>) -> Result<Rec, Fault> {
     let (path, sequence, target) = words.three()?;
     let sequence = number_of(sequence)?;
-    let path = path_of(alloc, path)?;
     let target = path_of(alloc, target)?;
-    put(alloc, Made::link(path, sequence, target), Items::new(alloc))
-}
-
-/// What a command says of an entry.
-#[derive(Drop)]
-pub struct Made {
-    path: Path,
-    kind: Kind,
-    link: Option<Path>,
-    sequence: u64,
-}
-
-impl Made {
-    /// An entry that is no link.
-    pub fn new(path: Path, kind: Kind, sequence: u64) -> Made {
-        Made {
-            path,
-            kind,
-            link: None,
-            sequence,
-        }
-    }
-
-    fn link(path: Path, sequence: u64, target: Path) -> Made {
-        Made {
-            path,
-            kind: Kind::Link,
-            link: Some(target),
-            sequence,
-        }
-    }
-}
-
-fn put(alloc: Global, made: Made, text: Bytes) -> Result<Option<Rec>, Fault> {
-    let entry = entry_of(alloc, made)?;
-    Ok(Some(Rec::Put(entry, text)))
+    let mut entry = entry_of(alloc, path, Kind::Link, sequence)?;
+    drop(entry.link.replace(target));
+    Ok(Rec::Put(entry, Items::new(alloc)))
 }
 
 /// The entry, plain and without blocks, written by the owner of its path.
-pub fn entry_of(alloc: Global, made: Made) -> Result<Entry, AllocError> {
+pub fn entry_of(alloc: Global, path: &str, kind: Kind, sequence: u64) -> Result<Entry, Fault> {
+    let name = path_of(alloc, path)?;
+    let writer = name.owner().clone()?;
+    let signed_name = name.clone()?;
     Ok(Entry {
-        signed_name: made.path.clone()?,
+        signed_name,
         packing: 1,
         time: 0,
         blocks: Items::new(alloc),
         packdata: Items::new(alloc),
-        link: made.link,
-        writer: made.path.owner().clone()?,
-        name: made.path,
+        link: None,
+        writer,
+        name,
         attr: Attr {
-            kind: made.kind,
+            kind,
             incomplete: false,
         },
-        sequence: made.sequence,
+        sequence,
     })
 }
 
 // `record HEX`: the record that these bytes spell.
-fn spelled_rec(alloc: Global, digits: &str) -> Result<Option<Rec>, Fault> {
+fn spelled_rec(alloc: Global, digits: &str) -> Result<Rec, Fault> {
     let bytes = bytes_of_digits(alloc, digits)?;
-    match read_rec(alloc, bytes.as_slice()) {
-        Ok(rec) => Ok(Some(rec)),
-        Err(FieldFault::OutOfMemory) => Err(Fault::OutOfMemory),
-        Err(FieldFault::Short | FieldFault::Spelling(_)) => Err(Fault::BadLine),
+    read_rec(alloc, bytes.as_slice()).map_err(read_fault)
+}
+
+fn read_fault(fault: FieldFault) -> Fault {
+    match fault {
+        FieldFault::OutOfMemory => Fault::OutOfMemory,
+        FieldFault::Short | FieldFault::Spelling(_) => Fault::BadLine,
     }
 }

@@ -3,69 +3,52 @@ ghost use Rattle.std.specs.Prelude.{◌≡◌, IfOk};
 
 use std::alloc::Global;
 use up_case_asks::path_in;
-use up_case_lines::{Answer, Fault, Words, path_of, text_of, user_of};
+use up_case_lines::{Answer, Fault, Words, path_of, text_of};
 use up_disk::MemDisk;
 use up_entry::Entry;
 use up_list::{Onlooker, TreeLook, first_link, glob, lookup, which_access};
-use up_names::User;
+use up_names::{Path, User};
 use up_pattern::{Pattern, parse_pattern};
 use up_policy::Loaded;
 use up_rights::Right;
 use up_tree::TreeState;
-use up_wire::{Done, Reply};
+use up_wire::{Done, Reply, Row};
 
-/// Does a line that asks, or answers `false` where it is none.
-pub fn turn(
+/// `glob USER PATTERN`, `lookup USER PATH`, `which USER PATH`: the reply to Glob, to Lookup, or to WhichAccess.
+pub fn look_line(
     alloc: Global,
     tree: &TreeState<MemDisk>,
     loaded: &Loaded,
-    mut words: Words<'_>,
-    answer: &mut Answer,
-) -> Result<bool, Fault> {
-    match words.word()? {
-        "glob" => glob_line(alloc, tree, loaded, words, answer)?,
-        "lookup" => look_line(alloc, tree, loaded, true, words, answer)?,
-        "which" => look_line(alloc, tree, loaded, false, words, answer)?,
-        "met" => met_line(alloc, tree, true, words, answer)?,
-        "above" => met_line(alloc, tree, false, words, answer)?,
-        _ => return Ok(false),
-    }
-    Ok(true)
-}
-
-// `glob USER PATTERN`: the reply to Glob.
-fn glob_line(
-    alloc: Global,
-    tree: &TreeState<MemDisk>,
-    loaded: &Loaded,
+    user: &User,
+    keyword: &str,
     mut words: Words<'_>,
     answer: &mut Answer,
 ) -> Result<(), Fault> {
-    let (user, asked) = words.two()?;
-    let user = user_of(alloc, user)?;
-    let pattern = pattern_in(alloc, tree.owner(), asked)?;
-    add_seen(&glob(alloc, tree, loaded, &user, &pattern), answer);
-    Ok(())
-}
-
-// `lookup USER PATH`, `which USER PATH`: the reply to Lookup, or else to WhichAccess.
-fn look_line(
-    alloc: Global,
-    tree: &TreeState<MemDisk>,
-    loaded: &Loaded,
-    is_lookup: bool,
-    mut words: Words<'_>,
-    answer: &mut Answer,
-) -> Result<(), Fault> {
-    let (user, asked) = words.two()?;
-    let user = user_of(alloc, user)?;
-    let look = TreeLook::new(tree.memory(), loaded, &user);
-    let reply = reply_to(alloc, &look, is_lookup, asked)?;
+    let asked = words.one()?;
+    let reply = if keyword == "glob" {
+        glob_reply(alloc, tree, loaded, user, asked)?
+    } else {
+        let look = TreeLook::new(tree.memory(), loaded, user);
+        path_reply(alloc, &look, keyword == "lookup", asked)?
+    };
     add_seen(&reply, answer);
+    drop(reply);
     Ok(())
 }
 
-fn reply_to(
+fn glob_reply(
+    alloc: Global,
+    tree: &TreeState<MemDisk>,
+    loaded: &Loaded,
+    user: &User,
+    asked: &str,
+) -> Result<Reply, Fault> {
+    let pattern = pattern_in(alloc, tree.owner(), asked)?;
+    Ok(glob(alloc, tree, loaded, user, &pattern))
+}
+
+// The reply to Lookup, or else to WhichAccess.
+fn path_reply(
     alloc: Global,
     look: &TreeLook<'_>,
     is_lookup: bool,
@@ -80,20 +63,26 @@ fn reply_to(
     Ok(reply?)
 }
 
-// `met PATH`, `above PATH`: the link on the way to a path, the path itself included, or else not.
-fn met_line(
+/// `met PATH`, `above PATH`: the link on the way to a path, the path itself included, or else not.
+pub fn met_line(
     alloc: Global,
     tree: &TreeState<MemDisk>,
-    itself: bool,
+    keyword: &str,
     mut words: Words<'_>,
     answer: &mut Answer,
 ) -> Result<(), Fault> {
     let path = path_of(alloc, words.one()?)?;
-    match first_link(tree, &path, itself)? {
+    let found = first_link(tree, &path, keyword == "met")?;
+    add_link(&found, answer);
+    drop(found);
+    Ok(())
+}
+
+fn add_link(found: &Option<Path>, answer: &mut Answer) {
+    match found {
         Some(link) => answer.coded(link.as_str().as_bytes()),
         None => answer.word("none"),
     }
-    Ok(())
 }
 
 // The pattern that a word spells, of paths in the tree of this owner.
@@ -105,6 +94,7 @@ fn pattern_in(alloc: Global, owner: &User, word: &str) -> Result<Pattern, Fault>
         return Err(Fault::BadLine);
     };
     if pattern.owner() != owner {
+        drop(pattern);
         return Err(Fault::BadLine);
     }
     Ok(pattern)
@@ -142,21 +132,19 @@ fn add_done(done: &Done, answer: &mut Answer) {
                 None => answer.word("none"),
             }
         }
-        Done::Rows(rows) => {
-            answer.word("rows");
-            for row in rows.as_slice() {
-                add_entry(&row.entry, answer);
-                add_rest(row.rest, answer);
-            }
-        }
+        Done::Rows(rows) => add_rows(rows.as_slice(), answer),
         _ => answer.word("other"),
     }
 }
 
-fn add_rest(rest: u64, answer: &mut Answer) {
-    if rest > 0 {
-        answer.word("+");
-        answer.number(rest);
+fn add_rows(rows: &[Row], answer: &mut Answer) {
+    answer.word("rows");
+    for row in rows {
+        add_entry(&row.entry, answer);
+        if row.rest > 0 {
+            answer.word("+");
+            answer.number(row.rest);
+        }
     }
 }
 
