@@ -26,16 +26,6 @@ pub fn replied(reply: Result<Reply, AllocError>) -> Reply
     }
 }
 
-/// The reply to a request that changes nothing, where it is already no longer than one may be.
-pub fn told(reply: Result<Reply, AllocError>) -> Reply
-    ensures { (meant : Reply) → IfOk reply (λ reply. reply ≡ meant) → IsTold meant result }
-{
-    match reply {
-        Ok(reply) => reply,
-        Err(_) => Reply::OutOfMemory,
-    }
-}
-
 /// Adds the record to which a change leads, or answers the refusal.
 pub fn change<D: Disk>(
     state: &mut TreeState<D>,

@@ -1,9 +1,11 @@
 //! Put: the refusal, or the record that is added.
 ghost use Rattle.std.specs.Prelude.{◌≡◌, ◌+◌, IfOk, Some, length};
+ghost use Rattle.std.specs.Prelude as std;
 ghost use Rattle.std.specs.Option.{option_copied};
 ghost use Rattle.up_answers.specs.Puts.{holds, is_in_file, is_new, lacks_parent, place_refusal, put_outcome, sequence_refusal, wanted};
 ghost use Rattle.up_list.specs.Changes.{right_to_put, unless};
 ghost use Rattle.up_entry.specs.FixedForm.{HasFixedForm};
+ghost use Rattle.up_entry.specs.declared.records.Rec.TheVariants as rec;
 ghost use Rattle.up_replay.specs.Fits.{Fits};
 ghost use Rattle.up_changes.specs.Puts.{may_put, recorded};
 ghost use Rattle.up_changes.specs.Trees.{look_in};
@@ -12,6 +14,7 @@ ghost use Rattle.up_replay.specs.Trees.{Tree, is_file, kind_of, node_at, tree_of
 
 use crate::texts::text_put;
 use std::alloc::{AllocError, Global};
+use up_bytes::Bytes;
 use up_entry::{Checked, Entry, Fetch, Kind, Location, Rec};
 use up_list::{TreeLook, check};
 use up_names::{Path, User};
@@ -62,10 +65,17 @@ fn put_leads(
         ≡ put_outcome (look_in tree.now loaded.now user.now) (length tree.now.log)
         fetched.now put) }
 {
-    if let Some(refusal) = refusal_of(alloc, tree, loaded, user, &put)? {
-        return Ok(Err(refusal));
+    match refusal_of(alloc, tree, loaded, user, &put) {
+        Ok(None) => record_of(alloc, tree, fetched, put.entry),
+        Ok(Some(refusal)) => {
+            drop(put);
+            Ok(Err(refusal))
+        }
+        Err(fault) => {
+            drop(put);
+            Err(fault)
+        }
     }
-    record_of(alloc, tree, fetched, put.entry)
 }
 
 /// The refusal of a Put by links and rights, and then by what stands at the path and above it, where there is one.
@@ -100,10 +110,31 @@ fn record_of(
     ensures { IfOk result (λ led. led
         ≡ recorded tree.now.owner (length tree.now.log) fetched.now entry) }
 {
-    let position = next_position(tree.position())?;
-    match text_put(alloc, tree.owner(), fetched, &entry)? {
-        Ok(text) => Ok(Ok(Rec::Put(at_position(entry, position), text))),
-        Err(refusal) => Ok(Err(refusal)),
+    match text_put(alloc, tree.owner(), fetched, &entry) {
+        Ok(Ok(text)) => record_with(tree, entry, text),
+        Ok(Err(refusal)) => {
+            drop(entry);
+            Ok(Err(refusal))
+        }
+        Err(fault) => {
+            drop(entry);
+            Err(fault)
+        }
+    }
+}
+
+/// The record of an entry with its text, behind those that the tree has.
+fn record_with(tree: &MemTree, entry: Entry, text: Bytes) -> Result<Result<Rec, Reply>, AllocError>
+    ensures { IfOk result (λ led. led
+        ≡ std.Ok (rec.Put (record entry { sequence = length tree.now.log + 1 }) text)) }
+{
+    match next_position(tree.position()) {
+        Ok(position) => Ok(Ok(Rec::Put(at_position(entry, position), text))),
+        Err(fault) => {
+            drop(entry);
+            drop(text);
+            Err(fault)
+        }
     }
 }
 

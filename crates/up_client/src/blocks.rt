@@ -64,7 +64,7 @@ fn fetch_here<A: Ask>(
 {
     let digits = block.location.reference.text(alloc)?;
     let request = Request::Get(Bytes::from_vec(digits.into_bytes()));
-    let reply = reply_to(alloc, ask, &request)?;
+    let reply = reply_to(alloc, ask, request)?;
     block_from(i, block, reply)
 }
 

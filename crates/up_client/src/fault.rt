@@ -9,7 +9,7 @@ use up_refs::Reference;
 use up_wire::Reply;
 
 /// Why a file could not be got or put. Blocks are counted from 0.
-#[derive(Debug, Drop, PartialEq, Eq)]
+#[derive(Debug, Drop)]
 pub enum ClientFault {
     /// A server refused, by this reply.
     Refused(Reply),

@@ -1,5 +1,5 @@
 //! To get a file.
-ghost use Rattle.std.specs.Prelude.{◌≡◌, IfOk, IsErrOf};
+ghost use Rattle.std.specs.Prelude.{◌≡◌, IfOk, IfSome, IsErrOf, Err, None, Ok};
 ghost use Rattle.up_faults.specs.Counts.{HasCause};
 ghost use Rattle.up_names.specs.PathNames.{canonical};
 ghost use Rattle.up_client.specs.declared.fault.ClientFault.TheVariants as client_fault;
@@ -61,18 +61,35 @@ fn blocks_in(done: Done) -> Result<Items<Block>, ClientFault>
 {
     match done {
         Done::Entry(entry) => file_blocks(entry),
-        _ => Err(ClientFault::Odd),
+        other => {
+            drop(other);
+            Err(ClientFault::Odd)
+        }
     }
 }
 
 fn file_blocks(entry: Entry) -> Result<Items<Block>, ClientFault>
     ensures { result ≡ file_blocks entry.attr.kind entry }
 {
+    match why_unread(&entry) {
+        Some(fault) => {
+            drop(entry);
+            Err(fault)
+        }
+        None => Ok(entry.blocks),
+    }
+}
+
+// The first reason against reading what an entry stands for.
+fn why_unread(entry: &Entry) -> Option<ClientFault>
+    ensures some { IfSome result (λ fault. file_blocks entry.now.attr.kind entry.now ≡ Err fault) }
+    ensures none { result ≡ None → file_blocks entry.now.attr.kind entry.now ≡ Ok entry.now.blocks }
+{
     match entry.attr.kind {
-        Kind::Link => Err(ClientFault::Odd),
-        Kind::Directory => Err(ClientFault::IsDir),
-        Kind::File if entry.attr.incomplete => Err(ClientFault::NoRead),
-        Kind::File if entry.packing != 1 => Err(ClientFault::Opaque(entry.packing)),
-        Kind::File => Ok(entry.blocks),
+        Kind::Link => Some(ClientFault::Odd),
+        Kind::Directory => Some(ClientFault::IsDir),
+        Kind::File if entry.attr.incomplete => Some(ClientFault::NoRead),
+        Kind::File if entry.packing != 1 => Some(ClientFault::Opaque(entry.packing)),
+        Kind::File => None,
     }
 }

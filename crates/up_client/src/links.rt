@@ -1,15 +1,15 @@
 //! Links that are followed.
-ghost use Rattle.std.specs.Prelude.{◌≡◌, ◌≤◌, IfOk, IfSome, length, option_map, true};
-ghost use Rattle.up_names.specs.PathNames.{PathName, extended, is_name};
+ghost use Rattle.std.specs.Prelude.{◌≡◌, ◌≤◌, ◌&&◌, IfOk, IfSome, length, option_map, true};
+ghost use Rattle.up_names.specs.PathNames.{PathName, extended, is_name, is_under};
 ghost use Rattle.up_wire.specs.declared.requests.Request.{Request as Requests};
-ghost use Rattle.up_client.specs.Links.{behind, fault_of, following, leads_to, next_to, short, step_of, step_to};
+ghost use Rattle.up_client.specs.Links.{behind, fault_of, following, is_link, leads_to, next_to, short, step_of, step_to};
 ghost use Rattle.up_client.specs.Talks.{Meant, Talks, reply_to};
 
 use crate::ask::Ask;
 use crate::fault::ClientFault;
 use crate::replies::{outcome, reply_to};
 use std::alloc::{AllocError, Global};
-use up_entry::Kind;
+use up_entry::{Entry, Kind};
 use up_names::{NameFault, Path};
 use up_wire::{Done, Reply, Request};
 
@@ -67,7 +67,10 @@ fn step_in(more: u64, path: &Path, reply: Reply) -> Result<Step, ClientFault>
 {
     match next_in(more, path, &reply) {
         Ok(next) => step_of(next, reply),
-        Err(fault) => Err(fault),
+        Err(fault) => {
+            drop(reply);
+            Err(fault)
+        }
     }
 }
 
@@ -76,8 +79,11 @@ fn step_of(next: Option<Path>, reply: Reply) -> Result<Step, ClientFault>
     ensures { result ≡ step_of reply next }
 {
     match next {
-        Some(next) => Ok(Step::On(next)),
-        None => outcome(reply).map(Step::Done),
+        Some(next) => {
+            drop(reply);
+            Ok(Step::On(next))
+        }
+        None => Ok(Step::Done(outcome(reply)?)),
     }
 }
 
@@ -104,7 +110,7 @@ fn ask_at<A: Ask, R: AtPath>(
     ensures { Talks A.Ask (reply_to (R.request request.now path.now)) ask.old result ask.new }
 {
     let asked = request.at(alloc, path)?;
-    reply_to(alloc, ask, &asked)
+    reply_to(alloc, ask, asked)
 }
 
 // Where a reply leads: of a link that stands at the path or above it, the number of its elements and its target.
@@ -113,16 +119,32 @@ fn link_in<'a>(path: &Path, reply: &'a Reply) -> Option<(u64, &'a Path)>
         ≡ leads_to path.now reply.now }
     ensures within { IfSome result (λ link. link.0 ≤ length path.now.elements) }
 {
-    let Reply::FollowLink(entry) = reply else {
-        return None;
-    };
-    if !matches!(entry.attr.kind, Kind::Link) || !path.is_under(&entry.name) {
+    match reply {
+        Reply::FollowLink(entry) => target_in(path, entry),
+        _ => None,
+    }
+}
+
+// Where a reply leads that shows this entry.
+fn target_in<'a>(path: &Path, entry: &'a Entry) -> Option<(u64, &'a Path)>
+    ensures led { option_map (λ link. behind link.0 path.now link.1.now) result
+        ≡ leads_to path.now (Reply.FollowLink entry.now) }
+    ensures within { IfSome result (λ link. link.0 ≤ length path.now.elements) }
+{
+    if !is_link_above(entry, path) {
         return None;
     }
     match &entry.link {
         Some(target) => Some((entry.name.len(), target)),
         None => None,
     }
+}
+
+// Whether an entry is a link that stands at the path or above it.
+fn is_link_above(entry: &Entry, path: &Path) -> bool
+    ensures { result ≡ (is_link entry.now.attr.kind && is_under path.now entry.now.name) }
+{
+    matches!(entry.attr.kind, Kind::Link) && path.is_under(&entry.name)
 }
 
 // The target, and behind it what stands in the path behind its first n elements.

@@ -111,7 +111,7 @@ fn store<A: Ask>(alloc: Global, ask: &mut A, piece: &[u8]) -> Result<Reference, 
     ensures { Talks A.Ask (stored piece.now) ask.old result ask.new }
 {
     let request = Request::StorePut(copy_of(alloc, piece)?);
-    let reply = reply_to(alloc, ask, &request)?;
+    let reply = reply_to(alloc, ask, request)?;
     reference_from(piece, reply)
 }
 

@@ -10,12 +10,20 @@ use up_bytes::Bytes;
 use up_refs::Reference;
 use up_wire::{Done, Reply, Request};
 
-/// Asks one request.
+/// Asks one request, and lets it go.
 pub(crate) fn reply_to<A: Ask>(
     alloc: Global,
     ask: &mut A,
-    request: &Request,
+    request: Request,
 ) -> Result<Reply, ClientFault>
+    ensures { Talks A.Ask (reply_to request) ask.old result ask.new }
+{
+    let replied = asked(alloc, ask, &request);
+    drop(request);
+    replied
+}
+
+fn asked<A: Ask>(alloc: Global, ask: &mut A, request: &Request) -> Result<Reply, ClientFault>
     ensures { Talks A.Ask (reply_to request.now) ask.old result ask.new }
 {
     match ask.ask(alloc, request) {
@@ -41,7 +49,10 @@ pub(crate) fn bytes_in(done: Done) -> Result<Bytes, ClientFault>
 {
     match done {
         Done::Bytes(bytes) => Ok(bytes),
-        _ => Err(ClientFault::Odd),
+        other => {
+            drop(other);
+            Err(ClientFault::Odd)
+        }
     }
 }
 
@@ -51,7 +62,10 @@ pub(crate) fn reference_in(done: Done) -> Result<Reference, ClientFault>
 {
     match done {
         Done::Reference(reference) => Ok(reference),
-        _ => Err(ClientFault::Odd),
+        other => {
+            drop(other);
+            Err(ClientFault::Odd)
+        }
     }
 }
 
@@ -61,6 +75,9 @@ pub(crate) fn position_in(done: Done) -> Result<u64, ClientFault>
 {
     match done {
         Done::Changed(position) => Ok(position),
-        _ => Err(ClientFault::Odd),
+        other => {
+            drop(other);
+            Err(ClientFault::Odd)
+        }
     }
 }

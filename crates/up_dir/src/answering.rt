@@ -1,6 +1,7 @@
 //! A request, and what comes of it.
-ghost use Rattle.std.specs.Prelude.{◌≡◌, ◌<◌};
-ghost use Rattle.up_answers.specs.Answers.{added, answer, asked_outcome, tree_outcome};
+ghost use Rattle.std.specs.Prelude.{◌≡◌, ◌<◌, IfOk};
+ghost use Rattle.std.specs.Str.{bytes_eq};
+ghost use Rattle.up_answers.specs.Answers.{added, answer, asked_outcome, log_owner, tree_outcome};
 ghost use Rattle.up_answers.specs.Watches.{watch_reply};
 ghost use Rattle.up_ends.specs.Growing.{OnlyGrows};
 ghost use Rattle.up_list.specs.Asking.{owner_asked};
@@ -107,11 +108,25 @@ fn step_asked<D: Disk>(
     if asked.owner() == state.owner() {
         return step_in_tree(alloc, state, user, asked, loaded, fetched);
     }
-    match log_owner(asked.owner()) {
-        Err(_) => Reply::OutOfMemory,
-        Ok(base) if base == *state.owner() => snap_asked(alloc, state, user, asked, now),
-        Ok(_) => Reply::WrongHost,
+    let Ok(in_log) = is_in_log_of(state.owner(), asked.owner()) else {
+        drop(asked);
+        return Reply::OutOfMemory;
+    };
+    if in_log {
+        return snap_asked(alloc, state, user, asked, now);
     }
+    drop(asked);
+    Reply::WrongHost
+}
+
+/// Whether the paths of an owner belong to the log of this one.
+fn is_in_log_of(base: &User, owner: &User) -> Result<bool, AllocError>
+    ensures { IfOk result (λ same. same ≡ bytes_eq (log_owner owner.now) base.now) }
+{
+    let found = log_owner(owner)?;
+    let same = found == *base;
+    drop(found);
+    Ok(same)
 }
 
 /// The same, on a path of the tree.
@@ -144,22 +159,45 @@ fn step_in_tree<D: Disk>(
             let led = delete_record(alloc, state.memory(), loaded, user, path);
             change(state, led)
         }
-        Asked::Lookup(path) => looked(alloc, state, loaded, user, &path),
+        Asked::Lookup(path) => {
+            let found = looked(alloc, state, loaded, user, &path);
+            drop(path);
+            found
+        }
         Asked::WhichAccess(path) => {
-            replied(which_access(alloc, &TreeLook::new(state.memory(), loaded, user), &path))
+            let access = replied(which_access(
+                alloc,
+                &TreeLook::new(state.memory(), loaded, user),
+                &path,
+            ));
+            drop(path);
+            access
         }
         Asked::GroupText(path) => {
             let none = Loaded::new(alloc, loaded.random());
-            replied(group_text(alloc, &TreeLook::new(state.memory(), &none, user), &path))
+            let text = replied(group_text(
+                alloc,
+                &TreeLook::new(state.memory(), &none, user),
+                &path,
+            ));
+            drop(none);
+            drop(path);
+            text
         }
         Asked::Glob(pattern) => {
-            replied(glob_for(
+            let rows = replied(glob_for(
                 alloc,
                 &TreeLook::new(state.memory(), loaded, user),
                 &pattern,
-            ))
+            ));
+            drop(pattern);
+            rows
         }
-        Asked::Watch(path, sequence) => watched(alloc, state, loaded, user, &path, sequence),
+        Asked::Watch(path, sequence) => {
+            let events = watched(alloc, state, loaded, user, &path, sequence);
+            drop(path);
+            events
+        }
     }
 }
 

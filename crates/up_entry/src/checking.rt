@@ -1,18 +1,21 @@
 //! The rules of an entry that is handed to Put.
 
-ghost use Rattle.std.specs.Prelude.{◌≡◌};
+ghost use Rattle.std.specs.Prelude.{◌≡◌, ◌≢◌, IfOk, false};
+ghost use Rattle.up_names.specs.declared.fault.NameFault.TheVariants as name;
+ghost use Rattle.up_entry.specs.declared.fault.EntryFault.{EntryFault};
 ghost use Rattle.up_entry.specs.Checking.{Gives, checked_as, content_rules, kind_of, link_or, path_or, rule, signed_name_of, user_or, writer_of};
 
 use crate::attrs::attr_of;
 use crate::block_rules::{blocks_fit, control_size_fits};
 use crate::copying::copied_blocks;
-use crate::entries::{Attr, Entry, Kind};
+use crate::entries::{Attr, Block, Entry, Kind};
 use crate::fault::EntryFault;
 use crate::kind_rules::{control_fits, packdata_fits, packing_fits, root_fits, whole_kind};
 use crate::puts::{Checked, PutEntry};
 use crate::what::What;
-use std::alloc::Global;
-use up_bytes::copy_of;
+use std::alloc::{AllocError, Global};
+use up_bytes::{Bytes, copy_of};
+use up_lists::Items;
 use up_names::{NameFault, Path, User, parse_path, parse_user};
 
 /// The entry that a user hands to Put, or the first rule that it breaks:
@@ -32,24 +35,69 @@ pub fn check_entry(alloc: Global, put: &PutEntry, user: &User) -> Result<Checked
     let kind = kind_of(put, &name)?;
     let link = link_or(alloc, kind, put.link.as_slice())?;
     content_rules(put, kind, &name)?;
-    Ok(Checked {
-        entry: Entry {
-            signed_name,
-            packing: put.packing,
-            time: put.time,
-            blocks: copied_blocks(alloc, put.blocks.as_slice())?,
-            packdata: copy_of(alloc, put.packdata.as_slice())?,
-            link,
-            writer,
-            name,
-            attr: Attr {
-                kind,
-                incomplete: false,
+    Ok(made(alloc, put, name, signed_name, writer, kind, link)?)
+}
+
+/// What was checked, with a copy of the rest of what was handed to Put.
+fn made(
+    alloc: Global,
+    put: &PutEntry,
+    name: Path,
+    signed_name: Path,
+    writer: User,
+    kind: Kind,
+    link: Option<Path>,
+) -> Result<Checked, AllocError>
+    ensures { IfOk result (λ checked. checked ≡ record {
+      entry = record {
+        signed_name = signed_name;
+        packing = put.now.packing;
+        time = put.now.time;
+        blocks = put.now.blocks;
+        packdata = put.now.packdata;
+        link = link;
+        writer = writer;
+        name = name;
+        attr = record { kind = kind; incomplete = false };
+        sequence = 0;
+      };
+      sequence = put.now.sequence;
+    }) }
+{
+    let copied = content_of(alloc, put);
+    match copied {
+        Ok((blocks, packdata)) => Ok(Checked {
+            entry: Entry {
+                signed_name,
+                packing: put.packing,
+                time: put.time,
+                blocks,
+                packdata,
+                link,
+                writer,
+                name,
+                attr: Attr {
+                    kind,
+                    incomplete: false,
+                },
+                sequence: 0,
             },
-            sequence: 0,
-        },
-        sequence: put.sequence,
-    })
+            sequence: put.sequence,
+        }),
+        Err(AllocError) => {
+            drop(link);
+            Err(AllocError)
+        }
+    }
+}
+
+/// A copy of the blocks and of the pack data.
+fn content_of(alloc: Global, put: &PutEntry) -> Result<(Items<Block>, Bytes), AllocError>
+    ensures { IfOk result (λ copy. copy ≡ (put.now.blocks, put.now.packdata)) }
+{
+    let packdata = copy_of(alloc, put.packdata.as_slice())?;
+    let blocks = copied_blocks(alloc, put.blocks.as_slice())?;
+    Ok((blocks, packdata))
 }
 
 /// The signed name, which has to be a text of the same path as the name.
@@ -113,8 +161,7 @@ fn path_or(alloc: Global, what: What, text: &[u8]) -> Result<Path, EntryFault>
 {
     match parse_path(alloc, text) {
         Ok(path) => Ok(path),
-        Err(NameFault::OutOfMemory) => Err(EntryFault::OutOfMemory),
-        Err(_) => Err(EntryFault::Invalid(what)),
+        Err(fault) => Err(not_named(what, fault)),
     }
 }
 
@@ -124,8 +171,18 @@ fn user_or(alloc: Global, what: What, text: &[u8]) -> Result<User, EntryFault>
 {
     match parse_user(alloc, text) {
         Ok(user) => Ok(user),
-        Err(NameFault::OutOfMemory) => Err(EntryFault::OutOfMemory),
-        Err(_) => Err(EntryFault::Invalid(what)),
+        Err(fault) => Err(not_named(what, fault)),
+    }
+}
+
+/// What a text leads to that is not read as a name: want of memory, or this broken rule.
+fn not_named(what: What, fault: NameFault) -> EntryFault
+    ensures memory { result ≢ EntryFault.OutOfMemory → fault ≢ name.OutOfMemory }
+    ensures broken { result ≢ EntryFault.OutOfMemory → result ≡ EntryFault.Invalid what }
+{
+    match fault {
+        NameFault::OutOfMemory => EntryFault::OutOfMemory,
+        _ => EntryFault::Invalid(what),
     }
 }
 

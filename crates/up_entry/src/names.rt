@@ -1,7 +1,10 @@
 //! Paths and users as fields: each by its canonical text.
 
-ghost use Rattle.std.specs.Prelude.{◌≡◌, IfOk, OnErr};
+ghost use Rattle.std.specs.Prelude.{◌≡◌, ◌≢◌, if◌then◌else◌, IfOk, None, OnErr, OnOk, Some};
+ghost use Rattle.std.specs.Str.{bytes_eq};
 ghost use Rattle.up_bytes.specs.Reading.{FaultFirst, Gives, text_at};
+ghost use Rattle.up_names.specs.PathNames.{canonical};
+ghost use Rattle.up_names.specs.declared.fault.NameFault.TheVariants as name;
 ghost use Rattle.up_entry.specs.Reading.{canonical_path, canonical_user, path_at, user_at};
 
 use std::alloc::{AllocError, Global};
@@ -29,9 +32,32 @@ pub(crate) fn canonical_path(alloc: Global, text: &[u8]) -> Result<Option<Path>,
     ensures { IfOk result (λ found. found ≡ canonical_path text.now) }
 {
     match parse_path(alloc, text) {
-        Ok(path) if path.as_str().as_bytes() == text => Ok(Some(path)),
-        Err(NameFault::OutOfMemory) => Err(AllocError),
-        _ => Ok(None),
+        Ok(path) => Ok(path_if_written(path, text)),
+        Err(fault) => {
+            unless_memory(fault)?;
+            Ok(None)
+        }
+    }
+}
+
+/// The path, where this is its canonical text.
+fn path_if_written(path: Path, text: &[u8]) -> Option<Path>
+    ensures { result ≡ (if bytes_eq (canonical path) text.now then Some path else None) }
+{
+    if path.as_str().as_bytes() == text {
+        return Some(path);
+    }
+    drop(path);
+    None
+}
+
+/// A fault of a name is no fault here, but for want of memory.
+fn unless_memory(fault: NameFault) -> Result<(), AllocError>
+    ensures { OnOk result (fault ≢ name.OutOfMemory) }
+{
+    match fault {
+        NameFault::OutOfMemory => Err(AllocError),
+        _ => Ok(()),
     }
 }
 
@@ -56,8 +82,21 @@ fn canonical_user(alloc: Global, text: &[u8]) -> Result<Option<User>, AllocError
     ensures { IfOk result (λ found. found ≡ canonical_user text.now) }
 {
     match parse_user(alloc, text) {
-        Ok(user) if user.text().as_bytes() == text => Ok(Some(user)),
-        Err(NameFault::OutOfMemory) => Err(AllocError),
-        _ => Ok(None),
+        Ok(user) => Ok(user_if_written(user, text)),
+        Err(fault) => {
+            unless_memory(fault)?;
+            Ok(None)
+        }
     }
+}
+
+/// The user, where this is its canonical name.
+fn user_if_written(user: User, text: &[u8]) -> Option<User>
+    ensures { result ≡ (if bytes_eq user text.now then Some user else None) }
+{
+    if user.text().as_bytes() == text {
+        return Some(user);
+    }
+    drop(user);
+    None
 }

@@ -173,23 +173,3 @@ module _ {D L : Type 0} (disks : disk.Ghosts D) (loader : Ghosts L) (same : (l :
   came_alone (Came.ByTree came) = tree_alone came
   came_alone (Came.ByStore serves p unasked) = alone_store disks host after q e serves p
   came_alone (Came.ByKeys serves p unasked) = alone_keys disks host after q e serves p
-
-  tree_operator : TreeCame disks loader host after old new q e → after.operator ≡ host.operator
-  tree_operator (TreeCame.Served p) = ap (λ (h : HostState D). h.operator) p.whole
-  tree_operator (TreeCame.Refused stays unasked is at plain) = ap (λ (h : HostState D). h.operator) stays
-  tree_operator (TreeCame.Wanting wants touches tried) = ap (λ (h : HostState D). h.operator) touches.whole
-
-  pub came_operator : Came disks loader host after old new q e → after.operator ≡ host.operator
-  came_operator (Came.ByTree came) = tree_operator came
-  came_operator (Came.ByStore serves p unasked) = ap (λ (h : HostState D). h.operator) p.whole
-  came_operator (Came.ByKeys serves p unasked) = ap (λ (h : HostState D). h.operator) p.whole
-
-  tree_name : TreeCame disks loader host after old new q e → after.name ≡ host.name
-  tree_name (TreeCame.Served p) = ap (λ (h : HostState D). h.name) p.whole
-  tree_name (TreeCame.Refused stays unasked is at plain) = ap (λ (h : HostState D). h.name) stays
-  tree_name (TreeCame.Wanting wants touches tried) = ap (λ (h : HostState D). h.name) touches.whole
-
-  pub came_name : Came disks loader host after old new q e → after.name ≡ host.name
-  came_name (Came.ByTree came) = tree_name came
-  came_name (Came.ByStore serves p unasked) = ap (λ (h : HostState D). h.name) p.whole
-  came_name (Came.ByKeys serves p unasked) = ap (λ (h : HostState D). h.name) p.whole

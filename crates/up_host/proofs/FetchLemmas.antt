@@ -1,5 +1,5 @@
 -- How fetching goes on.
-use Rattle.std.proofs.Common.{◌≡◌, ◌≤◌, ◌||◌, ℕ, Bool, true, false, List, [], ◌∷◌, ◌++◌, refl, sym, ap, subst, ◌∙◌, inl, inr, arith, append_assoc, append-nil, Option, Some, Result, Ok, Err}
+use Rattle.std.proofs.Common.{◌≡◌, ◌≤◌, ◌||◌, ℕ, Bool, true, false, List, [], ◌∷◌, ◌++◌, refl, sym, ap, subst, ◌∙◌, inl, inr, arith, append_assoc, Option, Some, Result, Ok, Err}
 use Rattle.std.specs.Prelude.{IfSome, is_some}
 use Rattle.std.specs.List.{AllByRecursion}
 use Rattle.up_answers.specs.Fetching.{Fetched, is_failed}
@@ -13,7 +13,7 @@ use Rattle.up_entry.specs.declared.entries.Endpoint.{Endpoint}
 use Rattle.up_entry.specs.declared.entries.Endpoint.TheVariants as endpoint
 use Rattle.up_entry.specs.declared.entries.Location.{Location}
 use Rattle.up_entry.specs.declared.fetch.Fetch.{Fetch}
-use Rattle.up_host.proofs.AsksLemmas.{All-append, All-map, Asks-none, Asks-trans, HasCause-for, HasCause-same, Rose-left, Rose-right, Tries-none, Tries-one}
+use Rattle.up_host.proofs.AsksLemmas.{All-append, All-map, Asks-trans, HasCause-for, HasCause-same, Rose-left, Rose-right, Tries-none, Tries-one}
 use Rattle.up_host.proofs.SettledLemmas.{gives_settled, settled_same, settled_trans}
 use Rattle.up_host.proofs.StoreDone.{told_bytes}
 use Rattle.up_host.specs.Asks.{Asks, Tries}
@@ -122,15 +122,6 @@ module _ {D L : Type 0} (disks : disk.Ghosts D) (loader : Ghosts L) where
         }
 
   -- ---- all of them
-
-  pub fetches_none : ((a : L) → loader.tied a a) → (store : LogState D BlockRecord) (now : L) (fetched : Fetched) → Fetches disks loader store store now now fetched fetched
-  fetches_none same store now fetched = record {
-    more = [];
-    whole = sym (append-nil fetched);
-    reads = reads_none disks store;
-    given = tt;
-    asks = Asks-none loader.fetches loader.faults loader.tied is_failed block_question block_answer same now;
-  }
 
   pub fetches_trans : ((a b c : L) → loader.tied a b → loader.tied b c → loader.tied a c) → (s t u : LogState D BlockRecord) (a b c : L) (first second third : Fetched)
       → Fetches disks loader s t a b first second → Fetches disks loader t u b c second third → Fetches disks loader s u a c first third

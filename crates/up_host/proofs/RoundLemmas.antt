@@ -1,23 +1,18 @@
 -- How rounds of loads go on.
-use Rattle.std.proofs.Common.{◌≡◌, ◌≢◌, ◌==◌, ◌||◌, ◌<◌, ◌≤◌, ◌+◌, ℕ, zero, suc, List, [], ◌∷◌, ◌++◌, length, false, refl, sym, ap, subst, ◌∙◌, arith, Option, Some, None, Result, Ok, Err, slice_get}
+use Rattle.std.proofs.Common.{◌≡◌, ◌≢◌, ◌==◌, ◌||◌, ◌<◌, ◌≤◌, ◌+◌, ℕ, Bool, zero, suc, List, [], ◌∷◌, ◌++◌, length, true, false, refl, inl, inr, sym, ap, subst, ◌∙◌, arith, Option, Some, None, Result, Ok, Err, slice_get}
 use Rattle.std.specs.Prelude.{Contains, OnOk, is_some}
 use Rattle.std.proofs.lemmas.Bool.{false≢true}
+use Rattle.std.proofs.lemmas.Bool.Decides.{nat_tests}
 use Rattle.up_answers.specs.Needs.{needs}
 use Rattle.up_host.proofs.NeedLemmas.{needs_more, needs_new}
 use Rattle.up_host.proofs.PlaceLemmas.{places_listed}
-use Rattle.up_host.specs.Rounds.{IsFirst, IsMissing, IsNeeded, bound}
+use Rattle.up_host.specs.Rounds.{IsFirst, IsMissing, IsNeeded, IsWhole, bound}
 use Rattle.up_names.specs.PathNames.{PathName}
 use Rattle.up_names.specs.Texts.{UserName}
 use Rattle.up_policy.proofs.PathLists.{Contains-at, Contains-head}
 use Rattle.up_policy.specs.Loadings.{Loading, answer_for}
 use Rattle.up_replay.specs.Logs.{Log}
 use Rattle.up_wire.specs.declared.requests.Request.{Request}
-
--- a name of the list that has no answer yet
-pub one_missing : (names : List PathName) (i : ℕ) (name : PathName) (before : Loading) → slice_get names i ≡ Some name → answer_for before name ≡ None
-    → (more : Loading) (other : PathName) → ((other ≡ name) × (before ++ more ≡ before)) → IsMissing names (before ++ more) other
-one_missing names i name before at none more other h =
-    subst (IsMissing names (before ++ more)) (sym h.0) (Contains-at names i name at, ap (λ xs. answer_for xs name) h.1 ∙ none)
 
 -- what is missing is needed still
 pub missing_needed : (log : Log) (user : UserName) (request : Request) (names : List PathName) (before : Loading) → names ≡ needs log before user request
@@ -55,13 +50,6 @@ grows_by (n ∷ names) (suc i) name old now new at first more one later h =
     let before : length old < length now = more (omega arith) h in
     omega (arith, before, later)
 
--- at the end of a list with a first name
-pub more_end : (names : List PathName) (i : ℕ) (old now : Loading) → length names ≤ i → (0 < i → IsFirst names old → length old < length now) → IsFirst names old → length old < length now
-more_end [] i old now end more h = absurd h
-more_end (n ∷ names) i old now end more h =
-    let long : length (n ∷ names) ≡ length names + 1 = omega arith in
-    more (omega (arith, long, end)) h
-
 pub on_ok : {T E P Q : Type 0} (result : Result T E) → (P → Q) → OnOk result P → OnOk result Q
 on_ok (Ok x) f h = f h
 on_ok (Err e) f h = tt
@@ -75,3 +63,14 @@ not_some (Some x) h = absurd (false≢true (sym h))
 pub not_enough : (names : List PathName) (loaded : Loading) → (length names == 0 || length loaded == bound) ≡ false → length names ≢ 0
 not_enough [] loaded h = absurd (false≢true (sym h))
 not_enough (name ∷ names) loaded h = λ e. omega (arith, e)
+
+equal_by_test : (a b : ℕ) → (a == b) ≡ true → a ≡ b
+equal_by_test a b h = grind (arith, nat_tests)
+
+pub is_whole : (names missing : List PathName) (loaded : Loading) → names ≡ missing → (length names == 0 || length loaded == bound) ≡ true → IsWhole missing loaded
+is_whole [] missing loaded is h = record { enough = inl (sym is) }
+is_whole (name ∷ names) missing loaded is h = record { enough = inr (by (length (name ∷ names) == 0) refl h) }
+  where
+    by : (b : Bool) → (length (name ∷ names) == 0) ≡ b → (b || length loaded == bound) ≡ true → length loaded ≡ bound
+    by true e k = let none : length (name ∷ names) ≡ 0 = equal_by_test (length (name ∷ names)) 0 e in absurd (omega (arith, none))
+    by false e k = equal_by_test (length loaded) bound k

@@ -1,16 +1,15 @@
 -- What a caller learns where memory was wanting.
-use Rattle.std.proofs.Common.{◌≡◌, ◌≤◌, ℕ, List, [], length, refl, sym, ap, subst, ◌∙◌, arith, append-nil, Option, Some, None}
+use Rattle.std.proofs.Common.{◌≡◌, ◌≤◌, List, [], length, refl, sym, ap, subst, ◌∙◌, arith, append-nil, Option, Some, None}
 use Rattle.up_blocks.specs.declared.record.BlockRecord.{BlockRecord}
 use Rattle.up_disk.specs.declared.disk.Disk as disk
 use Rattle.up_host.proofs.AloneLemmas.{later_same}
 use Rattle.up_host.proofs.AsksLemmas.{Tries-none}
 use Rattle.up_host.proofs.SettledLemmas.{settled_same}
-use Rattle.up_host.specs.Alike.{TellsNoMore}
-use Rattle.up_host.specs.Alone.{AddsOwn, Counts, HostState, IsAlone, io_of, positions, views}
+use Rattle.up_host.specs.Alone.{AddsOwn, HostState, IsAlone, positions, views}
 use Rattle.up_host.specs.Calls.{Asked, IsTried, Outcome}
 use Rattle.up_host.specs.Routes.{LogName, OwnStays, Question, log_asked}
 use Rattle.up_host.specs.TreeCalls.{Touches}
-use Rattle.up_host.specs.Views.{LaterSeen, LaterTree, SeenKeys, SeenTree, Views, own_of}
+use Rattle.up_host.specs.Views.{LaterSeen, LaterTree, SeenKeys, SeenTree, own_of}
 use Rattle.up_host.specs.declared.event.Event.{Event}
 use Rattle.up_names.specs.Texts.{UserName}
 use Rattle.up_peer.specs.declared.loader.Loader.{Ghosts}
@@ -81,11 +80,3 @@ touches_nothing disks host = record { store = host.store.state; whole = refl; re
 -- the loader was asked nothing
 pub tries_nothing : {L : Type 0} (loader : Ghosts L) → ((l : L) → loader.tied l l) → (l : L) → IsTried loader l l
 tries_nothing loader same l = record { between = l; blocks = Tries-none loader.fetches loader.faults loader.tied same l; groups = Tries-none loader.loads loader.faults loader.tied same l }
-
-pub counts_nothing : (disks loader : ℕ) (e : Event) → e.reply ≡ reply.OutOfMemory → Counts disks disks loader loader e
-counts_nothing disks loader e wants =
-    let none : io_of e.reply ≡ 0 = ap io_of wants in
-    record { disks = omega arith; loader = omega arith; io = λ below. omega (arith, none) }
-
-pub tells_nothing : (b : Views) (q : Question) (e : Event) → e.reply ≡ reply.OutOfMemory → TellsNoMore b q e
-tells_nothing b q e wants = record { alike = λ owner w other none log there not_io enough whole agree. absurd (enough wants) }

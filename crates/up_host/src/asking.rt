@@ -228,7 +228,6 @@ impl<D: Disk> Host<D> {
     }
 
     // A request to the store.
-    #[tactic(auto, using(crate::proofs::ServingLemmas::store_asked))]
     fn ask_store(&mut self, alloc: Global, user: &User, request: &Request, now: u64) -> Event
         requires { service_of request.now ≡ service.Store }
         ensures serves { StoreServes D.Disk self.old self.new user.now request.now result }
@@ -240,7 +239,6 @@ impl<D: Disk> Host<D> {
     }
 
     // A request to the keys.
-    #[tactic(auto, using(crate::proofs::ServingLemmas::keys_asked))]
     fn ask_keys(&mut self, alloc: Global, user: &User, request: &Request, now: u64) -> Event
         requires { service_of request.now ≡ service.Keys }
         ensures serves { KeysServe D.Disk self.old self.new user.now request.now result }

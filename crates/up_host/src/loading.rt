@@ -3,10 +3,12 @@ ghost use Rattle.std.specs.Prelude.{◌≡◌, ◌≢◌, ◌==◌, ◌||◌, �
 ghost use Rattle.std.specs.Option.{option_copied};
 ghost use Rattle.std.specs.Result.{result_ok};
 ghost use Rattle.up_answers.specs.Needs.{needs};
+ghost use Rattle.up_group.specs.GroupTexts.{group_of};
 ghost use Rattle.up_host.specs.Alone.{is_of, tree_for, views};
 ghost use Rattle.up_host.specs.Asks.{Tries};
 ghost use Rattle.up_host.specs.Loads.{group_text_answer, load_of};
 ghost use Rattle.up_host.specs.Rounds.{Gathers, IsFirst, IsMissing, IsNeeded, IsWhole, LoadsName, bound};
+ghost use Rattle.up_peer.specs.Loading.{text_answer};
 ghost use Rattle.up_policy.specs.Loadings.{answer_for};
 ghost use Rattle.up_replay.specs.Rights.{is_group};
 ghost use Rattle.up_tree.specs.States.{log_of};
@@ -222,14 +224,31 @@ pub fn load_of(owner: &User, reply: Reply) -> Result<LoadAnswer, AllocError>
     ensures { IfOk result (λ answer. (reply ≢ Reply.OutOfMemory)
         × (answer ≡ load_of owner.now reply)) }
 {
+    let answer = load_by(owner, &reply);
+    drop(reply);
+    answer
+}
+
+// The same by a reply that is only looked at: its caller lets it go as a whole.
+fn load_by(owner: &User, reply: &Reply) -> Result<LoadAnswer, AllocError>
+    ensures { IfOk result (λ answer. (reply.now ≢ Reply.OutOfMemory)
+        × (answer ≡ load_of owner.now reply.now)) }
+{
     match reply {
-        Reply::Ok(Done::Text(text)) => match parse_group(owner, text.as_slice()) {
-            Ok(text) => Ok(LoadAnswer::Text(text)),
-            Err(TextFault::BadText(line)) => Ok(LoadAnswer::BadText(line)),
-            Err(TextFault::OutOfMemory) => Err(AllocError),
-        },
+        Reply::Ok(Done::Text(text)) => load_text(owner, text.as_slice()),
         Reply::Io => Ok(LoadAnswer::Failed),
         Reply::OutOfMemory => Err(AllocError),
         _ => Ok(LoadAnswer::Missing),
+    }
+}
+
+// What is loaded by a text.
+fn load_text(owner: &User, text: &[u8]) -> Result<LoadAnswer, AllocError>
+    ensures { IfOk result (λ answer. answer ≡ text_answer (group_of owner.now text.now)) }
+{
+    match parse_group(owner, text) {
+        Ok(group) => Ok(LoadAnswer::Text(group)),
+        Err(TextFault::BadText(line)) => Ok(LoadAnswer::BadText(line)),
+        Err(TextFault::OutOfMemory) => Err(AllocError),
     }
 }

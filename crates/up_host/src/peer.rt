@@ -2,7 +2,7 @@
 ghost use Rattle.std.specs.Prelude.{◌≡◌, ◌≢◌, [], ◌++◌, Ok, IfOk};
 ghost use Rattle.up_ends.specs.Telling.{Grew};
 ghost use Rattle.up_faults.specs.Counts.{HasCause};
-ghost use Rattle.up_host.specs.Peers.{AsksStore, IsBlockAnswer, ReadsBlock, failed_after, group_text_by, peer_answer};
+ghost use Rattle.up_host.specs.Peers.{AsksStore, IsBlockAnswer, ReadsBlock, failed_after, group_text_by, peer_answer, peer_done};
 ghost use Rattle.up_peer.specs.Asking.{call_of};
 ghost use Rattle.up_peer.specs.InMemory.{faults_after};
 ghost use Rattle.up_peer.specs.declared.answers.PeerAnswer.TheVariants as answers;
@@ -110,9 +110,37 @@ fn answer_of(reply: Reply) -> Result<PeerAnswer, AllocError>
         × (answer ≡ peer_answer reply)) }
 {
     match reply {
-        Reply::Ok(Done::Text(text)) => Ok(PeerAnswer::Got(text)),
+        Reply::Ok(done) => Ok(done_answer(done)),
+        refusal => {
+            let answer = refused_answer(&refusal);
+            drop(refusal);
+            answer
+        }
+    }
+}
+
+// What a peer answers for what was done: a text, or nothing.
+fn done_answer(done: Done) -> PeerAnswer
+    ensures { result ≡ peer_done done }
+{
+    match done {
+        Done::Text(text) => PeerAnswer::Got(text),
+        other => {
+            drop(other);
+            PeerAnswer::Nothing
+        }
+    }
+}
+
+// What a peer answers for a refusal, which its caller lets go as a whole.
+fn refused_answer(refusal: &Reply) -> Result<PeerAnswer, AllocError>
+    ensures { IfOk result (λ answer. (refusal.now ≢ Reply.OutOfMemory)
+        × (answer ≡ peer_answer refusal.now)) }
+{
+    match refusal {
         Reply::Io => Ok(PeerAnswer::Failed),
-        Reply::OutOfMemory => Err(AllocError),
+        // What was done is no refusal.
+        Reply::OutOfMemory | Reply::Ok(_) => Err(AllocError),
         _ => Ok(PeerAnswer::Nothing),
     }
 }

@@ -109,7 +109,14 @@ fn note(
     ensures stopped { IfOk result (λ stopped. stopped
         ≡ one_stops (turn_of one.entry.now, turn_of two.entry.now) (first, second)) }
 {
-    let stopped = one_stops(alloc, one, two, &first, &second)?;
+    let stopped = match one_stops(alloc, one, two, &first, &second) {
+        Ok(stopped) => stopped,
+        Err(wants) => {
+            drop(first);
+            drop(second);
+            return Err(wants);
+        }
+    };
     keep(are_of(user, one, two), first, second, replies)?;
     Ok(stopped)
 }
@@ -148,8 +155,11 @@ fn keep(
     ensures { IfOk result (λ done. replies.new
         ≡ (if kept then replies.old ++ (first, second) ∷ [] else replies.old)) }
 {
-    if kept {
-        replies.push((first, second))?;
+    if !kept {
+        drop(first);
+        drop(second);
+        return Ok(());
     }
+    replies.push((first, second))?;
     Ok(())
 }

@@ -3,6 +3,7 @@ ghost use Rattle.std.specs.Prelude.{◌≡◌, ◌<◌, IfOk};
 ghost use Rattle.std.specs.Map.{lookup};
 ghost use Rattle.std.specs.Option.{option_copied};
 ghost use Rattle.up_answers.specs.Fetching.{endpoint_eq, is_failed, location_eq};
+ghost use Rattle.up_changes.specs.Routes.{route_of};
 ghost use Rattle.up_laws.specs.Turns.{IsMade, any_failed, fetch_failed, stops, turn_by, turn_of};
 
 use std::alloc::{AllocError, Global};
@@ -83,11 +84,20 @@ pub(crate) fn stops(alloc: Global, turn: &Turn, reply: &Reply) -> Result<bool, A
 fn fetch_failed(alloc: Global, turn: &Turn) -> Result<bool, AllocError>
     ensures { IfOk result (λ failed. failed ≡ fetch_failed (turn_of turn.entry.now)) }
 {
-    match route_of(alloc, &turn.user, &turn.request)? {
-        Route::Refused(_) => Ok(false),
-        Route::Tree(_, locations) => {
-            Ok(any_failed(turn.fetched.as_slice(), locations.as_slice()))
-        }
+    let route = route_of(alloc, &turn.user, &turn.request)?;
+    let failed = failed_on(turn, &route);
+    drop(route);
+    Ok(failed)
+}
+
+/// The same, where the request of the turn goes this way.
+fn failed_on(turn: &Turn, route: &Route) -> bool
+    requires { route.now ≡ route_of turn.now.user turn.now.request }
+    ensures { result ≡ fetch_failed (turn_of turn.entry.now) }
+{
+    match route {
+        Route::Refused(_) => false,
+        Route::Tree(_, locations) => any_failed(turn.fetched.as_slice(), locations.as_slice()),
     }
 }
 

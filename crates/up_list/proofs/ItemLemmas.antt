@@ -1,9 +1,11 @@
 -- Items stand at their names.
-use Rattle.std.proofs.Common.{◌≡◌, ℕ, zero, suc, Bool, true, false, List, length, refl, sym, ap, ◌∙◌, Option, Some, None}
+use Rattle.std.proofs.Common.{◌≡◌, ℕ, zero, suc, Bool, true, false, List, [], ◌∷◌, length, refl, sym, ap, ◌∙◌, Option, Some, None}
 use Rattle.std.specs.Prelude.{if◌then◌else◌, find, is_some}
 use Rattle.std.specs.Option.{option_map, option_and_then}
 use Rattle.up_names.specs.PathNames.{PathName, cut}
 use Rattle.up_entry.specs.declared.entries.Entry.{Entry}
+use Rattle.up_wire.specs.declared.replies.Reply.TheVariants.{Ok, NotExist}
+use Rattle.up_wire.specs.declared.replies.Done.TheVariants as done
 use Rattle.up_policy.specs.Governors.{prefixes_to}
 use Rattle.up_policy.specs.Trees.{owns_snapshots}
 use Rattle.up_replay.specs.declared.node.Node.{Node}
@@ -11,7 +13,9 @@ use Rattle.up_replay.specs.Trees.{Tree, node_at}
 use Rattle.up_replay.specs.Rights.{access_node, access_path, governing_prefix}
 use Rattle.up_list.specs.Entries.{entry_of, entry_at}
 use Rattle.up_list.specs.Governing.{governing_file}
-use Rattle.up_list.specs.Looks.{Look}
+use Rattle.up_list.specs.Globs.{one_row}
+use Rattle.up_list.specs.Looks.{Look, shown}
+use Rattle.up_list.specs.Reads.{entry_reply}
 use Rattle.up_list.specs.Rooted.{IsRooted}
 
 some_none : {X : Type 0} (x : X) → Some x ≡ None → ⊥
@@ -55,3 +59,20 @@ governing_owned look path entry rooted h owned = snapshots (owns_snapshots look.
     snapshots : (b : Bool) → Some entry ≡ (if b then None else option_and_then (λ dir. entry_at look.tree (access_path dir)) (find (λ dir. is_some (access_node look.tree dir)) (prefixes_to (length path.elements) path))) → entry.name.owner ≡ look.owner
     snapshots true k = absurd (some_none entry k)
     snapshots false k = prefix (find (λ dir. is_some (access_node look.tree dir)) (prefixes_to (length path.elements) path)) refl k
+
+-- what is shown of an item, in a reply
+pub reply_some : (look : Look) (o : Option Entry) (entry : Entry) → Some entry ≡ option_map (shown look) o → Ok (done.Entry entry) ≡ entry_reply look o
+reply_some look None entry h = absurd (some_none entry h)
+reply_some look (Some found) entry h = ap (λ e. Ok (done.Entry e)) (some_same entry (shown look found) h)
+
+pub reply_none : (look : Look) (o : Option Entry) → None ≡ option_map (shown look) o → NotExist ≡ entry_reply look o
+reply_none look None h = refl
+reply_none look (Some found) h = absurd (some_none (shown look found) (sym h))
+
+pub row_some : (look : Look) (o : Option Entry) (entry : Entry) → Some entry ≡ option_map (shown look) o → Ok (done.Rows (record { entry = entry; rest = 0 } ∷ [])) ≡ one_row look o
+row_some look None entry h = absurd (some_none entry h)
+row_some look (Some found) entry h = ap (λ e. Ok (done.Rows (record { entry = e; rest = 0 } ∷ []))) (some_same entry (shown look found) h)
+
+pub row_none : (look : Look) (o : Option Entry) → None ≡ option_map (shown look) o → NotExist ≡ one_row look o
+row_none look None h = refl
+row_none look (Some found) h = absurd (some_none (shown look found) (sym h))

@@ -1,11 +1,13 @@
 -- Where links were tested, none stands at the path.
 use Rattle.std.proofs.Common.{◌≡◌, ℕ, zero, suc, true, false, List, [], ◌∷◌, ◌++◌, length, refl, sym, ap, ◌∙◌, Option, Some, None}
-use Rattle.std.specs.Prelude.{if◌then◌else◌, Result, Ok, Err}
+use Rattle.std.specs.Prelude.{if◌then◌else◌, Bool, unwrap_or}
 use Rattle.std.specs.Option.{option_and_then, option_map, option_or}
 use Rattle.up_names.specs.PathNames.{PathName, cut}
 use Rattle.up_rights.specs.declared.Right.{Right}
-use Rattle.up_rights.specs.RightSets.{Rights}
+use Rattle.up_pattern.specs.Patterns.{PatternName}
 use Rattle.up_wire.specs.declared.replies.Reply.{Reply}
+use Rattle.up_wire.specs.declared.replies.Reply.TheVariants.{Ok, NotDir, NotExist}
+use Rattle.up_wire.specs.declared.replies.Done.TheVariants as done
 use Rattle.up_entry.specs.declared.entries.Entry.{Entry}
 use Rattle.up_entry.specs.declared.entries.Kind.{Kind}
 use Rattle.up_entry.specs.declared.entries.Kind.TheVariants.{File, Directory, Link}
@@ -13,8 +15,9 @@ use Rattle.up_replay.specs.declared.node.Node.{Node}
 use Rattle.up_replay.specs.Fits.{HasDirectory}
 use Rattle.up_replay.specs.Trees.{Tree, is_file, is_link, node_at}
 use Rattle.up_replay.proofs.Paths.{cut_whole, some_none, some_same}
-use Rattle.up_list.specs.Checks.{IsChecked, at_link, check, first_link, lacking, link_at, tested, ways, ways_to}
+use Rattle.up_list.specs.Checks.{at_link, check, first_link, lacking, link_at, tested, ways, ways_to}
 use Rattle.up_list.specs.Entries.{entry_at, entry_of, if_link}
+use Rattle.up_list.specs.Globs.{kind_refusal, rows, rows_reply}
 use Rattle.up_list.specs.Looks.{Look, rights}
 
 second_none : {X : Type 0} (a b : Option X) → option_or a b ≡ None → b ≡ None
@@ -65,12 +68,25 @@ passed_directory look path needed entry h there other = node (node_at look.tree 
         let link : if_link entry ≡ None = ap (λ o. option_and_then if_link o) there ∙ no_link in
         (n, e, ap (λ (x : Entry). x.attr.kind) (sym same) ∙ kind entry.attr.kind other link)
 
--- a check that passed
-pub passed_check : (refusal : Option Reply) (held : Rights) (checked : Result Rights Reply) (found : Rights) → IsChecked refusal held checked → checked ≡ Ok found → refusal ≡ None
-passed_check refusal held (Ok x) found h e = h.0
-passed_check refusal held (Err r) found h e = absurd (cc)
+-- where no refusal is at the path of the literal elements in front, a directory stands there
+pub front_directory : (look : Look) (path : PathName) (needed : Option Right) → None ≡ option_or (check look (tested true path) path needed) (kind_refusal (entry_at look.tree path)) → HasDirectory look.tree path
+front_directory look path needed h = go (check look (tested true path) path needed) refl (entry_at look.tree path) refl h
+  where
+    go : (c : Option Reply) → check look (tested true path) path needed ≡ c → (o : Option Entry) → entry_at look.tree path ≡ o → None ≡ option_or c (kind_refusal o) → HasDirectory look.tree path
+    go (Some reply) e o f k = absurd (some_none reply (sym k))
+    go None e None f k = absurd (some_none NotExist (sym k))
+    go None e (Some entry) f k = passed_directory look path needed entry e (sym f) (other (is_file entry.attr.kind) refl k)
+      where
+        other : (b : Bool) → is_file entry.attr.kind ≡ b → None ≡ (if b then Some NotDir else None) → is_file entry.attr.kind ≡ false
+        other true g l = absurd (some_none NotDir (sym l))
+        other false g l = g
 
-pub not_file : (kind : Kind) → (kind ≡ File → ⊥) → is_file kind ≡ false
-not_file File h = absurd (h refl)
-not_file Directory h = refl
-not_file Link h = refl
+-- the refusal, or else the rows
+pub rows_or_refusal : (look : Look) (pattern : PatternName) (checked : Option Reply) (o : Option Entry) → unwrap_or checked (rows_reply look pattern o) ≡ unwrap_or (option_or checked (kind_refusal o)) (Ok (done.Rows (rows look pattern)))
+rows_or_refusal look pattern (Some reply) o = refl
+rows_or_refusal look pattern None None = refl
+rows_or_refusal look pattern None (Some entry) = by (is_file entry.attr.kind)
+  where
+    by : (b : Bool) → (if b then NotDir else Ok (done.Rows (rows look pattern))) ≡ unwrap_or (if b then Some NotDir else None) (Ok (done.Rows (rows look pattern)))
+    by true = refl
+    by false = refl

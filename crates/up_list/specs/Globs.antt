@@ -100,6 +100,11 @@ abbrev pub rows_reply : Look → PatternName → Option Entry → Reply
 rows_reply look pattern None = NotExist
 rows_reply look pattern (Some entry) = if is_file entry.attr.kind then NotDir else Ok (done.Rows (rows look pattern))
 
+-- the refusal of it by what stands at the path of its literal elements in front
+abbrev pub kind_refusal : Option Entry → Option Reply
+kind_refusal None = Some NotExist
+kind_refusal (Some entry) = if is_file entry.attr.kind then Some NotDir else None
+
 -- Glob: where all elements are literal, as Lookup of that path, with one row. Otherwise list on the path of the literal
 -- elements in front; then NotExist where nothing is there, NotDir where a file is, else the rows.
 unfoldable pub glob_reply : Look → PatternName → Reply

@@ -1,9 +1,12 @@
 //! What a request asks of a directory.
-ghost use Rattle.std.specs.Prelude.{◌≡◌, negsuc, int_le};
-ghost use Rattle.up_entry.specs.Checking.{Gives, path_or, rule};
+ghost use Rattle.std.specs.Prelude.{◌≡◌, Some, None, if◌then◌else◌, int_le, negsuc, not};
+ghost use Rattle.up_entry.specs.Checking.{Gives, path_or};
+ghost use Rattle.up_entry.specs.declared.what.What.TheVariants as what;
+ghost use Rattle.up_names.specs.Texts.{UserName};
 ghost use Rattle.up_names.specs.declared.fault.NameFault.TheVariants as name;
 ghost use Rattle.up_replay.specs.Rights.{is_group};
 ghost use Rattle.up_policy.specs.Trees.{owns_snapshots};
+ghost use Rattle.up_wire.specs.declared.requests.Request.TheVariants as request;
 ghost use Rattle.up_list.specs.Asking.{asked_of, owner_asked, pattern_or_fault};
 
 use std::alloc::Global;
@@ -54,20 +57,11 @@ pub fn asked_of(alloc: Global, user: &User, request: &Request) -> Result<Asked, 
     match request {
         Request::Lookup(text) => Ok(Asked::Lookup(path_asked(alloc, text.as_slice())?)),
         Request::WhichAccess(text) => Ok(Asked::WhichAccess(path_asked(alloc, text.as_slice())?)),
-        Request::GroupText(text) => {
-            let path = path_asked(alloc, text.as_slice())?;
-            rule(What::GroupName, is_group(&path))?;
-            Ok(Asked::GroupText(path))
-        }
+        Request::GroupText(text) => group_asked(alloc, text.as_slice()),
         Request::Delete(text) => Ok(Asked::Delete(path_asked(alloc, text.as_slice())?)),
         Request::Put(put) => Ok(Asked::Put(check_entry(alloc, put, user)?)),
         Request::Glob(text) => Ok(Asked::Glob(pattern_asked(alloc, text.as_slice())?)),
-        Request::Watch(text, sequence) => {
-            let path = path_asked(alloc, text.as_slice())?;
-            rule(What::Sequence, *sequence >= -2)?;
-            rule(What::SnapshotWatch, !owns_snapshots(path.owner()))?;
-            Ok(Asked::Watch(path, *sequence))
-        }
+        Request::Watch(text, sequence) => watch_asked(alloc, text.as_slice(), sequence),
         Request::Get(_)
         | Request::StorePut(_)
         | Request::StoreDelete(_)
@@ -76,15 +70,48 @@ pub fn asked_of(alloc: Global, user: &User, request: &Request) -> Result<Asked, 
     }
 }
 
-/// A rule that holds, or fails by this word.
-fn rule(what: What, holds: bool) -> Result<(), EntryFault>
-    ensures { Gives (λ _. tt) result (rule what holds) }
+/// What a GroupText of this text asks.
+#[tactic(auto, unfolding(crate::specs::Asking::asked_of))]
+fn group_asked(alloc: Global, text: &[u8]) -> Result<Asked, EntryFault>
+    ensures { (user : UserName)
+        → Gives (λ asked. asked) result (asked_of user (request.GroupText text.now)) }
 {
-    if holds {
-        Ok(())
-    } else {
-        Err(EntryFault::Invalid(what))
+    let path = path_asked(alloc, text)?;
+    if is_group(&path) {
+        return Ok(Asked::GroupText(path));
     }
+    drop(path);
+    Err(EntryFault::Invalid(What::GroupName))
+}
+
+/// What a Watch of this text asks.
+#[tactic(auto, unfolding(crate::specs::Asking::asked_of))]
+fn watch_asked(alloc: Global, text: &[u8], sequence: &i64) -> Result<Asked, EntryFault>
+    ensures { (user : UserName)
+        → Gives (λ asked. asked) result (asked_of user (request.Watch text.now sequence.now)) }
+{
+    let path = path_asked(alloc, text)?;
+    match broken_by_watch(&path, *sequence) {
+        None => Ok(Asked::Watch(path, *sequence)),
+        Some(what) => {
+            drop(path);
+            Err(EntryFault::Invalid(what))
+        }
+    }
+}
+
+/// The rule that a Watch breaks, where there is one.
+fn broken_by_watch(path: &Path, sequence: i64) -> Option<What>
+    ensures { result ≡ (if not (int_le (negsuc 1) sequence) then Some what.Sequence
+        else if owns_snapshots path.now.owner then Some what.SnapshotWatch else None) }
+{
+    if sequence < -2 {
+        return Some(What::Sequence);
+    }
+    if owns_snapshots(path.owner()) {
+        return Some(What::SnapshotWatch);
+    }
+    None
 }
 
 /// The path of a text that has to be a path text.

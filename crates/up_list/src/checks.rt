@@ -70,14 +70,17 @@ fn link_on_way<'a, O: Onlooker>(
 }
 
 /// The item, where it is a link.
-pub(crate) fn if_link(found: Option<Found>) -> Option<Found>
+fn if_link(found: Option<Found>) -> Option<Found>
     ensures { option_map entry_found result
         ≡ option_and_then if_link (option_map entry_found found.entry) }
 {
     let found = found?;
     match found.entry().attr.kind {
         Kind::Link => Some(found),
-        Kind::File | Kind::Directory => None,
+        Kind::File | Kind::Directory => {
+            drop(found);
+            None
+        }
     }
 }
 
@@ -91,6 +94,35 @@ fn at_link<O: Onlooker>(alloc: Global, onlooker: &O, link: &Found) -> Result<Rep
         return Ok(Reply::Private);
     }
     Ok(Reply::FollowLink(link.shown(alloc, held.has(Right::Read))?))
+}
+
+/// The same, of a link that is let go.
+fn at_met_link<O: Onlooker>(alloc: Global, onlooker: &O, link: Found) -> Result<Reply, AllocError>
+    requires { (entry_found link).name.owner ≡ (O.look onlooker.now).owner }
+    ensures { IfOk result (λ reply. reply ≡ at_link (O.look onlooker.now) (entry_found link.entry)) }
+{
+    let reply = at_link(alloc, onlooker, &link);
+    drop(link);
+    reply
+}
+
+/// The refusal for want of a right on a path, or else the rights of the user on it. `None` stands for any right.
+fn pass_rights<O: Onlooker>(
+    alloc: Global,
+    onlooker: &O,
+    path: &Path,
+    needed: Option<Right>,
+) -> Result<Result<RightSet, Reply>, AllocError>
+    requires { path.now.owner ≡ (O.look onlooker.now).owner }
+    ensures { IfOk result
+        (λ passed. IsChecked (lacking (rights (O.look onlooker.now) path.now) needed)
+        (rights (O.look onlooker.now) path.now) passed) }
+{
+    let held = onlooker.rights(alloc, path)?;
+    match lacking(held, needed) {
+        Some(refusal) => Ok(Err(refusal)),
+        None => Ok(Ok(held)),
+    }
 }
 
 /// Tests links and then rights: a refusal, or else the rights of the user on the path. `None` stands for any right.
@@ -107,13 +139,9 @@ pub(crate) fn pass<O: Onlooker>(
         (λ passed. IsChecked (check (O.look onlooker.now) (tested itself path.now) path.now needed)
         (rights (O.look onlooker.now) path.now) passed) }
 {
-    if let Some(link) = link_met(alloc, onlooker, path, itself)? {
-        return Ok(Err(at_link(alloc, onlooker, &link)?));
-    }
-    let held = onlooker.rights(alloc, path)?;
-    match lacking(held, needed) {
-        Some(refusal) => Ok(Err(refusal)),
-        None => Ok(Ok(held)),
+    match link_met(alloc, onlooker, path, itself)? {
+        Some(link) => Ok(Err(at_met_link(alloc, onlooker, link)?)),
+        None => pass_rights(alloc, onlooker, path, needed),
     }
 }
 

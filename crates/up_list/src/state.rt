@@ -1,22 +1,24 @@
 //! Links and Glob of a tree over its log.
 ghost use Rattle.std.specs.Prelude.{◌≡◌, ◌≢◌, true, IfOk};
-ghost use Rattle.std.specs.Option.{option_map};
+ghost use Rattle.std.specs.Option.{option_and_then, option_copied, option_map};
 ghost use Rattle.up_replay.specs.Trees.{tree_of};
 ghost use Rattle.up_wire.specs.Bounds.{bounded};
 ghost use Rattle.up_wire.specs.declared.replies.Reply.TheVariants.{OutOfMemory};
 ghost use Rattle.up_list.specs.Checks.{first_link, tested, ways_before};
+ghost use Rattle.up_list.specs.Entries.{entry_of, if_link};
 ghost use Rattle.up_list.specs.Globs.{glob_reply};
 ghost use Rattle.up_list.specs.States.{look_at, name_of};
 
-use crate::checks::if_link;
 use crate::globs::glob_for;
-use crate::view::{TreeLook, kept, standing};
+use crate::view::{TreeLook, standing};
 use std::alloc::{AllocError, Global};
 use up_disk::Disk;
+use up_entry::{Entry, Kind};
 use up_names::{Path, User};
 use up_nodes::MemTree;
 use up_pattern::Pattern;
 use up_policy::Loaded;
+use up_replay::Node;
 use up_tree::TreeState;
 use up_wire::{Reply, bounded};
 
@@ -48,9 +50,21 @@ fn link_on_way(tree: &MemTree, path: &Path) -> Result<Option<Path>, AllocError>
         ≡ option_map name_of (first_link (tree_of tree.now.log) (tested true path.now))) }
 {
     let _records = tree.position();
-    match if_link(kept(standing(tree, path)?)) {
-        Some(link) => Ok(Some(link.entry().name.clone()?)),
+    match link_of(standing(tree, path)?) {
+        Some(link) => Ok(Some(link.name.clone()?)),
         None => Ok(None),
+    }
+}
+
+/// The entry of a node, where it is a link.
+fn link_of(node: Option<&Node>) -> Option<&Entry>
+    ensures { option_copied result
+        ≡ option_and_then if_link (option_map entry_of (option_copied node.entry)) }
+{
+    let entry = &node?.entry;
+    match entry.attr.kind {
+        Kind::Link => Some(entry),
+        Kind::File | Kind::Directory => None,
     }
 }
 

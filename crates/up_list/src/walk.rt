@@ -2,6 +2,7 @@
 ghost use Rattle.std.specs.Prelude.{◌≡◌, ◌++◌, ◌<◌, ◌-◌, ℕ, suc, [], ◌∷◌, IfOk, OnOk, Some, is_some, filter, length, map};
 ghost use Rattle.std.specs.List.{AllByRecursion, filter_map};
 ghost use Rattle.std.specs.Option.{option_map, option_to_list};
+ghost use Rattle.up_entry.specs.Showing.{shown_as};
 ghost use Rattle.up_names.specs.PathNames.{PathName};
 ghost use Rattle.up_replay.specs.Rights.{access_node};
 ghost use Rattle.up_list.specs.Entries.{entry_at};
@@ -183,10 +184,12 @@ fn meet_named<O: Onlooker>(
         (Meets (O.look onlooker.now) pattern.now at walk.old walk.new
         (option_to_list (option_map entry_found named.entry))) }
 {
-    match &named {
+    let met = match &named {
         Some(found) => meet(alloc, onlooker, pattern, at, found, &mut decided, walk),
         None => Ok(()),
-    }
+    };
+    drop(named);
+    met
 }
 
 /// Looks into a directory on the way: into the one item whose name is the element of the pattern, where that is literal; else,
@@ -357,6 +360,25 @@ impl Walk {
         if is_literal(pattern, at) && held.is_empty() {
             return Ok(());
         }
+        self.push_row(pattern, at, found, held)
+    }
+
+    /// Adds the row of an item, as it is shown by these rights on it.
+    fn push_row(
+        &mut self,
+        pattern: &Pattern,
+        at: u64,
+        found: &Found,
+        held: RightSet,
+    ) -> Result<(), AllocError>
+        requires { at < length pattern.now.elements }
+        ensures rows { OnOk result (self.new.rows.items
+            ≡ self.old.rows.items ++ record {
+              entry = shown_as held.read (entry_found found.now);
+              rest = length pattern.now.elements - suc at;
+            } ∷ []) }
+        ensures places { self.new.places.items ≡ self.old.places.items }
+    {
         let entry = found.shown(*self.rows.allocator(), held.has(Right::Read))?;
         let len = pattern.len();
         let rest = len - (at + 1);

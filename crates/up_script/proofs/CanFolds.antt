@@ -70,10 +70,6 @@ Runs-part old mid now gathered reply more later all before same part =
     ap (λ run. gathered ++ run.text) same ∙ sym (append_assoc gathered reply later.text) in
     WritesPart-step (gathered ++ reply) later.text (subst (λ xs. Going old mid xs all.text) regroup before.text) part
 
--- nothing more was written
-pub Runs-so_far : {old now : Option (List ℕ)} {gathered : List ℕ} {more all : Run} → Runs old now gathered more all → WritesPart old now all.text
-Runs-so_far before = WritesPart-so_far before.text
-
 -- the last text was written behind what is gathered
 pub Runs-all : (old mid now : Option (List ℕ)) (gathered last : List ℕ) (more all : Run) → Runs old mid gathered more all → more.text ≡ last → Appends mid now (gathered ++ last) → Appends old now all.text
 Runs-all old mid now gathered last more all before same written =

@@ -44,10 +44,3 @@ different (user ∷ more) is =
 -- no owner stands twice
 pub owners_distinct : (owners : List UserName) → are_owners owners ≡ true → IsDistinct bytes_eq owners
 owners_distinct owners is = different owners (and_parts _ (are_different owners) is).1
-
--- a key has its bounds
-pub key_some : (key : Text) → is_key key ≡ true → 1 ≤ length key
-key_some key is = leb-true 1 (length key) (and_parts (nat_le 1 (length key)) (nat_le (length key) 1024) is).0
-
-pub key_most : (key : Text) → is_key key ≡ true → length key ≤ 1024
-key_most key is = leb-true (length key) 1024 (and_parts (nat_le 1 (length key)) (nat_le (length key) 1024) is).1

@@ -16,9 +16,6 @@ behind_none : (others : Option (List UserName)) → behind [] others ≡ others
 behind_none None = refl
 behind_none (Some users) = refl
 
-pub users_begin : (words : List (List ℕ)) → UsersGoing (users_named words) [] words
-users_begin words = record { whole = behind_none (users_named words) }
-
 next_user : (old new : List UserName) (left : Option (List UserName)) (found : Option UserName) → option_map (λ user. old ++ user ∷ []) found ≡ Some new →
     behind old (found >>= λ first. left >>= λ others. Some (first ∷ others)) ≡ behind new left
 next_user old new left None took = absurd (cc)

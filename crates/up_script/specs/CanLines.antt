@@ -81,6 +81,13 @@ unfoldable pub access_dir : Files → PathName → Option PathName
 access_dir files path =
     if bytes_eq path.owner files.owner && is_access path then Some (cut (length path.elements - 1) path) else None
 
+-- with the Access text of a directory that a word stands for
+abbrev pub access_set : CanFiles → PathName → Text → Option CanFiles
+access_set files dir text_word = do
+  text ← decoded text_word
+  rules ← result_ok (access_of files.tree.owner text)
+  Some (record files { tree = with_access files.tree dir rules })
+
 -- `access PATH TEXT`: the text of the Access file at a path of the owner
 unfoldable pub access_line : CanFiles → List Text → Option CanFiles
 access_line files (path_word ∷ text_word ∷ []) = do
@@ -96,6 +103,13 @@ access_line files (a ∷ b ∷ c ∷ more) = None
 -- whether a path is a Group path
 abbrev pub is_group : PathName → Bool
 is_group path = elim (control_of path) [ control.Ordinary ↦ false | control.Access ↦ false | control.Group ↦ true ]
+
+-- with the text that a word stands for, at a Group path of any owner, whose short names are that owner's
+abbrev pub group_set : CanFiles → PathName → Text → Option CanFiles
+group_set files path text_word = do
+  text ← decoded text_word
+  items ← result_ok (group_of path.owner text)
+  if is_group path then Some (with_text files path items) else None
 
 -- `group PATH TEXT`: the text of the Group file at a path of any owner, whose short names are that owner's
 unfoldable pub group_line : CanFiles → List Text → Option CanFiles

@@ -9,6 +9,7 @@ ghost use Rattle.up_script.specs.Statuses.{AnswersWith, IsOneOf, answer_of, can_
 
 use crate::can_script::CanScript;
 use crate::output::{Stop, finish, print};
+use crate::saying::say_count;
 use crate::status::Status;
 use std::alloc::{AllocError, Global};
 use std::hash::RandomState;
@@ -172,9 +173,7 @@ fn run_each<K: Sink>(
 pub fn bad_line(alloc: Global, number: u64) -> Result<Vec<u8>, AllocError>
     ensures { IfOk result (λ line. line.items ≡ bad_line number) }
 {
-    let digits = number.to_string(alloc)?;
-    let mut line = b"bad line ".to_vec(alloc)?;
-    line.extend_from_slice(digits.as_bytes())?;
-    line.extend_from_slice(b"\n")?;
+    let mut line = Vec::new(alloc);
+    say_count(&mut line, b"bad line ", number)?;
     Ok(line)
 }

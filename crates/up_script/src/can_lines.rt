@@ -7,7 +7,7 @@ ghost use Rattle.up_access.specs.AccessTexts.{access_of};
 ghost use Rattle.up_group.specs.GroupTexts.{group_of};
 ghost use Rattle.up_text.specs.Lines.{words_left};
 ghost use Rattle.up_text.specs.Words.{decoded};
-ghost use Rattle.up_script.specs.CanLines.{access_dir, access_line, group_line, is_group, kind_of, named, path_named, reply_of, tree_after, user_named, verdict_line};
+ghost use Rattle.up_script.specs.CanLines.{access_dir, access_line, access_set, group_line, group_set, is_group, kind_of, named, path_named, reply_of, tree_after, user_named, verdict_line};
 
 use crate::can_files::CanFiles;
 use std::alloc::{AllocError, Global};
@@ -84,6 +84,21 @@ pub fn access_line(
     let Some(dir) = access_dir(&files.tree, path) else {
         return Ok(None);
     };
+    set_access(alloc, files, dir, text)
+}
+
+/// Sets the text of the Access file for a directory of the tree to the one that a word stands for.
+fn set_access(
+    alloc: Global,
+    files: &mut CanFiles,
+    dir: Path,
+    text: &[u8],
+) -> Result<Reply, AllocError>
+    ensures reply { IfOk result
+        (λ reply. option_copied reply ≡ reply_of (named (access_set files.old dir text.now))) }
+    ensures after { OnOk result
+        (Some files.new ≡ tree_after (Some files.old) (named (access_set files.old dir text.now))) }
+{
     let Some(rules) = access_text(alloc, files.tree.owner(), text)? else {
         return Ok(None);
     };
@@ -142,6 +157,21 @@ pub fn group_line(
     let Some(path) = path_named(alloc, path)? else {
         return Ok(None);
     };
+    set_group(alloc, files, path, text)
+}
+
+/// Sets the text of a path, where that is a Group path, to the one that a word stands for.
+fn set_group(
+    alloc: Global,
+    files: &mut CanFiles,
+    path: Path,
+    text: &[u8],
+) -> Result<Reply, AllocError>
+    ensures reply { IfOk result
+        (λ reply. option_copied reply ≡ reply_of (named (group_set files.old path text.now))) }
+    ensures after { OnOk result
+        (Some files.new ≡ tree_after (Some files.old) (named (group_set files.old path text.now))) }
+{
     let Some(items) = group_text(alloc, path.owner(), text)? else {
         return Ok(None);
     };

@@ -11,7 +11,7 @@ use up_ends::{Failed, Sink, write_all};
 const PIECE_SIZE: usize = 65_536;
 
 /// Why a run stopped short.
-#[derive(Clone, Copy, Debug, PartialEq, Eq)]
+#[derive(Clone, Copy)]
 pub enum Stop {
     /// The sink failed, and its count of faults rose.
     WriteFault,

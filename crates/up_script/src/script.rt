@@ -1,5 +1,5 @@
 //! `upspin script`: a script in, replies out.
-ghost use Rattle.std.specs.Prelude.{◌≡◌, ◌⊎◌, ◌+◌, ◌-◌, ◌<◌, ◌≤◌, ◌^◌, [], ◌∷◌, ◌++◌, false, true, length, map, IfOk, IfSome, IsErrOf, OnOk, Some, string_bytes};
+ghost use Rattle.std.specs.Prelude.{◌≡◌, ◌≢◌, ◌⊎◌, ◌+◌, ◌-◌, ◌<◌, ◌≤◌, ◌^◌, [], ◌∷◌, ◌++◌, false, true, length, map, IfOk, IfSome, IsErrOf, OnOk, Some, string_bytes};
 ghost use Rattle.std.specs.List.{AllByRecursion, sum_by};
 ghost use Rattle.std.specs.Io.KnownBytes.{Appends, IsAtEnd};
 ghost use Rattle.up_faults.specs.Counts.{Rose};
@@ -17,7 +17,7 @@ use crate::output::{Stop, finish, flush};
 use crate::status::Status;
 use crate::stop::LineStop;
 use crate::turns::run_line;
-use std::alloc::Global;
+use std::alloc::{AllocError, Global};
 use std::hash::RandomState;
 use std::mem;
 use up_disk::{Disk, Disks};
@@ -258,12 +258,22 @@ fn end<K: Sink>(
     ensures cause { IsErrOf result Stop.WriteFault → Rose (K.faults sink.old) (K.faults sink.new) }
     ensures later { K.faults sink.old ≤ K.faults sink.new }
 {
-    let (last, status) = match why {
-        LineStop::Malformed => (bad_line(alloc, number)?, Status::BadLine),
-        LineStop::HelperFault => (Vec::new(alloc), Status::HelperFault),
-        LineStop::DiskFault => (Vec::new(alloc), Status::DiskFault),
-        LineStop::OutOfMemory => return Err(Stop::OutOfMemory),
-    };
+    let (last, status) = ending(alloc, number, why)?;
     finish(sink, gathered, &last)?;
     Ok(status)
+}
+
+/// The text that is written last where a line was not done, whose number this is, and the status.
+fn ending(alloc: Global, number: u64, why: LineStop) -> Result<(Vec<u8>, Status), AllocError>
+    ensures text { IfOk result (λ ending. ending.0.items ≡ stop_text number why) }
+    ensures code { IfOk result (λ ending. code_of ending.1 ≡ stop_code why) }
+    ensures kind { IfOk result (λ ending. IsOneOf (1 ∷ 5 ∷ 6 ∷ []) (code_of ending.1)) }
+    ensures done { OnOk result (why ≢ LineStop.OutOfMemory) }
+{
+    match why {
+        LineStop::Malformed => Ok((bad_line(alloc, number)?, Status::BadLine)),
+        LineStop::HelperFault => Ok((Vec::new(alloc), Status::HelperFault)),
+        LineStop::DiskFault => Ok((Vec::new(alloc), Status::DiskFault)),
+        LineStop::OutOfMemory => Err(AllocError),
+    }
 }

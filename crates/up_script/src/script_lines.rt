@@ -1,10 +1,11 @@
 //! The lines of a script: what each says by itself.
 ghost use Rattle.std.specs.Prelude.{◌≡◌, ◌≢◌, ◌++◌, [], ◌∷◌, length, not, IfNone, IfOk, IfSome, OnOk, None, Some, option_map, if◌then◌else◌};
 ghost use Rattle.std.specs.List.{list_all, slice_split};
-ghost use Rattle.std.specs.Option.{option_copied};
+ghost use Rattle.std.specs.Option.{option_and_then, option_copied};
 ghost use Rattle.up_policy.specs.Trees.{owns_snapshots};
 ghost use Rattle.up_text.specs.Lines.{words_left};
 ghost use Rattle.up_text.specs.Lists.{is_comma};
+ghost use Rattle.up_text.specs.Words.{decoded};
 ghost use Rattle.up_script.specs.CanLines.{user_named};
 ghost use Rattle.up_script.specs.ScriptLines.{are_different, are_owners, enrol_line, host_line, key_named, line_of, open_line, session_line, session_named, trees_named, users_named};
 ghost use Rattle.up_script.specs.Standing.{IsAskable};
@@ -106,6 +107,20 @@ fn host_line(alloc: Global, words: Option<&[u8]>) -> Result<Option<ScriptLine>, 
     let Some(operator) = user_named(alloc, operator)? else {
         return Ok(None);
     };
+    host_with_trees(alloc, name, operator, trees)
+}
+
+// A `host` line whose name and operator were read, with the trees that a word names.
+fn host_with_trees(
+    alloc: Global,
+    name: HostName,
+    operator: User,
+    trees: &[u8],
+) -> Result<Option<ScriptLine>, AllocError>
+    ensures says { IfOk result (λ found. found ≡ option_and_then (λ owners. Some (ScriptLine.Host
+        (record { name = name; operator = operator; owners = owners }))) (trees_named trees.now)) }
+    ensures asks { IfOk result (λ found. IfSome found IsAskable) }
+{
     let Some(owners) = trees_named(alloc, trees)? else {
         return Ok(None);
     };
@@ -131,6 +146,20 @@ fn enrol_line(alloc: Global, words: Option<&[u8]>) -> Result<Option<ScriptLine>,
     let Some(user) = user_named(alloc, user)? else {
         return Ok(None);
     };
+    user_with_key(alloc, host, user, key)
+}
+
+// An `enrol` line whose host and user were read, with the key that a word names.
+fn user_with_key(
+    alloc: Global,
+    host: HostName,
+    user: User,
+    key: &[u8],
+) -> Result<Option<ScriptLine>, AllocError>
+    ensures says { IfOk result (λ found. found ≡ option_and_then (λ key. Some (ScriptLine.Enrol
+        (record { host = host; user = user; key = key }))) (key_named key.now)) }
+    ensures asks { IfOk result (λ found. IfSome found IsAskable) }
+{
     let Some(key) = key_named(alloc, key)? else {
         return Ok(None);
     };
@@ -155,6 +184,22 @@ fn open_line(alloc: Global, words: Option<&[u8]>) -> Result<Option<ScriptLine>, 
     let Some(user) = user_named(alloc, user)? else {
         return Ok(None);
     };
+    session_with_proof(alloc, number, host, user, proof)
+}
+
+// An `open` line whose host and user were read, with the proof that a word stands for.
+fn session_with_proof(
+    alloc: Global,
+    number: u64,
+    host: HostName,
+    user: User,
+    proof: &[u8],
+) -> Result<Option<ScriptLine>, AllocError>
+    ensures says { IfOk result (λ found. found ≡ option_and_then (λ proof. Some (ScriptLine.Open
+        (record { number = number; host = host; user = user; proof = proof })))
+        (decoded proof.now)) }
+    ensures asks { IfOk result (λ found. IfSome found IsAskable) }
+{
     let Some(proof) = read_word(alloc, proof)? else {
         return Ok(None);
     };

@@ -264,7 +264,10 @@ fn ask<D: Disk, P: Loader, C: Clock>(
     };
     let now = clock.now();
     let event = sessions.ask(alloc, peers, number, &request, now);
-    say_replied(alloc, out, number, &event.reply)
+    drop(request);
+    let said = say_replied(alloc, out, number, &event.reply);
+    drop(event);
+    said
 }
 
 // What came of a request.
@@ -360,7 +363,11 @@ fn say_put(
 {
     match outcome {
         Ok(position) => Ok(say_done(alloc, out, number, Done::Changed(position))?),
-        Err(fault) => say_failed(alloc, out, number, &fault),
+        Err(fault) => {
+            let said = say_failed(alloc, out, number, &fault);
+            drop(fault);
+            said
+        }
     }
 }
 
@@ -375,7 +382,11 @@ fn say_got(
 {
     match outcome {
         Ok(bytes) => Ok(say_done(alloc, out, number, Done::Bytes(bytes))?),
-        Err(fault) => say_failed(alloc, out, number, &fault),
+        Err(fault) => {
+            let said = say_failed(alloc, out, number, &fault);
+            drop(fault);
+            said
+        }
     }
 }
 
@@ -385,7 +396,9 @@ fn say_done(alloc: Global, out: &mut Vec<u8>, number: u64, done: Done) -> Result
         ++ all_numbered number (reply_lines (Reply.Ok done))) }
 {
     let reply = Reply::Ok(done);
-    say_reply(alloc, out, number, &reply)
+    let said = say_reply(alloc, out, number, &reply);
+    drop(reply);
+    said
 }
 
 // Why a put or get failed.

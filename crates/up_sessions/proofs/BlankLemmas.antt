@@ -1,5 +1,5 @@
 -- No damage is found on empty disks.
-use Rattle.std.proofs.Common.{◌≡◌, ℕ, zero, suc, Bool, false, List, [], ◌∷◌, ◌++◌, take, drop, Option, Some, Result, Ok, Err, inl, inr, refl, ap, subst, ◌∙◌}
+use Rattle.std.proofs.Common.{◌≡◌, ℕ, zero, suc, Bool, false, List, [], ◌∷◌, ◌++◌, take, Option, Some, Result, Ok, Err, inl, inr, refl, ap, subst, ◌∙◌}
 use Rattle.std.specs.List.{AllByRecursion}
 use Rattle.std.specs.Prelude.{IfSome}
 use Rattle.up_blocks.specs.Records as blocks
@@ -51,11 +51,6 @@ pub all_first : {X : Type 0} (P : X → Type 0) (n : ℕ) (xs : List X) → AllB
 all_first P zero xs all = tt
 all_first P (suc n) [] all = tt
 all_first P (suc n) (x ∷ xs) all = (all.0, all_first P n xs all.1)
-
-pub all_left : {X : Type 0} (P : X → Type 0) (n : ℕ) (xs : List X) → AllByRecursion P xs → AllByRecursion P (drop n xs)
-all_left P zero xs all = all
-all_left P (suc n) [] all = tt
-all_left P (suc n) (x ∷ xs) all = all_left P n xs all.1
 
 module _ {D : Type 0} (disks : Ghosts D) (limits : Limits) where
   at_disk : {R : Type 0} (read : Reader R) (limits : Limits) (disk : D) (fault : OpenFault D) → read limits.largest [] ≡ Ok [] → IsBlank disks disk → IsNoLog disks read limits disk fault → is_damage fault.why ≡ false

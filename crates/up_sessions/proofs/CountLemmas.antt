@@ -1,8 +1,8 @@
 -- How the counts of disks and peers rise over each kind of line.
-use Rattle.std.proofs.Common.{◌≡◌, ◌≤◌, ◌<◌, ◌+◌, ◌-◌, ◌^◌, ℕ, ℤ, zero, suc, List, [], ◌∷◌, Option, Some, None, Result, Ok, Err, inl, inr, refl, sym, ap, ◌∙◌, arith}
+use Rattle.std.proofs.Common.{◌≡◌, ◌≤◌, ◌<◌, ◌+◌, ◌-◌, ◌^◌, ℕ, ℤ, zero, suc, List, [], ◌∷◌, Option, Some, None, Result, Ok, Err, inl, inr, refl, sym, ap, subst, ◌∙◌, arith}
 use Rattle.std.proofs.lemmas.List.Sums.{sum_by-append, sum_by-cons}
 use Rattle.std.specs.List.{sum_by}
-use Rattle.std.specs.Prelude.{slice_get, slice_set}
+use Rattle.std.specs.Prelude.{slice_get}
 use Rattle.std.specs.Prelude as std
 use Rattle.up_client.specs.declared.fault.ClientFault.{ClientFault}
 use Rattle.up_disk.specs.declared.disk.Disk.{Ghosts}
@@ -23,7 +23,7 @@ use Rattle.up_names.specs.Texts.{UserName}
 use Rattle.up_peer.specs.declared.loader.Loader as loader
 use Rattle.up_sessions.proofs.KeptLemmas.{sum_moved}
 use Rattle.up_sessions.specs.Asking.{AsksHost}
-use Rattle.up_sessions.specs.Lines.{EnrolLine, GetLine, HostLine, NothingLine, OpenLine, PutLine, RequestLine}
+use Rattle.up_sessions.specs.Lines.{EnrolLine, GetLine, HostLine, OpenLine, PutLine, RequestLine}
 use Rattle.up_sessions.specs.Opening.{EnrolsAt, OpensNext}
 use Rattle.up_sessions.specs.Signing.{JudgesBy, Signed, is_open, signed_on}
 use Rattle.up_sessions.specs.Talking.{TalksAt, io_in}
@@ -75,10 +75,10 @@ module _ {D : Type 0} (disks : Ghosts D) (limits : Limits) where
       let one = sum_by-cons disks.faults logs.of_keys [] in
       omega (arith, trees, store, key_log, whole, two, one)
 
-  was_later : (log : LogName) (disk after : D) → WasOpenedAs disks limits log disk after → disks.faults disk ≤ disks.faults after
-  was_later (LogName.OfTree owner) disk after was = let same = ap disks.faults was.disk_is in let a = was.opened.counts.later in omega (arith, same, a)
-  was_later LogName.OfStore disk after was = let same = ap disks.faults was.disk_is in let a = was.opened.counts.later in omega (arith, same, a)
-  was_later LogName.OfKeys disk after was = let same = ap disks.faults was.disk_is in let a = was.opened.counts.later in omega (arith, same, a)
+  pub was_later : (log : LogName) (disk after : D) → WasOpenedAs disks limits log disk after → disks.faults disk ≤ disks.faults after
+  was_later (LogName.OfTree owner) disk after was = subst (λ d. disks.faults disk ≤ disks.faults d) was.disk_is was.opened.counts.later
+  was_later LogName.OfStore disk after was = subst (λ d. disks.faults disk ≤ disks.faults d) was.disk_is was.opened.counts.later
+  was_later LogName.OfKeys disk after was = subst (λ d. disks.faults disk ≤ disks.faults d) was.disk_is was.opened.counts.later
 
   were_later : (logs : List LogName) (used opened : List D) → WereOpened disks limits logs used opened → sum_by disks.faults used ≤ sum_by disks.faults opened
   were_later [] [] [] all = omega arith
@@ -222,12 +222,6 @@ module _ {D P V C N : Type 0} (who : Parties D P V C N) where
       let peers = ap who.peers.faults h.peers in
       record { later = omega (arith, state, peers); io = λ below. omega (arith, state, peers) }
 
-  pub nothing_line : (number : ℕ) (a b : World D P V C N) → NothingLine who number a b → RosePerIo (faults_of who a) (faults_of who b) 0
-  nothing_line number a b h =
-      let state = ap (faults_in who.disks) h.state in
-      let peers = ap who.peers.faults h.peers in
-      record { later = omega (arith, state, peers); io = λ below. omega (arith, state, peers) }
-
   pub request_line : (number : ℕ) (request : Request) (a b : World D P V C N) (e : Event) → RequestLine who number request a e b → RosePerIo (faults_of who a) (faults_of who b) (io_of e.reply)
   request_line number request a b e h =
       asks_rose who.disks who.peers h.now.opened.place (record { user = h.now.opened.session.user; request = request }) h.now.moment e a.state b.state a.around.peers b.around.peers h.asks
@@ -241,12 +235,6 @@ module _ {D P V C N : Type 0} (who : Parties D P V C N) where
       talks_rose who.disks who.peers h.now.opened.place h.now.opened.session.user h.now.moment (get_talk path) result a.state b.state a.around.peers b.around.peers h.gets
 
   -- ---- a fault has its cause
-
-  pub host_fault : (limits : Limits) (name : List ℕ) (operator : UserName) (owners : List UserName) (a b : World D P V C N) → HostLine who limits name operator owners a (Err line.Fault) b → Rose (faults_in who.disks a.state) (faults_in who.disks b.state)
-  host_fault limits name operator owners a b h = next_rose who.disks limits name operator owners a.state b.state h.opens
-
-  pub enrol_fault : (place : ℕ) (user : UserName) (key : List ℕ) (a b : World D P V C N) → EnrolLine who place user key a (Err append.Fault) b → Rose (faults_in who.disks a.state) (faults_in who.disks b.state)
-  enrol_fault place user key a b h = enrols_rose who.disks place user key a.state b.state h.enrols
 
   by_card : (host : List ℕ) (card : Option KeyRecord) (signature : List ℕ) (v w : V) (n m : N) (signed : Signed) → Err line.Fault ≡ is_open signed → JudgesBy who.verifiers who.nonces host card signature v n signed w m → Rose (who.verifiers.faults v) (who.verifiers.faults w)
   by_card host (Some card) signature v w n m (Err line.Fault) is judged = judged.counts.rose refl

@@ -16,7 +16,7 @@ use Rattle.up_sessions.proofs.KeepLemmas.{enrol_keeps, get_keeps, host_keeps, pu
 use Rattle.up_sessions.proofs.KeptLemmas.{as_many, trees_opened}
 use Rattle.up_sessions.specs.Fitting.{HasFew, IsFit}
 use Rattle.up_sessions.specs.Keeping.{AllStayIn, Place, all_places, place_of, place_of_tree, places_of}
-use Rattle.up_sessions.specs.Lines.{EnrolLine, GetLine, HostLine, NothingLine, OpenLine, PutLine, RequestLine}
+use Rattle.up_sessions.specs.Lines.{EnrolLine, GetLine, HostLine, OpenLine, PutLine, RequestLine}
 use Rattle.up_sessions.specs.Opening.{IsBlank}
 use Rattle.up_sessions.specs.Signing.{Signed, signed_on}
 use Rattle.up_sessions.specs.Worlds.{AtHost, Hosts, Parties, World, no_session}
@@ -106,9 +106,6 @@ module _ {D P V C N : Type 0} (who : Parties D P V C N) where
 
   pub open_fits : (number place : ℕ) (user : UserName) (signature : List ℕ) (a b : World D P V C N) (result : Result std.Bool LineFault) → OpenLine who number place user signature a result b → IsFit who.disks a.state → IsFit who.disks b.state
   open_fits number place user signature a b result h fit = subst (IsFit who.disks) (sym h.signs.after) (signed_fit who.disks number place h.signs.signed a.state fit)
-
-  pub nothing_fits : (number : ℕ) (a b : World D P V C N) → NothingLine who number a b → IsFit who.disks a.state → IsFit who.disks b.state
-  nothing_fits number a b h fit = subst (IsFit who.disks) (sym h.state) fit
 
   pub request_fits : (number : ℕ) (request : Request) (a b : World D P V C N) (e : Event) → RequestLine who number request a e b → IsFit who.disks a.state → IsFit who.disks b.state
   request_fits number request a b e h = at_fit who.disks h.now.opened.place _ a.state b.state h.asks h.asks.done.stays.settled (request_keeps who number request a b e h)

@@ -11,7 +11,7 @@ use Rattle.up_disk.specs.declared.disk.Disk.{Ghosts}
 use Rattle.up_faults.proofs.Causes.{Rose-after, Rose-before}
 use Rattle.up_faults.specs.Counts.{Rose}
 use Rattle.up_host.specs.Alone.{HostState}
-use Rattle.up_host.specs.Opens.{IsLogOn, IsRefusedAs, OpensHost, OpensTrees, Reader, RefusesHost, WasOpenedAs, WereOpened, disk_of, disks_of}
+use Rattle.up_host.specs.Opens.{IsLogOn, IsRefusedAs, OpensHost, OpensTrees, Reader, RefusesHost, WereOpened}
 use Rattle.up_host.specs.Routes.{LogName}
 use Rattle.up_host.specs.Settled.{KeepsSettled, StaysSettled, owner_of}
 use Rattle.up_host.specs.declared.event.Event.{Event}
@@ -23,10 +23,10 @@ use Rattle.up_journal.specs.declared.fault.OpenFault.{OpenFault}
 use Rattle.up_journal.specs.declared.limits.Limits.{Limits}
 use Rattle.up_names.specs.PathNames.{PathName}
 use Rattle.up_names.specs.Texts.{UserName}
+use Rattle.up_sessions.proofs.CountLemmas.{was_later}
 use Rattle.up_sessions.proofs.KeptLemmas.{as_many}
-use Rattle.up_sessions.specs.Handing.{all_disks}
 use Rattle.up_sessions.specs.Keeping.{AllStayIn, Place, StaysIn, all_places, place_of, place_of_tree, places_of}
-use Rattle.up_sessions.specs.Lines.{EnrolLine, GetLine, HostLine, NothingLine, OpenLine, PutLine, RequestLine}
+use Rattle.up_sessions.specs.Lines.{EnrolLine, GetLine, HostLine, OpenLine, PutLine, RequestLine}
 use Rattle.up_sessions.specs.Opening.{OpensNext}
 use Rattle.up_sessions.specs.Signing.{Signed, signed_on}
 use Rattle.up_sessions.specs.Worlds.{AtHost, Hosts, Parties, World}
@@ -156,14 +156,9 @@ module _ {D : Type 0} (disks : Ghosts D) where
   back_stays : (one two : D) → disks.faults one ≤ disks.faults two → StaysIn disks (free_at one) (free_at two)
   back_stays one two later = record { later = later; settled = λ is. inl refl }
 
-  was_later : (limits : Limits) (log : LogName) (disk after : D) → WasOpenedAs disks limits log disk after → disks.faults disk ≤ disks.faults after
-  was_later limits (LogName.OfTree owner) disk after was = let same = ap disks.faults was.disk_is in let a = was.opened.counts.later in omega (arith, same, a)
-  was_later limits LogName.OfStore disk after was = let same = ap disks.faults was.disk_is in let a = was.opened.counts.later in omega (arith, same, a)
-  was_later limits LogName.OfKeys disk after was = let same = ap disks.faults was.disk_is in let a = was.opened.counts.later in omega (arith, same, a)
-
   were_stay : (limits : Limits) (logs : List LogName) (used opened : List D) → WereOpened disks limits logs used opened → AllZip (StaysIn disks) (map free_at used) (map free_at opened)
   were_stay limits [] [] [] all = tt
-  were_stay limits (l ∷ ls) (d ∷ ds) (o ∷ os) all = (back_stays d o (was_later limits l d o all.0), were_stay limits ls ds os all.1)
+  were_stay limits (l ∷ ls) (d ∷ ds) (o ∷ os) all = (back_stays d o (was_later disks limits l d o all.0), were_stay limits ls ds os all.1)
   were_stay limits [] [] (o ∷ os) all = absurd all
   were_stay limits [] (d ∷ ds) [] all = absurd all
   were_stay limits [] (d ∷ ds) (o ∷ os) all = absurd all
@@ -238,9 +233,6 @@ module _ {D P V C N : Type 0} (who : Parties D P V C N) where
   pub open_keeps : (number place : ℕ) (user : UserName) (signature : List ℕ) (a b : World D P V C N) (result : Result std.Bool LineFault) → OpenLine who number place user signature a result b → AllStayIn who.disks a.state b.state
   open_keeps number place user signature a b result h = subst (AllStayIn who.disks a.state) (sym h.signs.after) (signed_stays who.disks number place h.signs.signed a.state)
 
-  pub nothing_keeps : (number : ℕ) (a b : World D P V C N) → NothingLine who number a b → AllStayIn who.disks a.state b.state
-  nothing_keeps number a b h = subst (AllStayIn who.disks a.state) (sym h.state) (all_same who.disks a.state)
-
   pub request_keeps : (number : ℕ) (request : Request) (a b : World D P V C N) (e : Event) → RequestLine who number request a e b → AllStayIn who.disks a.state b.state
   request_keeps number request a b e h = at_stays who.disks h.now.opened.place _ a.state b.state h.asks h.asks.done.stays.settled
 
@@ -249,35 +241,3 @@ module _ {D P V C N : Type 0} (who : Parties D P V C N) where
 
   pub get_keeps : (number : ℕ) (path : PathName) (a b : World D P V C N) (result : Result (List ℕ) ClientFault) → GetLine who number path a result b → AllStayIn who.disks a.state b.state
   get_keeps number path a b result h = at_stays who.disks h.now.opened.place _ a.state b.state h.gets h.gets.done.stays.settled
-
--- ---- the disks in the places
-
-abbrev pub disk_at : {D : Type 0} → Place D → D
-disk_at p = p.0
-
-tree_disks : {D : Type 0} (trees : List (Held (tree.State D))) → map disk_at (map place_of_tree trees) ≡ map disk_of trees
-tree_disks [] = refl
-tree_disks (held ∷ trees) = ap (λ xs. held.state.disk ∷ xs) (tree_disks trees)
-
-host_disks : {D : Type 0} (host : HostState D) → map disk_at (places_of host) ≡ disks_of host
-host_disks host =
-    map-append disk_at (map place_of_tree host.trees) (place_of host.store.state ∷ place_of host.keys.state ∷ [])
-    ∙ ap (λ xs. xs ++ host.store.state.disk ∷ host.keys.state.disk ∷ []) (tree_disks host.trees)
-
-hosts_disks : {D : Type 0} (hosts : List (HostState D)) → map disk_at (flat_map places_of hosts) ≡ flat_map disks_of hosts
-hosts_disks [] = refl
-hosts_disks (host ∷ hosts) =
-    map-append disk_at (places_of host) (flat_map places_of hosts)
-    ∙ ap (λ xs. xs ++ map disk_at (flat_map places_of hosts)) (host_disks host)
-    ∙ ap (λ xs. disks_of host ++ xs) (hosts_disks hosts)
-
-free_disks : {D : Type 0} (free : List D) → map disk_at (map (λ disk. (disk, true)) free) ≡ free
-free_disks [] = refl
-free_disks (disk ∷ free) = ap (λ xs. disk ∷ xs) (free_disks free)
-
--- all disks stand in their places
-pub disks_in_places : {D : Type 0} (a : Hosts D) → map disk_at (all_places a) ≡ all_disks a
-disks_in_places a =
-    map-append disk_at (flat_map places_of a.hosts) (map (λ disk. (disk, true)) a.free)
-    ∙ ap (λ xs. xs ++ map disk_at (map (λ disk. (disk, true)) a.free)) (hosts_disks a.hosts)
-    ∙ ap (λ xs. flat_map disks_of a.hosts ++ xs) (free_disks a.free)

@@ -8,7 +8,7 @@ use Rattle.up_disk.specs.Spare.{Spared}
 use Rattle.up_disk.specs.declared.disk.Disk.{Ghosts}
 use Rattle.up_entry.specs.declared.entries.Endpoint.{Endpoint}
 use Rattle.up_host.specs.Alone.{Enrols, HostState}
-use Rattle.up_host.specs.Opens.{OpensHost, RefusesHost, WereOpened}
+use Rattle.up_host.specs.Opens.{RefusesHost, WereOpened}
 use Rattle.up_host.specs.Routes.{LogName}
 use Rattle.up_host.specs.Settled.{StaysSettled}
 use Rattle.up_host.specs.declared.fault.HostFault.{HostFault}
@@ -68,16 +68,7 @@ module _ {D : Type 0} (disks : Ghosts D) (limits : Limits) where
   first_blank owners given fault xs n refuses is blank =
       refused_blank disks limits owners given fault (subst (AllByRecursion (IsBlank disks)) (sym is) (all_first (IsBlank disks) n xs blank)) refuses
 
-  -- ---- disks are taken
-
-  pub takes_host : (name : List ℕ) (operator : UserName) (owners : List UserName) (old new : Spared D) (given : List D) (n : ℕ) (host : HostState D) → n ≡ length owners + 2
-      → given ≡ take n old.disks → new.disks ≡ drop n old.disks → new.spare ≡ old.spare + n → OpensHost disks limits name operator owners given host → TakesHost disks limits name operator owners old new host
-  takes_host name operator owners old new given n host many is left room opens = record {
-    given = given;
-    taken = taken_whole old.disks given new.disks n is left;
-    opens = opens;
-    room = omega (arith, many, room);
-  }
+  -- ---- disks are handed back
 
   -- no host was opened, for want of memory
   pub hands_none : (owners : List UserName) (old new : Spared D) → length owners + 2 ≤ length old.disks → new.disks ≡ old.disks → new.spare ≡ old.spare → HandsBack disks limits owners line.OutOfMemory old new
@@ -148,11 +139,6 @@ module _ {D : Type 0} (disks : Ghosts D) (limits : Limits) where
     why_is = back.why_is;
     whole = λ j. record { hosts = same j; sessions = sessions; free = back.back j };
   }
-
-  pub kept_back : (owners : List UserName) (why : LineFault) (old new : Spared D) (hosts later : List (HostState D)) (sessions : List (Option Opened)) → HandsBack disks limits owners why old new
-      → later ≡ hosts → IsKept hosts sessions old.spare → IsKept later sessions new.spare
-  kept_back owners why old new hosts later sessions back same kept =
-      subst (λ hs. IsKept hs sessions new.spare) (sym same) (subst (λ n. IsKept hosts sessions n) (sym back.room) kept)
 
 module _ {D : Type 0} (disks : Ghosts D) (place : ℕ) (user : UserName) (key : List ℕ) where
   -- a user was enrolled at the host at a place

@@ -64,13 +64,3 @@ left_after xs left rest i x h is taken =
     let whole : x ∷ rest ≡ next.0 ∷ drop (suc i) xs = sym taken ∙ is ∙ next.1 in
     let others : rest ≡ drop (suc i) xs = cc in
     others ∙ ap (λ n. drop n xs) (sym (add-one i))
-
--- what was taken and what is left are the whole
-pub taken_back : {X : Type 0} (xs given left rest : List X) (i : ℕ) (x : X) → given ≡ take i xs → left ≡ drop i xs → left ≡ x ∷ rest → given ++ (x ∷ [] ++ rest) ≡ xs
-taken_back {X} xs given left rest i x first is taken = ap (λ ys. ys ++ x ∷ rest) first ∙ ap (λ ys. take i xs ++ ys) (sym taken ∙ is) ∙ joined xs i
-  where
-    joined : {Y : Type 0} (xs : List Y) (i : ℕ) → take i xs ++ drop i xs ≡ xs
-    joined [] zero = refl
-    joined [] (suc i) = refl
-    joined (x ∷ xs) zero = refl
-    joined (x ∷ xs) (suc i) = ap (λ ys. x ∷ ys) (joined xs i)

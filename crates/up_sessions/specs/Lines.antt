@@ -42,12 +42,6 @@ module _ {D P V C N : Type 0} (who : Parties D P V C N) where
     pub verifier : b.around.verifier ≡ a.around.verifier
     pub nonces : b.around.nonces ≡ a.around.nonces
 
-  -- it asks nothing besides
-  pub record NothingLine (number : ℕ) (a b : World D P V C N) : Type 0 where
-    pub now : AtMoment number a b
-    pub state : b.state ≡ a.state
-    pub peers : b.around.peers ≡ a.around.peers
-
   -- the session's host is asked a request of its user
   pub record RequestLine (number : ℕ) (request : Request) (a : World D P V C N) (e : Event) (b : World D P V C N) : Type 0 where
     pub now : AtMoment number a b

@@ -13,7 +13,6 @@ use up_host::Host;
 
 impl<D: Disk + Drop> Sessions<D> {
     /// All disks, in their places: those of the hosts in order, and then those that no host has. It takes no memory.
-    #[tactic(auto, using(crate::proofs::HandingLemmas::in_front, crate::proofs::HandingLemmas::no_shorter))]
     pub fn into_disks(self) -> Disks<D>
         ensures disks { result.disks ≡ all_disks self }
         ensures safe { LeavesAll D.Disk self }

@@ -21,7 +21,7 @@ ghost use Rattle.up_snap.specs.declared.shown.Shown.{Shown};
 use crate::moments::root_at;
 use crate::old::{node_then, old_path};
 use crate::shown::Shown;
-use crate::standing::{earlier, first_to, item_by, renamed};
+use crate::standing::{earlier, first_to, item_by, moved_to};
 use crate::written::may_bear;
 use std::alloc::{AllocError, Global};
 use up_entry::Entry;
@@ -136,7 +136,7 @@ fn kept_entry(tree: &MemTree, dir: &Path, old: &Path, n: u64) -> Result<Option<E
         return Ok(None);
     };
     match dir.join(last_element(old)) {
-        Ok(path) => Ok(Some(renamed(node.entry, &path)?)),
+        Ok(path) => Ok(Some(moved_to(node.entry, path)?)),
         Err(NameFault::TooLong(_)) => Ok(None),
         Err(_) => Err(AllocError),
     }

@@ -111,6 +111,15 @@ fn held_by(user: &User, owner: &User) -> RightSet
     }
 }
 
+/// Whether an item is found. It is let go.
+pub(crate) fn is_there(found: Option<Found>) -> bool
+    ensures { result ≡ is_some (option_map entry_found found.entry) }
+{
+    let there = found.is_some();
+    drop(found);
+    there
+}
+
 /// Whether a directory has an Access file.
 #[tactic(auto, using(crate::proofs::LookLemmas::has_some))]
 fn has_access(alloc: Global, tree: &MemTree, shower: &User, dir: &Path) -> Result<bool, AllocError>
@@ -118,7 +127,7 @@ fn has_access(alloc: Global, tree: &MemTree, shower: &User, dir: &Path) -> Resul
     ensures { IfOk result (λ has. has ≡ is_some (access_node
         (snapshots_to tree.now.owner tree.now.log (length tree.now.log)) dir.now)) }
 {
-    Ok(item_named(alloc, tree, shower, dir, "Access")?.is_some())
+    Ok(is_there(item_named(alloc, tree, shower, dir, "Access")?))
 }
 
 /// The text of the file at a path.
@@ -201,7 +210,9 @@ fn stands_at(
         (snapshots_to tree.now.owner tree.now.log (length tree.now.log)) (cut n path.now))) }
 {
     let front = front_of(path, n)?;
-    Ok(item_at(alloc, tree, shower, &front)?.is_some())
+    let found = item_at(alloc, tree, shower, &front);
+    drop(front);
+    Ok(is_there(found?))
 }
 
 /// The item of this name in a directory.

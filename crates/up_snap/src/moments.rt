@@ -89,6 +89,30 @@ fn joined(dir: Path, name: Vec<u8>) -> Result<Path, AllocError>
     }
 }
 
+/// The path with one element more, of a number's last two decimal digits.
+fn with_two_digits(alloc: Global, dir: Path, number: u64) -> Result<Path, AllocError>
+    ensures { IfOk result (λ path. path ≡ extended dir (digits 2 number)) }
+{
+    let name = two_digits(alloc, number)?;
+    joined(dir, name)
+}
+
+/// The path with one element more, of a number's last four decimal digits.
+fn with_four_digits(alloc: Global, dir: Path, number: u64) -> Result<Path, AllocError>
+    ensures { IfOk result (λ path. path ≡ extended dir (digits 4 number)) }
+{
+    let name = four_digits(alloc, number)?;
+    joined(dir, name)
+}
+
+/// The path with one element more, of the time of day of a moment.
+fn with_clock(alloc: Global, dir: Path, time: u64) -> Result<Path, AllocError>
+    ensures { IfOk result (λ path. path ≡ extended dir (clock_text time)) }
+{
+    let name = clock_digits(alloc, time)?;
+    joined(dir, name)
+}
+
 /// The root of the snapshot of a moment, in the tree of this snapshot user.
 #[tactic(auto, unfolding(up_answers::specs::Calendar::moment_elements))]
 pub fn root_at(alloc: Global, shower: &User, time: u64) -> Result<Path, AllocError>
@@ -97,8 +121,8 @@ pub fn root_at(alloc: Global, shower: &User, time: u64) -> Result<Path, AllocErr
 {
     let date = civil_date(time);
     let root = Path::root(shower.clone()?)?;
-    let year = joined(root, four_digits(alloc, date.year as u64)?)?;
-    let month = joined(year, two_digits(alloc, date.month as u64)?)?;
-    let day = joined(month, two_digits(alloc, date.day as u64)?)?;
-    joined(day, clock_digits(alloc, time)?)
+    let year = with_four_digits(alloc, root, date.year as u64)?;
+    let month = with_two_digits(alloc, year, date.month as u64)?;
+    let day = with_two_digits(alloc, month, date.day as u64)?;
+    with_clock(alloc, day, time)
 }

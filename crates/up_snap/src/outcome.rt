@@ -13,6 +13,7 @@ ghost use Rattle.up_snap.specs.Firsts.{IsMoment};
 ghost use Rattle.up_snap.specs.Looked.{IsShower, look_at};
 ghost use Rattle.up_snap.specs.Outcomes.{log_with};
 
+use crate::look::is_there;
 use std::alloc::{AllocError, Global};
 use up_entry::{Entry, Kind, Rec, What};
 use up_list::{Asked, Onlooker, check, glob_for, group_text, lookup, which_access};
@@ -97,10 +98,8 @@ fn right_to_put<O: Onlooker>(alloc: Global, look: &O, path: &Path) -> Result<Rig
     ensures { IfOk result (λ right. right
         ≡ right_to_put (node_at (O.look look.now).tree path.now)) }
 {
-    match look.item(alloc, path)? {
-        Some(_) => Ok(Right::Write),
-        None => Ok(Right::Create),
-    }
+    let there = is_there(look.item(alloc, path)?);
+    Ok(if there { Right::Write } else { Right::Create })
 }
 
 /// Whether an entry is the file that takes a snapshot when it is put.

@@ -4,13 +4,13 @@ ghost use Rattle.up_list.specs.Entries.{entry_at, entry_of};
 ghost use Rattle.up_list.specs.Founds.{entry_found};
 ghost use Rattle.up_list.specs.Reads.{file_text};
 ghost use Rattle.up_replay.specs.Fits.{snapshot_user};
-ghost use Rattle.up_replay.specs.Trees.{node_at};
+ghost use Rattle.up_replay.specs.Trees.{node_at, tree_at};
 ghost use Rattle.up_answers.specs.SnapshotTrees.{made_up, snapshots_to};
 ghost use Rattle.up_names.specs.Texts.{UserName};
 ghost use Rattle.up_names.specs.PathNames.{PathName, is_under};
 ghost use Rattle.up_snap.specs.Firsts.{IsMoment, IsTimed, bearing_at, sooner};
-ghost use Rattle.up_snap.specs.Shown.{first_to, shown_node};
-ghost use Rattle.up_snap.specs.Standing.{standing_node};
+ghost use Rattle.up_snap.specs.Shown.{first_to, old_path, shown_node, shown_root};
+ghost use Rattle.up_snap.specs.Standing.{node_of, standing_node};
 
 use crate::moments::root_at;
 use crate::old::{OldNode, node_then, old_path};
@@ -143,15 +143,36 @@ pub(crate) fn standing_by<'a>(
     ensures timed { IfOk result (λ found. IfSome found IsTimed) }
 {
     let _text = path.as_str();
-    let root = root_at(alloc, path.owner(), shown.time)?;
-    if !path.is_under(&root) {
+    let below = is_below(alloc, path, shown.time)?;
+    if !below {
         return Ok(Some(Standing::MadeUp(shown)));
     }
-    let old = old_path(tree.owner(), path)?;
-    match node_then(tree, &old, shown.position - 1)? {
+    match node_shown(tree, path, shown.position - 1)? {
         Some(node) => Ok(Some(Standing::Kept(node))),
         None => Ok(None),
     }
+}
+
+/// What stood after the first `n` records at the path that a snapshot shows at this one.
+fn node_shown<'a>(tree: &'a MemTree, path: &Path, n: u64) -> Result<Option<OldNode<'a>>, AllocError>
+    ensures { IfOk result (λ found. option_map node_of found
+        ≡ node_at (tree_at tree.now.log n) (old_path tree.now.owner path.now)) }
+{
+    let old = old_path(tree.owner(), path)?;
+    let found = node_then(tree, &old, n);
+    drop(old);
+    found
+}
+
+/// Whether a path is at or below the root of the snapshot of a moment.
+fn is_below(alloc: Global, path: &Path, time: u64) -> Result<bool, AllocError>
+    requires { IsMoment time }
+    ensures { IfOk result (λ below. below ≡ is_under path.now (shown_root path.now.owner time)) }
+{
+    let root = root_at(alloc, path.owner(), time)?;
+    let below = path.is_under(&root);
+    drop(root);
+    Ok(below)
 }
 
 /// What stands at a path of the snapshot tree.
@@ -209,11 +230,18 @@ pub(crate) fn item_by<'a>(
 }
 
 /// The entry of an item under another name.
-pub(crate) fn renamed(entry: &Entry, name: &Path) -> Result<Entry, AllocError>
+fn renamed(entry: &Entry, name: &Path) -> Result<Entry, AllocError>
     ensures { IfOk result (λ copy. copy ≡ record entry.now { name = name.now }) }
 {
+    moved_to(entry, name.clone()?)
+}
+
+/// The same, where the name is handed over.
+pub(crate) fn moved_to(entry: &Entry, name: Path) -> Result<Entry, AllocError>
+    ensures { IfOk result (λ copy. copy ≡ record entry.now { name = name }) }
+{
     let mut copy = entry.clone()?;
-    drop(mem::replace(&mut copy.name, name.clone()?));
+    drop(mem::replace(&mut copy.name, name));
     Ok(copy)
 }
 
@@ -223,15 +251,16 @@ fn made_up(alloc: Global, owner: &User, shown: Shown, path: &Path) -> Result<Ent
     ensures { IfOk result (λ entry. entry
         ≡ (made_up owner.now shown.time shown.position path.now).entry) }
 {
+    // What may fail comes first: then nothing but names is let go where it does.
     Ok(Entry {
         signed_name: path.clone()?,
+        name: path.clone()?,
+        writer: owner.clone()?,
         packing: 1,
         time: shown.time as i64,
         blocks: Items::new(alloc),
         packdata: Bytes::new(alloc),
         link: None,
-        writer: owner.clone()?,
-        name: path.clone()?,
         attr: Attr {
             kind: Kind::Directory,
             incomplete: false,

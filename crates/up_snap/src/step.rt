@@ -80,6 +80,7 @@ pub fn snap_asked<D: Disk>(
     ensures grows { OnlyGrows entries_of (λ state. D.faults state.disk) fixed_of state.old state.new }
 {
     let led = asked_in_memory(alloc, state.memory(), user, &asked, now);
+    drop(asked);
     change(state, led)
 }
 

@@ -46,6 +46,7 @@ fn take_event(found: &mut Vec<WatchEvent>, event: Option<WatchEvent>) -> Result<
         return Ok(true);
     };
     if found.len() == MOST {
+        drop(event);
         return Ok(false);
     }
     found.push(event)?;

@@ -25,15 +25,10 @@ pub(crate) fn changed_by(tree: &MemTree, n: u64) -> Option<Changed<'_>>
     requires { n ≢ 0 }
     ensures { option_map change_of result ≡ change_at tree.now.log (n - 1) }
 {
-    let delete = match tree.rec_at(n)? {
-        Rec::Put(_, _) => false,
-        Rec::Delete(_) => true,
+    let (delete, entry) = match tree.rec_at(n)? {
+        Rec::Put(entry, _) => (false, entry),
+        Rec::Delete(_) => (true, entry_deleted(tree, n)?),
         Rec::Snap(_) => return None,
-    };
-    let entry = if delete {
-        entry_deleted(tree, n)?
-    } else {
-        entry_put(tree, n)?
     };
     Some(Changed { delete, entry })
 }

@@ -126,9 +126,8 @@ fn told_above(
         return Ok(Reply::Invalid(What::Sequence));
     }
     let positions = tree.changes_under(path, sequence)?;
-    batch(
-        alloc,
-        &mut Watcher::new(alloc, tree, loaded, user),
-        positions.as_slice(),
-    )
+    let mut watcher = Watcher::new(alloc, tree, loaded, user);
+    let reply = batch(alloc, &mut watcher, positions.as_slice());
+    drop(watcher);
+    reply
 }

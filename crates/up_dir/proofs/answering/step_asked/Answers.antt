@@ -11,14 +11,14 @@ returns-then-eq-clause-steps g c =
     let own : bytes_eq (owner_asked c.args.asked) c.args.state.now.owner ≡ true = search rules in
     steps_in_tree g.D.Disk c.args.state.now c.step_in_tree.new.state c.step_in_tree.result c.args.loaded.now c.args.fetched.now c.args.user.now c.args.now c.args.asked own c.step_in_tree.ensures.steps
 
-pub returns-in-Ok-clause-steps : goal.returns-in-Ok-clause-steps
-returns-in-Ok-clause-steps g c =
+pub returns-then-in_log-clause-steps : goal.returns-then-in_log-clause-steps
+returns-then-in_log-clause-steps g c =
     let other : bytes_eq (owner_asked c.args.asked) c.args.state.now.owner ≡ false = search rules in
     let base : bytes_eq (log_owner (owner_asked c.args.asked)) c.args.state.now.owner ≡ true = search rules in
     steps_in_snapshots g.D.Disk c.args.state.now c.snap_asked.new.state c.snap_asked.result c.args.loaded.now c.args.fetched.now c.args.user.now c.args.now c.args.asked other base c.snap_asked.ensures.steps
 
-pub returns-in-Ok-2-clause-steps : goal.returns-in-Ok-2-clause-steps
-returns-in-Ok-2-clause-steps g c =
+pub returns-clause-steps : goal.returns-clause-steps
+returns-clause-steps g c =
     let other : bytes_eq (owner_asked c.args.asked) c.args.state.now.owner ≡ false = search rules in
     let apart : bytes_eq (log_owner (owner_asked c.args.asked)) c.args.state.now.owner ≡ false = search rules in
     steps_elsewhere g.D.Disk c.args.state.now c.args.state.now reply.WrongHost c.args.loaded.now c.args.fetched.now c.args.user.now c.args.now c.args.asked other apart

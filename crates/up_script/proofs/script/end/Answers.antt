@@ -4,5 +4,5 @@ use Rattle.up_ends.proofs.Going.{WritesPart-none}
 use Rattle.up_script.specs.ScriptRuns.{stop_text}
 use Rattle.up_script.proofs.script.end.Goals as goal
 
-pub returns-in_err-bad_line-in-Malformed-clause-part : goal.returns-in_err-bad_line-in-Malformed-clause-part
-returns-in_err-bad_line-in-Malformed-clause-part g c = WritesPart-none (g.K.Sink.held c.args.sink.now) (c.args.gathered.now.items ++ stop_text c.args.number c.args.why)
+pub returns-in_err-last-clause-part : goal.returns-in_err-last-clause-part
+returns-in_err-last-clause-part g c = WritesPart-none (g.K.Sink.held c.args.sink.now) (c.args.gathered.now.items ++ stop_text c.args.number c.args.why)

@@ -23,5 +23,5 @@ returns g c =
     let made = ask_came g.D.Disk g.P.Loader g.C.Clock c.args.number c.args.sessions.now c.ask-event.new.self c.args.peers.now c.ask-event.new.peers c.args.clock.now c.now-now.new.self c.args.words.now open_at.opened c.in-Some.user.now c.in-Some-2.request c.now-now.result c.ask-event.result open_at.there open_at.is
     (sym c.in-Some-2.is ∙ c.in_ok-request.ensures) c.now-now.ensures.gives c.ask-event.ensures in
     weaker (λ came. came ≡ replied c.args.number c.ask-event.result.reply) (λ came. AskCame g.D.Disk g.P.Loader g.C.Clock c.args.number c.args.words.now c.args.sessions.now c.args.peers.now c.args.clock.now came c.ask-event.new.self c.ask-event.new.peers c.now-now.new.self)
-    c.args.out.now.items c.say_replied.new.out.items c.say_replied.result
-    (λ came said. subst (λ x. AskCame g.D.Disk g.P.Loader g.C.Clock c.args.number c.args.words.now c.args.sessions.now c.args.peers.now c.args.clock.now x c.ask-event.new.self c.ask-event.new.peers c.now-now.new.self) (sym said) made) c.say_replied.ensures
+    c.args.out.now.items c.say_replied-said.new.out.items c.say_replied-said.result
+    (λ came said. subst (λ x. AskCame g.D.Disk g.P.Loader g.C.Clock c.args.number c.args.words.now c.args.sessions.now c.args.peers.now c.args.clock.now x c.ask-event.new.self c.ask-event.new.peers c.now-now.new.self) (sym said) made) c.say_replied-said.ensures

@@ -9,4 +9,4 @@ returns-in_ok-say_done-in-Ok c =
 
 pub returns-in-Err : goal.returns-in-Err
 returns-in-Err c =
-    put_failed c.args.number c.in-Err.fault c.args.outcome c.args.out.now.items c.say_failed.new.out.items c.say_failed.result c.in-Err.is c.say_failed.ensures.said c.say_failed.ensures.wanting
+    put_failed c.args.number c.in-Err.fault c.args.outcome c.args.out.now.items c.say_failed-said.new.out.items c.say_failed-said.result c.in-Err.is c.say_failed-said.ensures.said c.say_failed-said.ensures.wanting

@@ -1,5 +1,6 @@
-use Rattle.std.proofs.Common.{◌≡◌, ◌∷◌, ap, length}
-use Rattle.up_host.specs.Opens.{LeavesHost}
+use Rattle.std.proofs.Common.{◌≡◌, ◌++◌, ◌∷◌, ap, append-nil, length, sym, ◌∙◌}
+use Rattle.std.specs.List.{flat_map}
+use Rattle.up_host.specs.Opens.{LeavesHost, disks_of}
 use Rattle.up_sessions.proofs.HandingLemmas.{all_hosts, next_disks, next_room, no_host, rest_room}
 use Rattle.up_sessions.proofs.handing.put_hosts.Goals as goal
 
@@ -20,3 +21,7 @@ loop-host-preserved g c =
 pub returns-in_default-clause-safe : goal.returns-in_default-clause-safe
 returns-in_default-clause-safe g c =
     c.loop-host.invariant.safe (no_host (LeavesHost g.D.Disk) c.loop-host.left.items (ap length c.in_default.ensures))
+
+pub returns-in_default-clause-disks : goal.returns-in_default-clause-disks
+returns-in_default-clause-disks g c =
+    sym (append-nil c.loop-host.disks.disks) ∙ ap (λ hosts. c.loop-host.disks.disks ++ flat_map disks_of hosts) (sym c.in_default.ensures) ∙ c.loop-host.invariant.disks

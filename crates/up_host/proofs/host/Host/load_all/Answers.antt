@@ -1,12 +1,27 @@
 use Rattle.std.proofs.Common.{◌≢◌, ◌<◌, ◌≤◌, ◌∙◌, [], length, sym, arith}
+use Rattle.up_answers.specs.Needs.{needs}
 use Rattle.up_host.proofs.AsksLemmas.{Tries-Asks, Tries-trans}
 use Rattle.up_host.proofs.LoadLemmas.{gathers_for, gathers_trans}
-use Rattle.up_host.proofs.RoundLemmas.{first_needed, missing_needed, not_enough}
+use Rattle.up_host.proofs.RoundLemmas.{first_needed, is_whole, missing_needed, not_enough}
 use Rattle.up_host.specs.Alone.{views}
 use Rattle.up_host.specs.Loads.{group_answer, group_question, load_failed}
 use Rattle.up_host.specs.Rounds.{IsMissing, IsNeeded}
 use Rattle.up_tree.specs.States.{log_of}
 use Rattle.up_host.proofs.host.Host.load_all.Goals as goal
+
+pub returns-in_err-missing-clause-tried : goal.returns-in_err-missing-clause-tried
+returns-in_err-missing-clause-tried g c =
+    Tries-Asks g.L.Loader.loads g.L.Loader.faults g.L.Loader.tied load_failed (group_question c.args.self.now.operator (views g.D.Disk c.args.self.now)) (group_answer (views g.D.Disk c.args.self.now)) c.args.loader.now c.loop-loaded.loader
+    c.loop-loaded.invariant.gathered.more c.loop-loaded.invariant.gathered.asks
+
+pub returns-then-is_enough : goal.returns-then-is_enough
+returns-then-is_enough g c = record {
+  gathers = c.loop-loaded.invariant.gathered;
+  few = c.loop-loaded.invariant.few;
+  whole = is_whole c.in_ok-missing.missing (needs (log_of c.args.state.now) c.loop-loaded.loaded c.args.user.now c.args.request.now) c.loop-loaded.loaded c.in_ok-missing.ensures (sym c.is_enough.ensures ∙ c.if-is_enough.true);
+  tried = Tries-Asks g.L.Loader.loads g.L.Loader.faults g.L.Loader.tied load_failed (group_question c.args.self.now.operator (views g.D.Disk c.args.self.now)) (group_answer (views g.D.Disk c.args.self.now)) c.args.loader.now c.loop-loaded.loader
+      c.loop-loaded.invariant.gathered.more c.loop-loaded.invariant.gathered.asks;
+}
 
 pub returns-in_err-load_round-clause-tried : goal.returns-in_err-load_round-clause-tried
 returns-in_err-load_round-clause-tried g c =

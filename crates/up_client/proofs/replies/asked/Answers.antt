@@ -1,7 +1,7 @@
 use Rattle.std.proofs.Common.{refl}
 use Rattle.up_faults.proofs.Causes.{HasCause-weaker}
 use Rattle.up_client.specs.Talks.{ended, heard, unanswered}
-use Rattle.up_client.proofs.replies.reply_to.Goals as goal
+use Rattle.up_client.proofs.replies.asked.Goals as goal
 
 pub returns-in-Ok : goal.returns-in-Ok
 returns-in-Ok g c = record {
