@@ -54,7 +54,9 @@ fn add<D: Disk>(state: &mut TreeState<D>, rec: Rec) -> Reply
     let _records = state.position();
     let size = rec_size(&rec);
     if size > state.largest() {
-        return too_large(&rec, size);
+        let refusal = too_large(&rec, size);
+        drop(rec);
+        return refusal;
     }
     applied_reply(state.apply(rec))
 }

@@ -1,5 +1,6 @@
 //! Delete: the refusal, or the record that is added.
-ghost use Rattle.std.specs.Prelude.{◌≡◌, IfOk};
+ghost use Rattle.std.specs.Prelude.{◌≡◌, IfOk, IfSome, None, Ok, Err};
+ghost use Rattle.up_entry.specs.declared.records.Rec.TheVariants.{Delete};
 ghost use Rattle.up_answers.specs.Deletes.{delete_outcome};
 ghost use Rattle.up_replay.specs.Fits.{Fits};
 ghost use Rattle.up_changes.specs.Trees.{look_in};
@@ -33,7 +34,6 @@ pub fn delete_record(
 }
 
 /// The same, without that the record fits.
-#[tactic(auto, unfolding(up_answers::specs::Deletes::delete_outcome))]
 fn delete_leads(
     alloc: Global,
     tree: &MemTree,
@@ -45,15 +45,43 @@ fn delete_leads(
     ensures { IfOk result (λ outcome. outcome
         ≡ delete_outcome (look_in tree.now loaded.now user.now) path) }
 {
+    match refusal_of(alloc, tree, loaded, user, &path) {
+        Ok(None) => Ok(Ok(Rec::Delete(path))),
+        Ok(Some(refusal)) => {
+            drop(path);
+            Ok(Err(refusal))
+        }
+        Err(fault) => {
+            drop(path);
+            Err(fault)
+        }
+    }
+}
+
+/// The refusal of a Delete, if it is refused.
+#[tactic(auto, unfolding(up_answers::specs::Deletes::delete_outcome))]
+fn refusal_of(
+    alloc: Global,
+    tree: &MemTree,
+    loaded: &Loaded,
+    user: &User,
+    path: &Path,
+) -> Result<Option<Reply>, AllocError>
+    requires { path.now.owner ≡ tree.now.owner }
+    ensures refused { IfOk result (λ found. IfSome found (λ refusal.
+        delete_outcome (look_in tree.now loaded.now user.now) path.now ≡ Err refusal)) }
+    ensures led { result ≡ Ok None
+        → delete_outcome (look_in tree.now loaded.now user.now) path.now ≡ Ok (Delete path.now) }
+{
     let look = TreeLook::new(tree, loaded, user);
-    if let Some(refusal) = check(alloc, &look, &path, false, Some(Right::Delete))? {
-        return Ok(Err(refusal));
+    if let Some(refusal) = check(alloc, &look, path, false, Some(Right::Delete))? {
+        return Ok(Some(refusal));
     }
-    if tree.node(&path).is_none() {
-        return Ok(Err(Reply::NotExist));
+    if tree.node(path).is_none() {
+        return Ok(Some(Reply::NotExist));
     }
-    if tree.child(&path, 0).is_some() {
-        return Ok(Err(Reply::NotEmpty));
+    if tree.child(path, 0).is_some() {
+        return Ok(Some(Reply::NotEmpty));
     }
-    Ok(Ok(Rec::Delete(path)))
+    Ok(None)
 }

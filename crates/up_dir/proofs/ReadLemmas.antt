@@ -1,5 +1,5 @@
 -- What comes of a request that changes nothing, over the tree in memory.
-use Rattle.std.proofs.Common.{◌≡◌, ℕ, ℤ, List, [], Result, IfOk, sym, subst}
+use Rattle.std.proofs.Common.{◌≡◌, ℕ, ℤ, List, [], sym, subst}
 use Rattle.up_disk.specs.declared.disk.Disk.{Ghosts}
 use Rattle.up_names.specs.PathNames.{PathName}
 use Rattle.up_pattern.specs.Patterns.{PatternName}
@@ -8,7 +8,7 @@ use Rattle.up_list.specs.declared.asking.Asked.{Asked}
 use Rattle.up_list.specs.declared.asking.Asked.TheVariants as of
 use Rattle.up_list.specs.Changes.{added_by, answer_of}
 use Rattle.up_list.specs.Globs.{glob_reply}
-use Rattle.up_list.specs.Looks.{Look, look_now}
+use Rattle.up_list.specs.Looks.{look_now}
 use Rattle.up_list.specs.Reads.{access_reply, group_text_reply, lookup_reply}
 use Rattle.up_tree.specs.States.{State, log_of}
 use Rattle.up_wire.specs.Bounds.{bounded}
@@ -18,10 +18,6 @@ use Rattle.up_answers.specs.Fetching.{Fetched}
 use Rattle.up_answers.specs.Watches.{watch_reply}
 use Rattle.up_adding.specs.Steps.{IsTold, Steps}
 use Rattle.up_dir.proofs.AskLemmas.{steps_read}
-
--- a reply over a look, which is another
-pub reply_over : {E : Type 0} (reply : Look → Reply) (found : Result Reply E) (one two : Look) → one ≡ two → IfOk found (λ r. r ≡ reply one) → IfOk found (λ r. r ≡ reply two)
-reply_over reply found one two same is = subst (λ (look : Look). IfOk found (λ r. r ≡ reply look)) same is
 
 module _ {D : Type 0} (disks : Ghosts D) (state : State D) (loaded : Loading) (fetched : Fetched) (user : List ℕ) (answered : Reply) where
   abbrev pub Leads : Asked → Type 0

@@ -1,5 +1,5 @@
 //! A request, and what comes of it.
-ghost use Rattle.std.specs.Prelude.{◌≡◌, ◌<◌, IfOk};
+ghost use Rattle.std.specs.Prelude.{◌≡◌, ◌<◌, [], IfOk};
 ghost use Rattle.std.specs.Str.{bytes_eq};
 ghost use Rattle.up_answers.specs.Answers.{added, answer, asked_outcome, log_owner, tree_outcome};
 ghost use Rattle.up_answers.specs.Watches.{watch_reply};
@@ -7,7 +7,8 @@ ghost use Rattle.up_ends.specs.Growing.{OnlyGrows};
 ghost use Rattle.up_list.specs.Asking.{owner_asked};
 ghost use Rattle.up_list.specs.Changes.{added_by, answer_of};
 ghost use Rattle.up_list.specs.Looks.{look_now};
-ghost use Rattle.up_list.specs.Reads.{lookup_reply};
+ghost use Rattle.up_list.specs.Globs.{glob_reply};
+ghost use Rattle.up_list.specs.Reads.{access_reply, group_text_reply, lookup_reply};
 ghost use Rattle.up_tree.specs.States.{entries_of, fixed_of, log_of};
 ghost use Rattle.up_dir.specs.Crashes.{Survives};
 ghost use Rattle.up_dir.specs.Forms.{IsFormed};
@@ -21,6 +22,7 @@ use up_disk::Disk;
 use up_entry::EntryFault;
 use up_list::{Asked, TreeLook, asked_of, glob_for, group_text, lookup, which_access};
 use up_names::{Path, User};
+use up_pattern::Pattern;
 use up_policy::Loaded;
 use up_snap::snap_asked;
 use up_tree::TreeState;
@@ -165,31 +167,19 @@ fn step_in_tree<D: Disk>(
             found
         }
         Asked::WhichAccess(path) => {
-            let access = replied(which_access(
-                alloc,
-                &TreeLook::new(state.memory(), loaded, user),
-                &path,
-            ));
+            let access = access_told(alloc, state, loaded, user, &path);
             drop(path);
             access
         }
         Asked::GroupText(path) => {
             let none = Loaded::new(alloc, loaded.random());
-            let text = replied(group_text(
-                alloc,
-                &TreeLook::new(state.memory(), &none, user),
-                &path,
-            ));
+            let text = text_told(alloc, state, &none, user, &path);
             drop(none);
             drop(path);
             text
         }
         Asked::Glob(pattern) => {
-            let rows = replied(glob_for(
-                alloc,
-                &TreeLook::new(state.memory(), loaded, user),
-                &pattern,
-            ));
+            let rows = rows_told(alloc, state, loaded, user, &pattern);
             drop(pattern);
             rows
         }
@@ -215,6 +205,54 @@ fn looked<D: Disk>(
         result }
 {
     replied(lookup(alloc, &TreeLook::new(state.memory(), loaded, user), path))
+}
+
+/// The reply to a WhichAccess.
+fn access_told<D: Disk>(
+    alloc: Global,
+    state: &TreeState<D>,
+    loaded: &Loaded,
+    user: &User,
+    path: &Path,
+) -> Reply
+    requires { path.now.owner ≡ state.now.owner }
+    ensures { IsTold
+        (bounded (access_reply (look_now (log_of state.now) loaded.now user.now) path.now))
+        result }
+{
+    replied(which_access(alloc, &TreeLook::new(state.memory(), loaded, user), path))
+}
+
+/// The reply to a GroupText, for which nothing is loaded.
+fn text_told<D: Disk>(
+    alloc: Global,
+    state: &TreeState<D>,
+    none: &Loaded,
+    user: &User,
+    path: &Path,
+) -> Reply
+    requires owned { path.now.owner ≡ state.now.owner }
+    requires alone { none.now ≡ [] }
+    ensures { IsTold
+        (bounded (group_text_reply (look_now (log_of state.now) [] user.now) path.now)) result }
+{
+    replied(group_text(alloc, &TreeLook::new(state.memory(), none, user), path))
+}
+
+/// The reply to a Glob.
+fn rows_told<D: Disk>(
+    alloc: Global,
+    state: &TreeState<D>,
+    loaded: &Loaded,
+    user: &User,
+    pattern: &Pattern,
+) -> Reply
+    requires { pattern.now.owner ≡ state.now.owner }
+    ensures { IsTold
+        (bounded (glob_reply (look_now (log_of state.now) loaded.now user.now) pattern.now))
+        result }
+{
+    replied(glob_for(alloc, &TreeLook::new(state.memory(), loaded, user), pattern))
 }
 
 /// The reply to a Watch.

@@ -1,5 +1,6 @@
 mod Examples
 pub mod FixedFormLemmas
+pub mod CheckingLemmas
 pub mod CheckedLemmas
 mod CheckingExamples
 pub mod EntryFields

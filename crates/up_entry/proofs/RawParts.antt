@@ -1,5 +1,5 @@
 -- A raw entry, by its parts.
-use Rattle.std.proofs.Common.{◌≡◌, ℕ, List, ◌++◌, refl, ap, ◌∙◌, append_assoc}
+use Rattle.std.proofs.Common.{◌≡◌, ℕ, List, ◌++◌, refl, ◌∙◌, append_assoc}
 use Rattle.up_bytes.specs.Spelling.{byte, int, list, text}
 use Rattle.up_bytes.proofs.Parts.{IsPart, then, last, whole}
 use Rattle.up_bytes.proofs.Lists.{all_both, all_first, all_second}

@@ -89,6 +89,22 @@ content_rules put kind name = do
   size ← rule what.ControlSize (control_size_fits kind name put.blocks)
   rule what.Sequence (int_le (negsuc 0) put.sequence)
 
+-- the path, that of the signed name and the writer, by the first three rules
+unfoldable pub names_of : PutEntry → List ℕ → Result (PathName × PathName × List ℕ) EntryFault
+names_of put user = do
+  name ← path_or what.Name put.name
+  signed_name ← signed_name_of put name
+  writer ← writer_of put user
+  Ok (name, signed_name, writer)
+
+-- the kind and the target, once all that is no name keeps its rules
+unfoldable pub rest_of : PutEntry → PathName → Result (Kind × Option PathName) EntryFault
+rest_of put name = do
+  kind ← kind_of put name
+  link ← link_or kind put.link
+  content ← content_rules put kind name
+  Ok (kind, link)
+
 -- The entry that was handed to Put by this user, or the first rule that it breaks.
 unfoldable pub checked_as : PutEntry → List ℕ → Result Checked EntryFault
 checked_as put user = do

@@ -3,7 +3,7 @@
 ghost use Rattle.std.specs.Prelude.{◌≡◌, ◌≢◌, IfOk, false};
 ghost use Rattle.up_names.specs.declared.fault.NameFault.TheVariants as name;
 ghost use Rattle.up_entry.specs.declared.fault.EntryFault.{EntryFault};
-ghost use Rattle.up_entry.specs.Checking.{Gives, checked_as, content_rules, kind_of, link_or, path_or, rule, signed_name_of, user_or, writer_of};
+ghost use Rattle.up_entry.specs.Checking.{Gives, checked_as, content_rules, kind_of, link_or, names_of, path_or, rest_of, rule, signed_name_of, user_or, writer_of};
 
 use crate::attrs::attr_of;
 use crate::block_rules::{blocks_fit, control_size_fits};
@@ -25,17 +25,58 @@ use up_names::{NameFault, Path, User, parse_path, parse_user};
 /// directory or link, else each of 1 to 1,048,576 bytes at a good endpoint, the first at 0 and each where the one before
 /// ends; Packdata, empty for a directory or link; Root, a directory; Control, a file at an Access path and no link at a
 /// Group path; ControlSize, at most 32,768 bytes in a control file's blocks; Sequence, at least -1.
-#[tactic(auto, unfolding(crate::specs::Checking::checked_as))]
+#[tactic(auto, using(crate::proofs::CheckingLemmas::names_break, crate::proofs::CheckingLemmas::rest_breaks, crate::proofs::CheckingLemmas::rules_hold))]
 pub fn check_entry(alloc: Global, put: &PutEntry, user: &User) -> Result<Checked, EntryFault>
     ensures { Gives (λ checked. checked) result (checked_as put.now user.now) }
 {
+    let (name, signed_name, writer) = names_of(alloc, put, user)?;
+    match rest_of(alloc, put, &name) {
+        Ok((kind, link)) => Ok(made(alloc, put, name, signed_name, writer, kind, link)?),
+        Err(fault) => {
+            drop(name);
+            drop(signed_name);
+            drop(writer);
+            Err(fault)
+        }
+    }
+}
+
+/// The path, that of the signed name, and the writer, by the first three rules.
+#[tactic(auto, unfolding(crate::specs::Checking::names_of))]
+fn names_of(alloc: Global, put: &PutEntry, user: &User) -> Result<(Path, Path, User), EntryFault>
+    ensures { Gives (λ names. names) result (names_of put.now user.now) }
+{
     let name = path_or(alloc, What::Name, put.name.as_slice())?;
-    let signed_name = signed_name_of(alloc, put, &name)?;
-    let writer = writer_of(alloc, put, user)?;
-    let kind = kind_of(put, &name)?;
+    match signed_name_of(alloc, put, &name) {
+        Ok(signed_name) => match writer_of(alloc, put, user) {
+            Ok(writer) => Ok((name, signed_name, writer)),
+            Err(fault) => {
+                drop(name);
+                drop(signed_name);
+                Err(fault)
+            }
+        },
+        Err(fault) => {
+            drop(name);
+            Err(fault)
+        }
+    }
+}
+
+/// The kind and the target, once all that is no name keeps its rules.
+#[tactic(auto, unfolding(crate::specs::Checking::rest_of))]
+fn rest_of(alloc: Global, put: &PutEntry, name: &Path) -> Result<(Kind, Option<Path>), EntryFault>
+    ensures { Gives (λ rest. rest) result (rest_of put.now name.now) }
+{
+    let kind = kind_of(put, name)?;
     let link = link_or(alloc, kind, put.link.as_slice())?;
-    content_rules(put, kind, &name)?;
-    Ok(made(alloc, put, name, signed_name, writer, kind, link)?)
+    match content_rules(put, kind, name) {
+        Ok(()) => Ok((kind, link)),
+        Err(fault) => {
+            drop(link);
+            Err(fault)
+        }
+    }
 }
 
 /// What was checked, with a copy of the rest of what was handed to Put.

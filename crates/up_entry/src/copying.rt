@@ -4,9 +4,9 @@ ghost use Rattle.std.specs.Prelude.{◌≡◌, IfOk};
 
 use crate::entries::{Block, Endpoint, Entry, Location};
 use std::alloc::{AllocError, Global};
-use up_bytes::copy_of;
+use up_bytes::{Bytes, copy_of};
 use up_lists::Items;
-use up_names::Path;
+use up_names::{Path, User};
 
 impl Clone for Endpoint {
     ghost is_clone = { λ endpoint copy. copy ≡ endpoint };
@@ -50,19 +50,48 @@ impl Clone for Entry {
     ghost is_clone = { λ entry copy. copy ≡ entry };
 
     fn clone(&self) -> Result<Entry, AllocError> {
-        Ok(Entry {
-            signed_name: self.signed_name.clone()?,
-            packing: self.packing,
-            time: self.time,
-            blocks: copied_blocks(self.blocks.allocator(), self.blocks.as_slice())?,
-            packdata: copy_of(self.packdata.allocator(), self.packdata.as_slice())?,
-            link: copied_link(&self.link)?,
-            writer: self.writer.clone()?,
-            name: self.name.clone()?,
-            attr: self.attr,
-            sequence: self.sequence,
-        })
+        let (name, signed_name, writer) = copied_names(self)?;
+        match copied_rest(self) {
+            Ok((blocks, packdata, link)) => Ok(Entry {
+                signed_name,
+                packing: self.packing,
+                time: self.time,
+                blocks,
+                packdata,
+                link,
+                writer,
+                name,
+                attr: self.attr,
+                sequence: self.sequence,
+            }),
+            Err(AllocError) => {
+                drop(name);
+                drop(signed_name);
+                drop(writer);
+                Err(AllocError)
+            }
+        }
     }
+}
+
+/// The entry's name, its signed name and its writer.
+fn copied_names(entry: &Entry) -> Result<(Path, Path, User), AllocError>
+    ensures { IfOk result (λ copy. copy ≡ (entry.now.name, entry.now.signed_name, entry.now.writer)) }
+{
+    let name = entry.name.clone()?;
+    let signed_name = entry.signed_name.clone()?;
+    let writer = entry.writer.clone()?;
+    Ok((name, signed_name, writer))
+}
+
+/// The entry's blocks, its pack data and its target.
+fn copied_rest(entry: &Entry) -> Result<(Items<Block>, Bytes, Option<Path>), AllocError>
+    ensures { IfOk result (λ copy. copy ≡ (entry.now.blocks, entry.now.packdata, entry.now.link)) }
+{
+    let packdata = copy_of(entry.packdata.allocator(), entry.packdata.as_slice())?;
+    let link = copied_link(&entry.link)?;
+    let blocks = copied_blocks(entry.blocks.allocator(), entry.blocks.as_slice())?;
+    Ok((blocks, packdata, link))
 }
 
 /// The same blocks, in order.

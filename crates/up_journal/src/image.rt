@@ -16,7 +16,7 @@ use crate::fault::ReadWhy;
 use crate::format::{CLOSED, FIRST_GATE, FIRST_LINK, HEAD, NAME, add_record};
 use crate::limits::{Limits, Span, is_full};
 use crate::read::read_record;
-use std::alloc::Global;
+use std::alloc::{AllocError, Global};
 use up_disk::Disk;
 use up_refs::Reference;
 
@@ -64,17 +64,34 @@ pub fn gathered<D: Disk>(
     ensures counts { HasCause (D.faults disk.old) (D.faults disk.new)
         (IsErrOf result ReadWhy.Fault) }
 {
-    let mut so_far = Gathering {
-        image: Vec::with_capacity(alloc, size as usize)?,
-        link: Reference::from_bytes(FIRST_LINK),
-        payload: Vec::new(alloc),
-    };
-    so_far.image.extend_from_slice(&NAME)?;
+    let mut so_far = begun(alloc, size)?;
     for span in spans {
         gather(disk, &mut so_far, *span)?;
     }
-    so_far.image.push(CLOSED)?;
-    Ok(so_far.image)
+    Ok(closed(so_far)?)
+}
+
+// The image of no record, but for its last gate, with room for this many bytes.
+fn begun(alloc: Global, size: u64) -> Result<Gathering, AllocError>
+    ensures image { IfOk result (λ so_far. so_far.image.items ≡ format2.name) }
+    ensures link { IfOk result (λ so_far. so_far.link ≡ format2.first_link) }
+{
+    let mut image = Vec::with_capacity(alloc, size as usize)?;
+    image.extend_from_slice(&NAME)?;
+    Ok(Gathering {
+        image,
+        link: Reference::from_bytes(FIRST_LINK),
+        payload: Vec::new(alloc),
+    })
+}
+
+// The image with its last gate.
+fn closed(so_far: Gathering) -> Result<Vec<u8>, AllocError>
+    ensures { IfOk result (λ image. image.items ≡ so_far.image.items ++ 0 ∷ []) }
+{
+    let mut image = so_far.image;
+    image.push(CLOSED)?;
+    Ok(image)
 }
 
 // Reads one payload more, and puts its record behind an open gate.

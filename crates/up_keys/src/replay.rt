@@ -93,6 +93,34 @@ fn take(alloc: Global, known: &mut Known, payload: &[u8]) -> Result<bool, AllocE
     Ok(true)
 }
 
+// Takes all records. `Damaged` names the gate of the first one that does not decode or does not keep its bounds.
+fn take_all<D: Disk>(
+    alloc: Global,
+    known: &mut Known,
+    journal: &mut Journal<D>,
+) -> Result<(), OpenWhy>
+    requires none { known.old.records.items ≡ [] }
+    requires last { AreLast known.old.records.items known.old.last.entries }
+    ensures last { OnOk result (AreLast known.new.records.items known.new.last.entries) }
+    ensures log { OnOk result ((log : List (List ℕ)) → journal.old.log ≡ Some log
+        → replay (log_step decoded fits) [] log ≡ Ok known.new.records.items) }
+    ensures fitting { OnOk result (EachFits fits known.new.records.items) }
+    ensures sizes { OnOk result (journal.old.sizes ≡ sizes_of known.new.records.items) }
+    ensures damaged { IfErr result
+        (IsDamageOf (replay (log_step decoded fits) []) journal.old.log) }
+    ensures read { OnlyPayloads D.Disk journal.old journal.new }
+    ensures counts { HasCause (D.faults journal.old.disk) (D.faults journal.new.disk)
+        (IsErrOf result OpenWhy.Fault) }
+{
+    for n in 0..journal.len() {
+        let payload = journal.payload(n + 1)?;
+        if !take(alloc, known, payload.as_slice())? {
+            return Err(OpenWhy::Damaged(journal.gate_of(n + 1)));
+        }
+    }
+    Ok(())
+}
+
 /// All records. `Damaged` names the gate of the first one that does not decode or does not keep its bounds.
 pub fn replay<D: Disk>(alloc: Global, journal: &mut Journal<D>) -> Result<Known, OpenWhy>
     ensures last { IfOk result (λ known. AreLast known.records.items known.last.entries) }
@@ -110,11 +138,11 @@ pub fn replay<D: Disk>(alloc: Global, journal: &mut Journal<D>) -> Result<Known,
         records: Vec::new(alloc),
         last: OrderedMap::new(alloc),
     };
-    for n in 0..journal.len() {
-        let payload = journal.payload(n + 1)?;
-        if !take(alloc, &mut known, payload.as_slice())? {
-            return Err(OpenWhy::Damaged(journal.gate_of(n + 1)));
+    match take_all(alloc, &mut known, journal) {
+        Ok(()) => Ok(known),
+        Err(why) => {
+            drop(known);
+            Err(why)
         }
     }
-    Ok(known)
 }

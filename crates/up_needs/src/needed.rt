@@ -2,7 +2,7 @@
 ghost use Rattle.std.specs.Prelude.{◌≡◌, ◌≤◌, ◌<◌, ◌+◌, ◌∷◌, IfOk, OnOk, length, map};
 ghost use Rattle.std.specs.List.{flat_map};
 ghost use Rattle.std.specs.Map.{keys_of};
-ghost use Rattle.up_answers.specs.Needs.{event_places_to, items_where, needs, owner_places, places, places_for, watch_places, where_ordinary};
+ghost use Rattle.up_answers.specs.Needs.{event_places_to, items_where, needs, needs_asked, owner_places, places, places_for, watch_places, where_ordinary};
 ghost use Rattle.std.specs.Option.{option_and_then, option_copied};
 ghost use Rattle.up_list.specs.Globs.{is_candidate, literal_path};
 ghost use Rattle.up_names.specs.PathNames.{extended, is_under};
@@ -49,7 +49,7 @@ pub fn foreign<D: Disk>(
 
 /// The groups that have to be loaded for a user's request over a tree in memory: those of other owners that are reached from the texts
 /// that govern the places that the request looks at, in order of first mention, and that have no answer yet.
-#[tactic(auto, unfolding(up_answers::specs::Needs::needs, up_answers::specs::Needs::needs_asked))]
+#[tactic(auto, unfolding(up_answers::specs::Needs::needs))]
 pub fn foreign_in(
     alloc: Global,
     tree: &MemTree,
@@ -60,14 +60,36 @@ pub fn foreign_in(
     ensures { (limits : Limits) → IfOk result (λ names. names
         ≡ needs (log_over limits tree.now) loaded.now user.now request.now) }
 {
-    let mut names = Names::new(alloc, loaded.random());
     match asked_of(alloc, user, request) {
         Ok(asked) => {
-            note_asked(alloc, tree, user, &asked, loaded, &mut names)?;
-            Ok(names)
+            let names = names_for(alloc, tree, user, &asked, loaded);
+            drop(asked);
+            names
         }
-        Err(EntryFault::Invalid(_)) => Ok(names),
+        Err(EntryFault::Invalid(_)) => Ok(Names::new(alloc, loaded.random())),
         Err(EntryFault::OutOfMemory) => Err(AllocError),
+    }
+}
+
+/// The same for a request whose texts were read.
+#[tactic(auto, unfolding(up_answers::specs::Needs::needs_asked))]
+fn names_for(
+    alloc: Global,
+    tree: &MemTree,
+    user: &User,
+    asked: &Asked,
+    loaded: &Loaded,
+) -> Result<Names, AllocError>
+    ensures { (limits : Limits) → IfOk result (λ names. names
+        ≡ needs_asked (log_over limits tree.now) loaded.now user.now asked.now) }
+{
+    let mut names = Names::new(alloc, loaded.random());
+    match note_asked(alloc, tree, user, asked, loaded, &mut names) {
+        Ok(()) => Ok(names),
+        Err(fault) => {
+            drop(names);
+            Err(fault)
+        }
     }
 }
 

@@ -23,7 +23,10 @@ impl Kept {
         let step = self.step_of(rec)?;
         match self.make_room(&step) {
             Ok(()) => Ok(step),
-            Err(fault) => Err(fault),
+            Err(fault) => {
+                drop(step);
+                Err(fault)
+            }
         }
     }
 

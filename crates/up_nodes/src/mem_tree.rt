@@ -75,7 +75,11 @@ fn made_ready(kept: &mut Kept, unders: &mut Vec<Under>, rec: Rec) -> Result<Read
     match kept.make_ready(&rec) {
         Ok(step) => match make_room(unders, kept, &rec) {
             Ok(()) => Ok(Ready { rec, step }),
-            Err(fault) => Err(fault),
+            Err(fault) => {
+                drop(rec);
+                drop(step);
+                Err(fault)
+            }
         },
         Err(fault) => {
             drop(rec);

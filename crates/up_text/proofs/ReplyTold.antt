@@ -21,7 +21,7 @@ use Rattle.up_text.specs.Laws.{AreOfBytes, done_told, HasByteReferences, IsOfByt
 use Rattle.up_text.specs.Lists.{◌>>=◌}
 use Rattle.up_text.specs.Numbers.{num_of}
 use Rattle.up_text.specs.Replies.{access_words, done_words, element_words, event_kind, event_words, further_words, reply_words, row_words, what_word}
-use Rattle.up_text.specs.Words.{coded, decoded}
+use Rattle.up_text.specs.Words.{decoded}
 use Rattle.up_text.proofs.CodeLemmas.{decoded-coded}
 use Rattle.up_text.proofs.EntryTold.{entry_again, entry_in}
 use Rattle.up_text.proofs.JoinLemmas.{all_both, map_same}

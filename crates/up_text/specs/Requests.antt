@@ -60,14 +60,19 @@ byte_of word = do
   n ← num_of word
   if nat_lt n (2 ^ 8) then Some n else None
 
--- `file PATH PACKING TIME SEQ PACKDATA BLOCKS`: Put of a file
-unfoldable pub file_line : UserName → List Text → Option PutEntry
-file_line user (path ∷ packing ∷ time ∷ sequence ∷ packdata ∷ blocks ∷ []) = do
-  plain ← plain_entry user 0 path time sequence
+-- an entry with these words' packing, pack data and blocks
+unfoldable pub filled : PutEntry → Text → Text → Text → Option PutEntry
+filled plain packing packdata blocks = do
   packed ← byte_of packing
   written ← decoded packdata
   list ← blocks_named blocks
   Some (record plain { packing = packed; packdata = written; blocks = list })
+
+-- `file PATH PACKING TIME SEQ PACKDATA BLOCKS`: Put of a file
+unfoldable pub file_line : UserName → List Text → Option PutEntry
+file_line user (path ∷ packing ∷ time ∷ sequence ∷ packdata ∷ blocks ∷ []) = do
+  plain ← plain_entry user 0 path time sequence
+  filled plain packing packdata blocks
 file_line user _ = None
 
 -- `watch PATH SEQ`

@@ -115,7 +115,7 @@ fn is_link(words: &[Bytes]) -> bool
 }
 
 /// `PATH PACKING TIME SEQ PACKDATA BLOCKS`.
-#[tactic(auto, unfolding(crate::specs::Requests::file_line))]
+#[tactic(auto, unfolding(crate::specs::Requests::file_line, crate::specs::Requests::filled))]
 fn is_file(words: &[Bytes]) -> bool
     ensures { (user : UserName) → result ≡ is_some (file_line user words.now) }
 {

@@ -3,7 +3,7 @@
 ghost use Rattle.std.specs.Prelude.{◌≡◌, IfOk};
 ghost use Rattle.up_text.specs.Meant.{IsMeant};
 ghost use Rattle.up_text.specs.Numbers.{int_of};
-ghost use Rattle.up_text.specs.Requests.{byte_of, client_line_of, entry_by, file_line, get_line, kind_client, kind_of, kind_request, link_line, mkdir_line, one_text, plain_entry, put_line, request_of, setkey_line, watch_line};
+ghost use Rattle.up_text.specs.Requests.{byte_of, client_line_of, entry_by, file_line, filled, get_line, kind_client, kind_of, kind_request, link_line, mkdir_line, one_text, plain_entry, put_line, request_of, setkey_line, watch_line};
 
 use crate::fault::LineFault;
 use crate::lists::{blocks_of, endpoints_of, text_named};
@@ -289,10 +289,30 @@ fn file_line(alloc: Global, words: &[Bytes], user: &User) -> Result<PutEntry, Li
         return Err(LineFault::Malformed);
     };
     let mut put = plain_entry(alloc, user, 0, path, time, sequence)?;
+    match fill(alloc, &mut put, packing, packdata, blocks) {
+        Ok(()) => Ok(put),
+        Err(fault) => {
+            drop(put);
+            Err(fault)
+        }
+    }
+}
+
+/// Gives an entry the packing, the pack data and the blocks of these words.
+#[tactic(auto, unfolding(crate::specs::Requests::filled))]
+fn fill(
+    alloc: Global,
+    put: &mut PutEntry,
+    packing: &Bytes,
+    packdata: &Bytes,
+    blocks: &Bytes,
+) -> Result<(), LineFault>
+    ensures { IsMeant (λ done. put.new) result (filled put.old packing.now packdata.now blocks.now) }
+{
     put.packing = byte_named(packing)?;
     put.packdata = text_named(alloc, packdata.as_slice())?;
     put.blocks = blocks_of(alloc, blocks.as_slice())?;
-    Ok(put)
+    Ok(())
 }
 
 /// `watch PATH SEQ`.

@@ -41,6 +41,28 @@ fn add(tree: &mut MemTree, rec: Rec) -> Result<(), AllocError>
     Ok(())
 }
 
+/// Adds a record if it fits; `false` where it does not.
+fn add_fitting(tree: &mut MemTree, rec: Rec) -> Result<bool, AllocError>
+    ensures owner { tree.new.owner ≡ tree.old.owner }
+    ensures added { result ≡ Ok true → tree.new.log ≡ tree.old.log ++ rec ∷ [] }
+    ensures fits { IfOk result (λ added. added ≡ fits tree.old.owner tree.old.log rec) }
+{
+    match tree.fits(&rec) {
+        Ok(true) => {
+            add(tree, rec)?;
+            Ok(true)
+        }
+        Ok(false) => {
+            drop(rec);
+            Ok(false)
+        }
+        Err(fault) => {
+            drop(rec);
+            Err(fault)
+        }
+    }
+}
+
 /// Takes the record that a payload spells; `false` where it spells none, or the record does not fit.
 fn take(alloc: Global, tree: &mut MemTree, payload: &[u8]) -> Result<bool, AllocError>
     ensures owner { tree.new.owner ≡ tree.old.owner }
@@ -51,14 +73,10 @@ fn take(alloc: Global, tree: &mut MemTree, payload: &[u8]) -> Result<bool, Alloc
     ensures sizes { result ≡ Ok true → sizes_of tree.new.log ≡ sizes_of tree.old.log
         ++ length payload.now ∷ [] }
 {
-    let Some(rec) = spelled(alloc, payload)? else {
-        return Ok(false);
-    };
-    if !tree.fits(&rec)? {
-        return Ok(false);
+    match spelled(alloc, payload)? {
+        Some(rec) => add_fitting(tree, rec),
+        None => Ok(false),
     }
-    add(tree, rec)?;
-    Ok(true)
 }
 
 /// Takes all records. `Damaged` names the gate of the first one that is no record's or does not fit.

@@ -1,6 +1,6 @@
 //! Replies as the fields of a message, how long they are, and how long they may be.
 
-ghost use Rattle.std.specs.Prelude.{◌≡◌, ◌++◌, IfOk, length, OnOk, take};
+ghost use Rattle.std.specs.Prelude.{◌≡◌, ◌++◌, IfOk, IfSome, IsNone, length, OnOk, take};
 ghost use Rattle.up_bytes.specs.Reading.{Gives, row_at};
 ghost use Rattle.up_bytes.specs.Spelling.{byte};
 ghost use Rattle.up_wire.specs.Bounds.{bounded, reply_size};
@@ -52,10 +52,24 @@ pub fn reply_size(reply: &Reply) -> u64
 pub fn bounded(reply: Reply) -> Reply
     ensures { result ≡ bounded reply }
 {
-    let size = reply_size(&reply);
+    match oversize(&reply) {
+        Some(size) => {
+            drop(reply);
+            Reply::TooLarge(size)
+        }
+        None => reply,
+    }
+}
+
+/// How many bytes of payload the reply has, where it tells what was done in too many.
+fn oversize(reply: &Reply) -> Option<u64>
+    ensures over { IfSome result (λ size. bounded reply.now ≡ Reply.TooLarge size) }
+    ensures within { IsNone result → bounded reply.now ≡ reply.now }
+{
+    let size = reply_size(reply);
     match reply {
-        Reply::Ok(_) if size > LONGEST => Reply::TooLarge(size),
-        reply => reply,
+        Reply::Ok(_) if size > LONGEST => Some(size),
+        _ => None,
     }
 }
 

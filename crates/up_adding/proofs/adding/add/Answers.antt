@@ -8,9 +8,9 @@ use Rattle.up_adding.proofs.adding.add.Goals as goal
 
 pub returns-then-size-largest-clause-steps : goal.returns-then-size-largest-clause-steps
 returns-then-size-largest-clause-steps g c =
-    steps_large g.D.Disk c.args.rec c.args.state.now c.too_large.result
+    steps_large g.D.Disk c.args.rec c.args.state.now c.too_large-refusal.result
     (above (size_of c.args.rec) c.rec_size-size.result c.args.state.now.limits.largest c.rec_size-size.ensures (subst (λ n. n < c.rec_size-size.result) c.largest.ensures c.if-size-largest.true))
-    c.too_large.ensures
+    c.too_large-refusal.ensures
 
 pub apply-requires-clause-size : goal.apply-requires-clause-size
 apply-requires-clause-size g c =

@@ -18,6 +18,19 @@ returns-in_err-settle-clause-refused g c =
       shape = shape_now d g.met.D.Disk.counts_now c.args.disk.now c.settle.new.disk held front (c.settle.ensures.any_moment held front stands);
     })
 
+pub returns-in_err-write_behind-clause-refused : goal.returns-in_err-write_behind-clause-refused
+returns-in_err-write_behind-clause-refused g c =
+    let d = g.D.Disk in
+    let p = err_from_is_err_and c.from_residual-in_err-write_behind.result c.from_residual-in_err-write_behind.ensures.1 in
+    rw p.1 (λ held front stands.
+    let closed = c.in_ok-settle.ensures.closed held front stands in
+    record {
+      which = None;
+      one = inl refl;
+      sized = sym (ap (option_map (λ n. n + head_size)) c.in_ok-settle.ensures.settled);
+      shape = shape_now d g.met.D.Disk.counts_now c.settle.new.disk c.write_behind.new.disk None front (c.write_behind.ensures.any_moment front stands.place closed);
+    })
+
 pub returns-in_err-set_gate-clause-any_moment : goal.returns-in_err-set_gate-clause-any_moment
 returns-in_err-set_gate-clause-any_moment g c held front stands =
     let d = g.D.Disk in

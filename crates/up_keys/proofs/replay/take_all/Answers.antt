@@ -9,7 +9,7 @@ use Rattle.up_journal.proofs.Records.{next_damaged, next_read, payload_read, siz
 use Rattle.up_faults.proofs.Causes.{HasCause-then, HasCause-weaker}
 use Rattle.up_keys.specs.Records.{decoded, fits}
 use Rattle.up_keys.specs.Keys.{sizes_of}
-use Rattle.up_keys.proofs.replay.replay.Goals as goal
+use Rattle.up_keys.proofs.replay.take_all.Goals as goal
 
 pub returns-then-not-branch-clause-damaged : goal.returns-then-not-branch-clause-damaged
 returns-then-not-branch-clause-damaged g c =

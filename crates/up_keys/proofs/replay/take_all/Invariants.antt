@@ -5,7 +5,7 @@ use Rattle.up_journal.specs.Logs.{EachFits, log_step}
 use Rattle.up_journal.specs.Records.{OnlyPayloads, ReadUpTo}
 use Rattle.up_keys.specs.Keys.{AreLast, sizes_of}
 use Rattle.up_keys.specs.Records.{decoded, fits}
-use Rattle.up_keys.proofs.replay.replay.Given as goal
+use Rattle.up_keys.proofs.replay.take_all.Given as goal
 
 abbrev pub invariant-loop-n : goal.invariant-loop-n
 invariant-loop-n g l = record {

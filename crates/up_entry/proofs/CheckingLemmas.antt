@@ -1,0 +1,60 @@
+-- The rules of Put one after another, cut where those of the names end.
+use Rattle.std.proofs.Common.{◌≡◌, ◌∙◌, ℕ, false, List, Option, Result, Ok, Err, ap, refl, sym}
+use Rattle.up_names.specs.PathNames.{PathName}
+use Rattle.up_entry.specs.declared.entries.Kind.{Kind}
+use Rattle.up_entry.specs.declared.puts.Checked.{Checked}
+use Rattle.up_entry.specs.declared.puts.PutEntry.{PutEntry}
+use Rattle.up_entry.specs.declared.fault.EntryFault.{EntryFault}
+use Rattle.up_entry.specs.declared.what.What.TheVariants as what
+use Rattle.up_entry.specs.Checking.{◌>>=◌, path_or, link_or, signed_name_of, writer_of, kind_of, content_rules, names_of, rest_of, checked_as}
+
+-- what was checked, of its parts
+abbrev pub checked_of : PutEntry → PathName → PathName → List ℕ → Kind → Option PathName → Checked
+checked_of put name signed_name writer kind link = record {
+  entry = record {
+    signed_name = signed_name;
+    packing = put.packing;
+    time = put.time;
+    blocks = put.blocks;
+    packdata = put.packdata;
+    link = link;
+    writer = writer;
+    name = name;
+    attr = record { kind = kind; incomplete = false };
+    sequence = 0;
+  };
+  sequence = put.sequence;
+}
+
+-- a rule and those behind it, and then one more
+then : {A B C : Type 0} (r : Result A EntryFault) (f : A → Result B EntryFault) (g : B → Result C EntryFault) (h : A → Result C EntryFault) → ((x : A) → (f x >>= g) ≡ h x) → ((r >>= f) >>= g) ≡ (r >>= h)
+then (Ok x) f g h is = is x
+then (Err fault) f g h is = refl
+
+checked_parts : (put : PutEntry) (user : List ℕ) → checked_as put user ≡ (names_of put user >>= λ names. rest_of put names.0 >>= λ rest. Ok (checked_of put names.0 names.1 names.2 rest.0 rest.1))
+unfolding checked_as names_of rest_of
+checked_parts put user = sym (
+    then (path_or what.Name put.name) _ _ _ (λ name.
+    then (signed_name_of put name) _ _ _ (λ signed_name.
+    then (writer_of put user) _ _ _ (λ writer.
+    then (kind_of put name) _ _ _ (λ kind.
+    then (link_or kind put.link) _ _ _ (λ link.
+    then (content_rules put kind name) _ _ _ (λ content. refl)))))))
+
+after_ok : {A B : Type 0} (r : Result A EntryFault) (f : A → Result B EntryFault) (x : A) → r ≡ Ok x → (r >>= f) ≡ f x
+after_ok r f x e = ap (λ (r : Result _ EntryFault). r >>= f) e
+
+after_err : {A B : Type 0} (r : Result A EntryFault) (f : A → Result B EntryFault) (fault : EntryFault) → r ≡ Err fault → (r >>= f) ≡ Err fault
+after_err r f fault e = ap (λ (r : Result _ EntryFault). r >>= f) e
+
+-- the first rule that is broken is one of the names
+pub names_break : (put : PutEntry) (user : List ℕ) (fault : EntryFault) → names_of put user ≡ Err fault → checked_as put user ≡ Err fault
+names_break put user fault e = checked_parts put user ∙ after_err (names_of put user) _ fault e
+
+-- it is one behind these
+pub rest_breaks : (put : PutEntry) (user : List ℕ) (name signed_name : PathName) (writer : List ℕ) (fault : EntryFault) → names_of put user ≡ Ok (name, signed_name, writer) → rest_of put name ≡ Err fault → checked_as put user ≡ Err fault
+rest_breaks put user name signed_name writer fault e d = checked_parts put user ∙ after_ok (names_of put user) _ (name, signed_name, writer) e ∙ after_err (rest_of put name) _ fault d
+
+-- none is broken
+pub rules_hold : (put : PutEntry) (user : List ℕ) (name signed_name : PathName) (writer : List ℕ) (kind : Kind) (link : Option PathName) → names_of put user ≡ Ok (name, signed_name, writer) → rest_of put name ≡ Ok (kind, link) → checked_as put user ≡ Ok (checked_of put name signed_name writer kind link)
+rules_hold put user name signed_name writer kind link e d = checked_parts put user ∙ after_ok (names_of put user) _ (name, signed_name, writer) e ∙ after_ok (rest_of put name) _ (kind, link) d
