@@ -28,5 +28,8 @@ pub fn ask(
         &given.fetched,
         now,
     );
-    add_reply(alloc, &reply, answer)
+    drop(request);
+    let added = add_reply(alloc, &reply, answer);
+    drop(reply);
+    added
 }

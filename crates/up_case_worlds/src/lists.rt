@@ -54,7 +54,9 @@ impl Lists {
         let pairs = made(alloc, one, two, &user, &self.first, &self.second)?;
         self.first.clear();
         self.second.clear();
-        add_pairs(alloc, &pairs, answer)
+        let told = add_pairs(alloc, &pairs, answer);
+        drop(pairs);
+        told
     }
 }
 

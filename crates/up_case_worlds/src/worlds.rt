@@ -128,7 +128,7 @@ impl Pair {
         let now = moment(self.given.now)?;
         let user = user_of(alloc, words.word()?)?;
         let request = self.given.request(alloc, &user, words)?;
-        Ok(two_worlds(
+        let replies = two_worlds(
             alloc,
             &mut self.one,
             &mut self.two,
@@ -137,7 +137,9 @@ impl Pair {
             &self.given.loaded,
             &self.given.fetched,
             now,
-        ))
+        );
+        drop(request);
+        Ok(replies)
     }
 
     // `first USER WORDS`, `second USER WORDS`: a turn more of the first list, or of the second. It takes what was loaded and fetched

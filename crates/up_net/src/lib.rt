@@ -9,8 +9,6 @@
 mod helper_verifier;
 mod host_clock;
 mod seed_nonces;
-#[cfg(test)]
-mod tests;
 
 pub use helper_verifier::HelperVerifier;
 pub use host_clock::HostClock;

@@ -7,7 +7,8 @@
 //! [`read_request`] gives exactly what the words of a line ask, and [`read_client_line`] what they have the client do;
 //! [`is_request`] says whether they are such a line at all, which does not depend on who asks.
 //! [`reply_lines`] gives exactly the lines that tell a reply: words parted by single spaces ([`lines_are_words`]), and different
-//! ones for different replies ([`lines_tell_replies`]). [`fault_lines`] gives those that tell a client's fault.
+//! ones for different replies that have a spelling, but for key records that differ alone in whether an endpoint is the host's own
+//! store or the address `local` ([`lines_tell_replies`]). [`fault_lines`] gives those that tell a client's fault.
 #![tactic(auto)]
 
 mod client_faults;

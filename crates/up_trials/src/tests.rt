@@ -1,2 +1,3 @@
-//! One module for each crate.
+//! One module for each crate, or for what stands at the machine.
 mod ends;
+mod machine;

@@ -1,5 +1,4 @@
-//! What the adapters do with a clock, a seed and a helper, and the two commands of a helper.
-use crate::{HelperVerifier, HostClock, SeedNonces};
+//! What the adapters of `up_net` do with a clock, a seed and a helper, and the two commands of a helper.
 use std::alloc::{AllocError, Global};
 use std::io;
 use std::io::ErrorKind;
@@ -8,6 +7,7 @@ use std::time::{Clock as TimeOfDay, Duration};
 use up_ends::{Clock, Failed, MemSink, Nonces, Verdict, Verifier};
 use up_helper::{hex_word, sign_run, verify_run};
 use up_lists::Items;
+use up_net::{HelperVerifier, HostClock, SeedNonces};
 
 /// A machine's clock that stands still, or cannot be read.
 #[derive(Drop)]
