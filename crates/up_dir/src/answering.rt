@@ -1,18 +1,18 @@
 //! A request, and what comes of it.
 ghost use Rattle.std.specs.Prelude.{◌≡◌, ◌<◌, [], IfOk};
 ghost use Rattle.std.specs.Str.{bytes_eq};
+ghost use Rattle.up_adding.specs.Steps.{IsTold, Steps};
 ghost use Rattle.up_answers.specs.Answers.{added, answer, asked_outcome, log_owner, tree_outcome};
 ghost use Rattle.up_answers.specs.Watches.{watch_reply};
+ghost use Rattle.up_dir.specs.Crashes.{Survives};
+ghost use Rattle.up_dir.specs.Forms.{IsFormed};
 ghost use Rattle.up_ends.specs.Growing.{OnlyGrows};
 ghost use Rattle.up_list.specs.Asking.{owner_asked};
 ghost use Rattle.up_list.specs.Changes.{added_by, answer_of};
-ghost use Rattle.up_list.specs.Looks.{look_now};
 ghost use Rattle.up_list.specs.Globs.{glob_reply};
+ghost use Rattle.up_list.specs.Looks.{look_now};
 ghost use Rattle.up_list.specs.Reads.{access_reply, group_text_reply, lookup_reply};
 ghost use Rattle.up_tree.specs.States.{entries_of, fixed_of, log_of};
-ghost use Rattle.up_dir.specs.Crashes.{Survives};
-ghost use Rattle.up_dir.specs.Forms.{IsFormed};
-ghost use Rattle.up_adding.specs.Steps.{IsTold, Steps};
 ghost use Rattle.up_wire.specs.Bounds.{bounded};
 
 use std::alloc::{AllocError, Global};
@@ -162,9 +162,9 @@ fn step_in_tree<D: Disk>(
             change(state, led)
         }
         Asked::Lookup(path) => {
-            let found = looked(alloc, state, loaded, user, &path);
+            let entry = entry_told(alloc, state, loaded, user, &path);
             drop(path);
-            found
+            entry
         }
         Asked::WhichAccess(path) => {
             let access = access_told(alloc, state, loaded, user, &path);
@@ -184,7 +184,7 @@ fn step_in_tree<D: Disk>(
             rows
         }
         Asked::Watch(path, sequence) => {
-            let events = watched(alloc, state, loaded, user, &path, sequence);
+            let events = events_told(alloc, state, loaded, user, &path, sequence);
             drop(path);
             events
         }
@@ -192,7 +192,7 @@ fn step_in_tree<D: Disk>(
 }
 
 /// The reply to a Lookup.
-fn looked<D: Disk>(
+fn entry_told<D: Disk>(
     alloc: Global,
     state: &TreeState<D>,
     loaded: &Loaded,
@@ -256,7 +256,7 @@ fn rows_told<D: Disk>(
 }
 
 /// The reply to a Watch.
-fn watched<D: Disk>(
+fn events_told<D: Disk>(
     alloc: Global,
     state: &TreeState<D>,
     loaded: &Loaded,

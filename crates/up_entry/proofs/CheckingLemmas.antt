@@ -1,30 +1,11 @@
 -- The rules of Put one after another, cut where those of the names end.
-use Rattle.std.proofs.Common.{◌≡◌, ◌∙◌, ℕ, false, List, Option, Result, Ok, Err, ap, refl, sym}
+use Rattle.std.proofs.Common.{◌≡◌, ◌∙◌, ℕ, List, Option, Result, Ok, Err, ap, refl, sym}
 use Rattle.up_names.specs.PathNames.{PathName}
 use Rattle.up_entry.specs.declared.entries.Kind.{Kind}
-use Rattle.up_entry.specs.declared.puts.Checked.{Checked}
 use Rattle.up_entry.specs.declared.puts.PutEntry.{PutEntry}
 use Rattle.up_entry.specs.declared.fault.EntryFault.{EntryFault}
 use Rattle.up_entry.specs.declared.what.What.TheVariants as what
-use Rattle.up_entry.specs.Checking.{◌>>=◌, path_or, link_or, signed_name_of, writer_of, kind_of, content_rules, names_of, rest_of, checked_as}
-
--- what was checked, of its parts
-abbrev pub checked_of : PutEntry → PathName → PathName → List ℕ → Kind → Option PathName → Checked
-checked_of put name signed_name writer kind link = record {
-  entry = record {
-    signed_name = signed_name;
-    packing = put.packing;
-    time = put.time;
-    blocks = put.blocks;
-    packdata = put.packdata;
-    link = link;
-    writer = writer;
-    name = name;
-    attr = record { kind = kind; incomplete = false };
-    sequence = 0;
-  };
-  sequence = put.sequence;
-}
+use Rattle.up_entry.specs.Checking.{◌>>=◌, path_or, link_or, signed_name_of, writer_of, kind_of, content_rules, names_of, rest_of, checked_of, checked_as}
 
 -- a rule and those behind it, and then one more
 then : {A B C : Type 0} (r : Result A EntryFault) (f : A → Result B EntryFault) (g : B → Result C EntryFault) (h : A → Result C EntryFault) → ((x : A) → (f x >>= g) ≡ h x) → ((r >>= f) >>= g) ≡ (r >>= h)

@@ -105,6 +105,24 @@ rest_of put name = do
   content ← content_rules put kind name
   Ok (kind, link)
 
+-- what was checked, of its parts
+abbrev pub checked_of : PutEntry → PathName → PathName → List ℕ → Kind → Option PathName → Checked
+checked_of put name signed_name writer kind link = record {
+  entry = record {
+    signed_name = signed_name;
+    packing = put.packing;
+    time = put.time;
+    blocks = put.blocks;
+    packdata = put.packdata;
+    link = link;
+    writer = writer;
+    name = name;
+    attr = record { kind = kind; incomplete = false };
+    sequence = 0;
+  };
+  sequence = put.sequence;
+}
+
 -- The entry that was handed to Put by this user, or the first rule that it breaks.
 unfoldable pub checked_as : PutEntry → List ℕ → Result Checked EntryFault
 checked_as put user = do
@@ -114,21 +132,7 @@ checked_as put user = do
   kind ← kind_of put name
   link ← link_or kind put.link
   content ← content_rules put kind name
-  Ok (record {
-    entry = record {
-      signed_name = signed_name;
-      packing = put.packing;
-      time = put.time;
-      blocks = put.blocks;
-      packdata = put.packdata;
-      link = link;
-      writer = writer;
-      name = name;
-      attr = record { kind = kind; incomplete = false };
-      sequence = 0;
-    };
-    sequence = put.sequence;
-  })
+  Ok (checked_of put name signed_name writer kind link)
 
 -- the text of this target, or the empty text where there is none
 abbrev pub IsLinkText : List ℕ → Option PathName → Type 0

@@ -1,9 +1,9 @@
 //! The rules of an entry that is handed to Put.
 
-ghost use Rattle.std.specs.Prelude.{◌≡◌, ◌≢◌, IfOk, false};
+ghost use Rattle.std.specs.Prelude.{◌≡◌, ◌≢◌, IfOk};
 ghost use Rattle.up_names.specs.declared.fault.NameFault.TheVariants as name;
 ghost use Rattle.up_entry.specs.declared.fault.EntryFault.{EntryFault};
-ghost use Rattle.up_entry.specs.Checking.{Gives, checked_as, content_rules, kind_of, link_or, names_of, path_or, rest_of, rule, signed_name_of, user_or, writer_of};
+ghost use Rattle.up_entry.specs.Checking.{Gives, checked_as, checked_of, content_rules, kind_of, link_or, names_of, path_or, rest_of, rule, signed_name_of, user_or, writer_of};
 
 use crate::attrs::attr_of;
 use crate::block_rules::{blocks_fit, control_size_fits};
@@ -89,21 +89,8 @@ fn made(
     kind: Kind,
     link: Option<Path>,
 ) -> Result<Checked, AllocError>
-    ensures { IfOk result (λ checked. checked ≡ record {
-      entry = record {
-        signed_name = signed_name;
-        packing = put.now.packing;
-        time = put.now.time;
-        blocks = put.now.blocks;
-        packdata = put.now.packdata;
-        link = link;
-        writer = writer;
-        name = name;
-        attr = record { kind = kind; incomplete = false };
-        sequence = 0;
-      };
-      sequence = put.now.sequence;
-    }) }
+    ensures { IfOk result (λ checked.
+        checked ≡ checked_of put.now name signed_name writer kind link) }
 {
     let copied = content_of(alloc, put);
     match copied {

@@ -26,7 +26,7 @@ use up_lists::Items;
 use up_names::User;
 use up_tree::TreeState;
 
-// How many bytes a record of the store may have: a block, and what stands before it.
+// How many bytes a record of the store may have: a block of 1,048,576 bytes, the byte before it, and some to spare.
 const STORE_LARGEST: u64 = 1_048_640;
 
 // The logs of a host, and the room for their disks.

@@ -298,7 +298,7 @@ fn file_line(alloc: Global, words: &[Bytes], user: &User) -> Result<PutEntry, Li
     }
 }
 
-/// Gives an entry the packing, the pack data and the blocks of these words.
+/// Gives an entry the packing, the pack data and the blocks of these words; after a fault it may have some of them.
 #[tactic(auto, unfolding(crate::specs::Requests::filled))]
 fn fill(
     alloc: Global,

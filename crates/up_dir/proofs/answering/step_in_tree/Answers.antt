@@ -8,7 +8,7 @@ use Rattle.up_dir.proofs.answering.step_in_tree.Goals as goal
 
 pub returns-in-Lookup-clause-steps : goal.returns-in-Lookup-clause-steps
 returns-in-Lookup-clause-steps g c =
-    reads_lookup g.D.Disk c.args.state.now c.args.loaded.now c.args.fetched.now c.args.user.now c.looked-found.result c.args.asked c.in-Lookup.path c.in-Lookup.is c.looked-found.ensures
+    reads_lookup g.D.Disk c.args.state.now c.args.loaded.now c.args.fetched.now c.args.user.now c.entry_told-entry.result c.args.asked c.in-Lookup.path c.in-Lookup.is c.entry_told-entry.ensures
 
 pub returns-in-WhichAccess-clause-steps : goal.returns-in-WhichAccess-clause-steps
 returns-in-WhichAccess-clause-steps g c =
@@ -24,5 +24,5 @@ returns-in-Glob-clause-steps g c =
 
 pub returns-in-Watch-clause-steps : goal.returns-in-Watch-clause-steps
 returns-in-Watch-clause-steps g c =
-    let told : IsTold (bounded (watch_reply (log_of c.args.state.now) c.args.loaded.now c.args.user.now c.in-Watch.path c.in-Watch.sequence)) c.watched-events.result = search rules in
-    reads_watch g.D.Disk c.args.state.now c.args.loaded.now c.args.fetched.now c.args.user.now c.watched-events.result c.args.asked c.in-Watch.path c.in-Watch.sequence c.in-Watch.is told
+    let told : IsTold (bounded (watch_reply (log_of c.args.state.now) c.args.loaded.now c.args.user.now c.in-Watch.path c.in-Watch.sequence)) c.events_told-events.result = search rules in
+    reads_watch g.D.Disk c.args.state.now c.args.loaded.now c.args.fetched.now c.args.user.now c.events_told-events.result c.args.asked c.in-Watch.path c.in-Watch.sequence c.in-Watch.is told

@@ -8,7 +8,7 @@ use Rattle.up_journal.specs.declared.fault.ReadWhy.TheVariants as read_why
 use Rattle.up_journal.specs.Logs.{log_step}
 use Rattle.up_journal.specs.Records.{replay}
 use Rattle.up_journal.proofs.Records.{next_damaged, next_read, payload_read, payload_seen, size_seen, take_next}
-use Rattle.up_blocks.proofs.replay.replay.Goals as goal
+use Rattle.up_blocks.proofs.replay.take_all.Goals as goal
 
 pub returns-then-not-branch-clause-damaged : goal.returns-then-not-branch-clause-damaged
 returns-then-not-branch-clause-damaged g c =

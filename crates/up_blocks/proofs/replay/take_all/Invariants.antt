@@ -6,7 +6,7 @@ use Rattle.up_faults.specs.Counts.{HasCause}
 use Rattle.up_journal.specs.Journal.{gate_behind}
 use Rattle.up_journal.specs.Logs.{EachFits, log_step}
 use Rattle.up_journal.specs.Records.{OnlyPayloads, ReadUpTo}
-use Rattle.up_blocks.proofs.replay.replay.Given as goal
+use Rattle.up_blocks.proofs.replay.take_all.Given as goal
 
 abbrev pub invariant-loop-n : goal.invariant-loop-n
 invariant-loop-n g l = record {
