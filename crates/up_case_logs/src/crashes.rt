@@ -31,6 +31,7 @@ impl Topic for Crashes {
             answer.part();
             stage = stage_turn(alloc, stage, Words::new(command), answer)?;
         }
+        drop(stage);
         Ok(())
     }
 }

@@ -59,17 +59,29 @@ impl<'a> Script<'a> {
         if let Some(wanted) = case.question.strip_prefix("= ") {
             return self.add_wanted(wanted, case);
         }
+        self.add_by_word(alloc, case)
+    }
+
+    // The same of a line with a keyword.
+    fn add_by_word(&mut self, alloc: Global, case: Case<'a>) -> Result<(), Fault> {
         let mut words = Words::new(case.question);
         match words.word()? {
             "|" => self.add_line(b"", case),
             "line" => self.add_line(bytes_of(alloc, words.one()?)?.as_slice(), case),
             "tail" => self.add_bytes(bytes_of(alloc, words.one()?)?.as_slice(), case),
             "repeat" => self.repeat(alloc, words),
+            keyword => self.set(alloc, keyword, words),
+        }
+    }
+
+    // The same of a line that adds nothing to the input.
+    fn set(&mut self, alloc: Global, keyword: &str, mut words: Words<'a>) -> Result<(), Fault> {
+        match keyword {
             "command" => self.set_words(alloc, words),
             "pieces" => push(&mut self.pieces, words.last_number()?),
             "source" => push(&mut self.source_fails, words.last_number()?),
             "sink" => push(&mut self.sink_fails, words.last_number()?),
-            keyword => self.around.add(alloc, keyword, words),
+            _ => self.around.add(alloc, keyword, words),
         }
     }
 

@@ -24,7 +24,9 @@ impl Topic for Replies {
 fn tell_line(alloc: Global, digits: &str, answer: &mut Answer) -> Result<(), Fault> {
     let bytes = bytes_of_digits(alloc, digits)?;
     let read = read_server(alloc, bytes.as_slice());
-    add_told(alloc, &read, answer)
+    let told = add_told(alloc, &read, answer);
+    drop(read);
+    told
 }
 
 fn add_told(

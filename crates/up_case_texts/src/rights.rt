@@ -29,7 +29,8 @@ impl Topic for Rights {
         let mut words = Words::new(line);
         let keyword = words.word()?;
         if keyword == "tree" {
-            self.tree = Some(told::tree_line(alloc, self.random, words)?);
+            let tree = told::tree_line(alloc, self.random, words)?;
+            drop(self.tree.replace(tree));
             return Ok(());
         }
         match &mut self.tree {

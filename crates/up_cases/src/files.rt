@@ -42,7 +42,7 @@ fn names_of_files<R: Files + AllocGlobal + Clone + Drop>(
     Ok(names)
 }
 
-// Runs a file's lines about its topic.
+// Runs a file's lines.
 fn run_file<R: Files + RandomSource + AllocGlobal + Print>(
     rt: &R,
     folder: &str,
@@ -55,7 +55,16 @@ fn run_file<R: Files + RandomSource + AllocGlobal + Print>(
         name,
         text: text.as_str(),
     };
-    match topic_of(name) {
+    run_topic(rt, file, tally)
+}
+
+// Runs lines about the topic that their file is named for.
+fn run_topic<R: RandomSource + AllocGlobal + Print>(
+    rt: &R,
+    file: File<'_>,
+    tally: &mut Tally,
+) -> io::Result<()> {
+    match topic_of(file.name) {
         "client" => run_lines(rt, file, ClientLines::new(), tally),
         "names" => run_lines(rt, file, Names, tally),
         "texts" => run_lines(rt, file, Texts, tally),
@@ -74,19 +83,25 @@ fn run_file<R: Files + RandomSource + AllocGlobal + Print>(
         "references" => run_lines(rt, file, References, tally),
         "crashes" => run_lines(rt, file, Crashes, tally),
         "records" => run_lines(rt, file, Records::new(), tally),
-        "scripts" => run_scripts(rt, file, Command::Can, RandomState::new(rt)?, tally),
-        "sessions" => run_scripts(rt, file, Command::Script, RandomState::new(rt)?, tally),
-        "hosts" => run_lines(
-            rt,
-            file,
-            Hosts::new(rt.alloc(), RandomState::new(rt)?),
-            tally,
-        ),
-        "globs" | "steps" | "watches" => {
-            run_lines(rt, file, Asked::new(RandomState::new(rt)?), tally)
-        }
-        "rights" => run_lines(rt, file, Rights::new(RandomState::new(rt)?), tally),
-        "worlds" => run_lines(rt, file, Worlds::new(RandomState::new(rt)?), tally),
+        _ => run_hashed(rt, file, RandomState::new(rt)?, tally),
+    }
+}
+
+// The same of topics whose names are hashed, with these keys.
+fn run_hashed<R: AllocGlobal + Print>(
+    rt: &R,
+    file: File<'_>,
+    random: RandomState,
+    tally: &mut Tally,
+) -> io::Result<()> {
+    let name = file.name;
+    match topic_of(name) {
+        "scripts" => run_scripts(rt, file, Command::Can, random, tally),
+        "sessions" => run_scripts(rt, file, Command::Script, random, tally),
+        "hosts" => run_lines(rt, file, Hosts::new(rt.alloc(), random), tally),
+        "globs" | "steps" | "watches" => run_lines(rt, file, Asked::new(random), tally),
+        "rights" => run_lines(rt, file, Rights::new(random), tally),
+        "worlds" => run_lines(rt, file, Worlds::new(random), tally),
         _ => {
             tally.fail();
             println!(rt; "{name}: no topic has this name")

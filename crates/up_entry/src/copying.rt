@@ -75,7 +75,7 @@ impl Clone for Entry {
 }
 
 /// The entry's name, its signed name and its writer.
-fn copied_names(entry: &Entry) -> Result<(Path, Path, User), AllocError>
+pub(crate) fn copied_names(entry: &Entry) -> Result<(Path, Path, User), AllocError>
     ensures { IfOk result (λ copy. copy ≡ (entry.now.name, entry.now.signed_name, entry.now.writer)) }
 {
     let name = entry.name.clone()?;

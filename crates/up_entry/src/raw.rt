@@ -10,7 +10,7 @@ use crate::front::Front;
 use crate::puts::PutEntry;
 use std::alloc::{AllocError, Global};
 use up_bytes::{
-    FieldFault, Fields, Reader, Writer, copy_of, int_len, list_size, read_list, text_len,
+    Bytes, FieldFault, Fields, Reader, Writer, copy_of, int_len, list_size, read_list, text_len,
     write_list,
 };
 
@@ -36,19 +36,31 @@ impl Fields for PutEntry {
         let link = input.slice()?;
         let packdata = input.slice()?;
         let blocks = read_list(alloc, input)?;
-        let sequence = input.int()?;
-        Ok(PutEntry {
-            signed_name: copy_of(alloc, signed_name)?,
-            packing,
-            time,
-            blocks,
-            packdata: copy_of(alloc, packdata)?,
-            link: copy_of(alloc, link)?,
-            writer: copy_of(alloc, writer)?,
-            name: copy_of(alloc, name)?,
-            attr,
-            sequence,
-        })
+        let sequence = match input.int() {
+            Ok(sequence) => sequence,
+            Err(fault) => {
+                drop(blocks);
+                return Err(fault);
+            }
+        };
+        match copied(alloc, name, signed_name, writer, link, packdata) {
+            Ok((name, signed_name, writer, link, packdata)) => Ok(PutEntry {
+                signed_name,
+                packing,
+                time,
+                blocks,
+                packdata,
+                link,
+                writer,
+                name,
+                attr,
+                sequence,
+            }),
+            Err(AllocError) => {
+                drop(blocks);
+                Err(FieldFault::OutOfMemory)
+            }
+        }
     }
 
     #[tactic(auto, unfolding(crate::specs::RawEntries::raw_entry))]
@@ -69,6 +81,26 @@ impl Fields for PutEntry {
             .saturating_add(list_size(self.blocks.as_slice()))
             .saturating_add(int_len(self.sequence))
     }
+}
+
+/// A copy of each text of a raw entry: its name, its signed name, its writer, its link and its pack data.
+fn copied(
+    alloc: Global,
+    name: &[u8],
+    signed_name: &[u8],
+    writer: &[u8],
+    link: &[u8],
+    packdata: &[u8],
+) -> Result<(Bytes, Bytes, Bytes, Bytes, Bytes), AllocError>
+    ensures { IfOk result
+        (λ copy. copy ≡ (name.now, signed_name.now, writer.now, link.now, packdata.now)) }
+{
+    let name = copy_of(alloc, name)?;
+    let signed_name = copy_of(alloc, signed_name)?;
+    let writer = copy_of(alloc, writer)?;
+    let link = copy_of(alloc, link)?;
+    let packdata = copy_of(alloc, packdata)?;
+    Ok((name, signed_name, writer, link, packdata))
 }
 
 /// What stands in front of a raw entry's link.

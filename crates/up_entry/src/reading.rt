@@ -39,21 +39,44 @@ pub(crate) fn take_entry(
 {
     let heading = take_heading(alloc, input, marks)?;
     let link = take_link(alloc, input, heading.attr.kind)?;
-    let packdata = input.text(alloc)?;
-    let blocks = read_list(alloc, input)?;
-    let sequence = input.num()?;
-    Ok(Entry {
-        signed_name: heading.signed_name,
-        packing: heading.packing,
-        time: heading.time,
-        blocks,
-        packdata,
-        link,
-        writer: heading.writer,
-        name: heading.name,
-        attr: heading.attr,
-        sequence,
-    })
+    let packdata = match input.text(alloc) {
+        Ok(packdata) => packdata,
+        Err(fault) => {
+            drop(heading);
+            drop(link);
+            return Err(fault);
+        }
+    };
+    let blocks = match read_list(alloc, input) {
+        Ok(blocks) => blocks,
+        Err(fault) => {
+            drop(heading);
+            drop(link);
+            drop(packdata);
+            return Err(fault);
+        }
+    };
+    match input.num() {
+        Ok(sequence) => Ok(Entry {
+            signed_name: heading.signed_name,
+            packing: heading.packing,
+            time: heading.time,
+            blocks,
+            packdata,
+            link,
+            writer: heading.writer,
+            name: heading.name,
+            attr: heading.attr,
+            sequence,
+        }),
+        Err(fault) => {
+            drop(heading);
+            drop(link);
+            drop(packdata);
+            drop(blocks);
+            Err(fault)
+        }
+    }
 }
 
 /// What stands in front of an entry's link.
@@ -78,16 +101,30 @@ fn take_heading(alloc: Global, input: &mut Reader, marks: bool) -> Result<Headin
     let signed_name = read_path(alloc, input)?;
     let packing = input.byte()?;
     let time = input.int()?;
-    let writer = read_user(alloc, input)?;
-    let attr = take_attr(input, marks)?;
-    Ok(Heading {
-        name,
-        signed_name,
-        packing,
-        time,
-        writer,
-        attr,
-    })
+    let writer = match read_user(alloc, input) {
+        Ok(writer) => writer,
+        Err(fault) => {
+            drop(name);
+            drop(signed_name);
+            return Err(fault);
+        }
+    };
+    match take_attr(input, marks) {
+        Ok(attr) => Ok(Heading {
+            name,
+            signed_name,
+            packing,
+            time,
+            writer,
+            attr,
+        }),
+        Err(fault) => {
+            drop(name);
+            drop(signed_name);
+            drop(writer);
+            Err(fault)
+        }
+    }
 }
 
 /// Takes the byte of an entry's attributes; with the mark only where marks may stand.

@@ -3,7 +3,7 @@
 ghost use Rattle.std.specs.Prelude.{◌≡◌, IfOk};
 ghost use Rattle.up_entry.specs.Showing.{incomplete, shown_as};
 
-use crate::copying::copied_link;
+use crate::copying::{copied_link, copied_names};
 use crate::entries::{Attr, Entry};
 use std::alloc::{AllocError, Global};
 use up_lists::Items;
@@ -24,19 +24,28 @@ pub fn shown(alloc: Global, entry: &Entry, read: bool) -> Result<Entry, AllocErr
 fn without_content(alloc: Global, entry: &Entry) -> Result<Entry, AllocError>
     ensures { IfOk result (λ shown. shown ≡ incomplete entry.now) }
 {
-    Ok(Entry {
-        signed_name: entry.signed_name.clone()?,
-        packing: entry.packing,
-        time: entry.time,
-        blocks: Items::new(alloc),
-        packdata: Items::new(alloc),
-        link: copied_link(&entry.link)?,
-        writer: entry.writer.clone()?,
-        name: entry.name.clone()?,
-        attr: Attr {
-            kind: entry.attr.kind,
-            incomplete: true,
-        },
-        sequence: entry.sequence,
-    })
+    let (name, signed_name, writer) = copied_names(entry)?;
+    match copied_link(&entry.link) {
+        Ok(link) => Ok(Entry {
+            signed_name,
+            packing: entry.packing,
+            time: entry.time,
+            blocks: Items::new(alloc),
+            packdata: Items::new(alloc),
+            link,
+            writer,
+            name,
+            attr: Attr {
+                kind: entry.attr.kind,
+                incomplete: true,
+            },
+            sequence: entry.sequence,
+        }),
+        Err(AllocError) => {
+            drop(name);
+            drop(signed_name);
+            drop(writer);
+            Err(AllocError)
+        }
+    }
 }

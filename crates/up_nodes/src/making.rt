@@ -184,7 +184,15 @@ impl Kept {
         let (access, group) = changes_by_put(&self.owner, position, entry, text)?;
         let (found, parent) = self.ids_of(path);
         let own = own_of(*self.slots.allocator(), found, path, parent, &group)?;
-        let node = node_of(entry, text)?;
+        let node = match node_of(entry, text) {
+            Ok(node) => node,
+            Err(AllocError) => {
+                drop(access);
+                drop(group);
+                drop(own);
+                return Err(AllocError);
+            }
+        };
         let id = own_id(self.slots.as_slice(), &own);
         Ok(Step {
             position,

@@ -22,6 +22,7 @@ pub fn timed_line(
     let bytes = message(alloc, number_of(count)?)?;
     let read = read_server(alloc, bytes.as_slice());
     add_turned(alloc, keyword, &read, &bytes, answer);
+    drop(read);
     Ok(())
 }
 

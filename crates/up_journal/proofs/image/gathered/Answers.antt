@@ -1,4 +1,5 @@
 use Rattle.std.proofs.Common.{◌≡◌, ◌+◌, ◌^◌, ◌∷◌, drop, length, get_or, IsErrOf, arith}
+use Rattle.std.proofs.lemmas.Grind.{common_steps}
 use Rattle.std.proofs.lemmas.List.{drop_more}
 use Rattle.up_disk.specs.Disk.{part}
 use Rattle.up_faults.proofs.Causes.{HasCause-then, HasCause-weaker}
@@ -33,3 +34,12 @@ loop-span-preserved g c =
       counts = HasCause-then (d.faults disk) (d.faults c.loop-span.disk) (d.faults c.gather.new.disk) ⊥ ⊥ i.counts
           (HasCause-weaker (d.faults c.loop-span.disk) (d.faults c.gather.new.disk) (IsErrOf c.gather.result read_why.Fault) ⊥ c.gather.ensures.counts (λ none. absurd none));
     }
+
+pub gather-requires-clause-within : goal.gather-requires-clause-within
+gather-requires-clause-within g c = grind (arith, common_steps)
+
+pub returns-clause-image : goal.returns-clause-image
+returns-clause-image g c = grind (arith, common_steps)
+
+pub returns-clause-long : goal.returns-clause-long
+returns-clause-long g c = grind (arith, common_steps)

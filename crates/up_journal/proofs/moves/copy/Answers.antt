@@ -1,4 +1,5 @@
-use Rattle.std.proofs.Common.{◌≡◌, ◌<◌, ◌^◌, ℕ, List, length, take, IfSome, ap, sym, subst, ◌∙◌}
+use Rattle.std.proofs.Common.{◌≡◌, ◌<◌, ◌^◌, ℕ, List, length, take, IfSome, ap, sym, subst, ◌∙◌, arith}
+use Rattle.std.proofs.lemmas.Grind.{common_steps}
 use Rattle.std.specs.List.{AllByRecursion}
 use Rattle.up_disk.specs.Disk.{LeavesOnly}
 use Rattle.up_journal.specs.Kept.{sizes_of}
@@ -60,3 +61,6 @@ returns-clause-crash g c only unnamed =
     let made = image_told (d.content old) (d.content c.old_spans.new.disk) image spans c.deref-2.result.now c.old_spans.ensures.read.same c.deref-2.ensures.value c.in_ok-image.ensures.image in
     moving_by d c.args.new.now c.write_image.new.disk c.args.limits (d.content old) (d.size_of old) spans image c.requires (g.met.D.Disk.sized old) e.log e.within e.fitting made
     (subst (λ (l : List ℕ). LeavesOnly d.moment d.left_since c.args.new.now c.write_image.new.disk (IsSwitched l)) c.deref-3.ensures.value (c.write_image.ensures.any_moment only unnamed))
+
+pub returns-in_err-spans-clause-crash : goal.returns-in_err-spans-clause-crash
+returns-in_err-spans-clause-crash g c = grind (arith, common_steps)

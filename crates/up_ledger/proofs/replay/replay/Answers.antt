@@ -1,4 +1,5 @@
-use Rattle.std.proofs.Common.{◌≡◌, None, Some, Ok, true, IsErrOf, ℕ, List, [], ◌∷◌, ◌++◌, ◌∙◌, ap, sym, length, take}
+use Rattle.std.proofs.Common.{◌≡◌, None, Some, Ok, true, IsErrOf, ℕ, List, [], ◌∷◌, ◌++◌, ◌∙◌, ap, sym, length, take, arith}
+use Rattle.std.proofs.lemmas.Grind.{common_steps}
 use Rattle.up_journal.specs.Journal.{State}
 use Rattle.up_journal.specs.declared.fault.ReadWhy.TheVariants as read_why
 use Rattle.up_journal.specs.Logs.{log_step}
@@ -40,3 +41,15 @@ loop-n-preserved g c =
       sizes = c.take.ensures.sizes taken ∙ ap (λ (l : List ℕ). sizes_of c.loop-n.run.entries.items ++ length l ∷ []) c.as_slice.ensures
           ∙ ap (λ (l : List ℕ). l ++ length payload ∷ []) i.sizes ∙ sym (take_next old.sizes c.loop-n.n (length payload) size);
     }
+
+pub loop-n-init : goal.loop-n-init
+loop-n-init g c = grind (arith, common_steps)
+
+pub returns-in_err-take-clause-read : goal.returns-in_err-take-clause-read
+returns-in_err-take-clause-read g c = grind (arith, common_steps)
+
+pub returns-clause-log : goal.returns-clause-log
+returns-clause-log g c = grind (arith, common_steps)
+
+pub returns-clause-sizes : goal.returns-clause-sizes
+returns-clause-sizes g c = grind (arith, common_steps)

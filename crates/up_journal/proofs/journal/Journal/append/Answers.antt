@@ -1,4 +1,5 @@
 use Rattle.std.proofs.Common.{◌≡◌, ◌≤◌, ◌+◌, [], ◌∷◌, ◌++◌, List, length, option_map, refl, sym, ◌∙◌, ap, subst, arith}
+use Rattle.std.proofs.lemmas.Grind.{common_steps}
 use Rattle.up_refs.specs.Sha256.{sha256}
 use Rattle.up_disk.specs.Disk.{written}
 use Rattle.up_journal.specs.Gates.{behind_gate}
@@ -110,3 +111,15 @@ returns-clause-written g c =
 
 pub returns-clause-crash : goal.returns-clause-crash
 returns-clause-crash g c = rw (c.in_ok-write_record.ensures.settled, ← c.self.view_is) (after_write g c).crash
+
+pub returns-clause-sizes : goal.returns-clause-sizes
+returns-clause-sizes g c = grind (arith, common_steps)
+
+pub returns-clause-head : goal.returns-clause-head
+returns-clause-head g c = grind (arith, common_steps)
+
+pub returns-clause-position : goal.returns-clause-position
+returns-clause-position g c = grind (arith, common_steps)
+
+pub slice_bounds-of-count : goal.slice_bounds-of-count
+slice_bounds-of-count g c = grind (arith, common_steps)
