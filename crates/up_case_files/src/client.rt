@@ -88,8 +88,13 @@ fn row_line(
 ) -> Result<(), Fault> {
     let (asked, told) = words.two()?;
     let request = request_of(alloc, asked)?;
-    let reply = reply_of(alloc, told)?;
-    add_row(rows, request, reply)
+    match reply_of(alloc, told) {
+        Ok(reply) => add_row(rows, request, reply),
+        Err(fault) => {
+            drop(request);
+            Err(fault)
+        }
+    }
 }
 
 fn add_row(
@@ -276,14 +281,24 @@ fn put_line(
     let time = int_of(time)?;
     let sequence = int_of(sequence)?;
     let user = user_of(alloc, user)?;
-    let path = path_of(alloc, path)?;
-    let to = To {
-        user: &user,
-        path: &path,
-        time,
-        sequence,
-    };
-    put_text(alloc, table, to, text, answer)
+    match path_of(alloc, path) {
+        Ok(path) => {
+            let to = To {
+                user: &user,
+                path: &path,
+                time,
+                sequence,
+            };
+            let done = put_text(alloc, table, to, text, answer);
+            drop(path);
+            drop(user);
+            done
+        }
+        Err(fault) => {
+            drop(user);
+            Err(fault)
+        }
+    }
 }
 
 // Where a file is put.

@@ -1,8 +1,9 @@
 //! A verifier that asks another program.
-ghost use Rattle.std.specs.Prelude.{◌≡◌, ℕ, IfOk, None, Some, IsErr, is_err, if◌then◌else◌, string_bytes};
+ghost use Rattle.std.specs.Prelude.{◌≡◌, ◌++◌, ◌∷◌, [], ℕ, IfOk, OnOk, None, Some, IsErr, is_err, if◌then◌else◌, string_bytes};
 ghost use Rattle.std.specs.Process.{command_args, command_program, exit_code};
 ghost use Rattle.up_faults.specs.Counts.{count_after, HasCause};
 ghost use Rattle.up_ends.specs.Verdicts.{Judges};
+ghost use Rattle.up_helper.specs.HelperWords.{hex_word};
 ghost use Rattle.up_net.specs.Questions.{question_of, verdict_of_code};
 
 use std::alloc::{AllocError, Global};
@@ -107,11 +108,41 @@ fn question(
         command_args command ≡ question_of key.now message.now signature.now) }
 {
     let mut command = Command::new(alloc, helper)?;
+    match give_words(alloc, &mut command, key, message, signature) {
+        Ok(()) => Ok(command),
+        Err(fault) => {
+            drop(command);
+            Err(fault)
+        }
+    }
+}
+
+/// Gives a command the words of a question, behind those that it has.
+fn give_words(
+    alloc: Global,
+    command: &mut Command,
+    key: &[u8],
+    message: &[u8],
+    signature: &[u8],
+) -> Result<(), AllocError>
+    ensures program { OnOk result (command_program command.new ≡ command_program command.old) }
+    ensures words { OnOk result (command_args command.new
+        ≡ command_args command.old ++ question_of key.now message.now signature.now) }
+{
     command.arg("verify")?;
-    command.arg(hex_word(alloc, key)?)?;
-    command.arg(hex_word(alloc, message)?)?;
-    command.arg(hex_word(alloc, signature)?)?;
-    Ok(command)
+    give_bytes(alloc, command, key)?;
+    give_bytes(alloc, command, message)?;
+    give_bytes(alloc, command, signature)
+}
+
+/// Gives a command one word more: bytes, as a helper takes them.
+fn give_bytes(alloc: Global, command: &mut Command, bytes: &[u8]) -> Result<(), AllocError>
+    ensures program { OnOk result (command_program command.new ≡ command_program command.old) }
+    ensures words { OnOk result (command_args command.new
+        ≡ command_args command.old ++ hex_word bytes.now ∷ []) }
+{
+    command.arg(hex_word(alloc, bytes)?)?;
+    Ok(())
 }
 
 /// The verdict of a helper's status. `None` where it is neither 0 nor 1, or where a signal ended the helper.

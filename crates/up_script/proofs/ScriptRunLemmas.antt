@@ -16,6 +16,7 @@ use Rattle.up_text.specs.Lines.{script_lines}
 use Rattle.up_script.specs.ScriptAnswers.{Means, among}
 use Rattle.up_script.specs.ScriptRuns.{is_cut}
 use Rattle.up_script.specs.Standing.{at_first}
+use Rattle.up_script.specs.Statuses.{IsOneOf}
 use Rattle.up_script.proofs.RunningLemmas.{Running-none, Scripted-cut}
 
 -- a sum over what is made of each item
@@ -52,6 +53,10 @@ module _ {D : Type 0} (disks : Ghosts D) where
       let hosts = hosts_faults a.hosts in
       let all = sum_by-append disks.faults (flat_map disks_of a.hosts) a.free in
       omega (arith, hosts, all)
+
+-- of the statuses with which a script is not read, that which a run may end with as well is want of memory
+pub unread_is_4 : (status : ℕ) → IsOneOf (2 ∷ 4 ∷ 7 ∷ []) status → IsOneOf (0 ∷ 1 ∷ 3 ∷ 4 ∷ 5 ∷ 6 ∷ []) status → status ≡ 4
+unread_is_4 status unread run = grind (arith)
 
 -- the text that a source tells, or none
 abbrev text_of : Option Text → Text

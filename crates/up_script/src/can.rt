@@ -8,6 +8,7 @@ ghost use Rattle.up_script.specs.CanRuns.{bad_line, run_of};
 ghost use Rattle.up_script.specs.Statuses.{AnswersWith, IsOneOf, answer_of, can_answer, code_of, input_limit, is_can, usage_line};
 
 use crate::can_script::CanScript;
+use crate::input::INPUT_LIMIT;
 use crate::output::{Stop, finish, print};
 use crate::saying::say_count;
 use crate::status::Status;
@@ -15,9 +16,6 @@ use std::alloc::{AllocError, Global};
 use std::hash::RandomState;
 use up_ends::{ReadFault, Sink, Source, read_all, write_all};
 use up_text::next_line;
-
-/// The most bytes that a script may have.
-pub const INPUT_LIMIT: u64 = 67_108_864;
 
 /// What is printed where the words are not those of a command.
 const USAGE: &str =

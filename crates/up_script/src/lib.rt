@@ -24,6 +24,7 @@ mod can_files;
 mod can_lines;
 mod can_script;
 mod host_name;
+mod input;
 mod output;
 mod saying;
 mod script;

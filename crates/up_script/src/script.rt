@@ -12,7 +12,8 @@ ghost use Rattle.up_script.specs.ScriptRuns.{Scripted, stop_code, stop_text};
 ghost use Rattle.up_script.specs.Standing.{around, parties, world};
 ghost use Rattle.up_script.specs.Statuses.{IsOneOf, code_of, input_limit, usage_line};
 
-use crate::can::{INPUT_LIMIT, bad_line, usage};
+use crate::can::{bad_line, usage};
+use crate::input::read_script;
 use crate::output::{Stop, finish, flush};
 use crate::status::Status;
 use crate::stop::LineStop;
@@ -21,7 +22,7 @@ use std::alloc::{AllocError, Global};
 use std::hash::RandomState;
 use std::mem;
 use up_disk::{Disk, Disks};
-use up_ends::{Clock, Nonces, ReadFault, Sink, Source, Verifier, read_all};
+use up_ends::{Clock, Nonces, Sink, Source, Verifier};
 use up_peer::{Loader, Peers};
 use up_sessions::Sessions;
 use up_text::next_line;
@@ -103,13 +104,11 @@ pub fn script_run<D: Disk + Drop, S: Source, K: Sink, V: Verifier, C: Clock, N: 
     if !is_script(words) {
         return usage(sink).code();
     }
-    match read_all(alloc, source, INPUT_LIMIT) {
+    match read_script(alloc, source) {
         Ok(input) => run_script(
             alloc, random, &input, sink, disks, peers, verifier, clock, nonces,
         ),
-        Err(ReadFault::TooLong) => Status::TooLong.code(),
-        Err(ReadFault::Failed) => Status::ReadFault.code(),
-        Err(ReadFault::OutOfMemory) => Status::OutOfMemory.code(),
+        Err(status) => status,
     }
 }
 

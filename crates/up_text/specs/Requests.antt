@@ -107,6 +107,18 @@ put_line _ = None
 unfoldable pub get_line : List Text → Option ClientLine
 get_line words = option_map (λ path. client.Get path) (one_text words)
 
+-- the kind of line that a keyword begins, of those that ask no directory server
+unfoldable pub other_kind_of : Text → Option LineKind
+other_kind_of word =
+    if bytes_eq word (codes "store") then Some kinds.Store
+    else if bytes_eq word (codes "fetch") then Some kinds.Fetch
+    else if bytes_eq word (codes "drop") then Some kinds.Drop
+    else if bytes_eq word (codes "key") then Some kinds.Key
+    else if bytes_eq word (codes "setkey") then Some kinds.SetKey
+    else if bytes_eq word (codes "put") then Some kinds.Put
+    else if bytes_eq word (codes "get") then Some kinds.Get
+    else None
+
 -- the kind of line that a keyword begins
 unfoldable pub kind_of : Text → Option LineKind
 kind_of word =
@@ -119,14 +131,7 @@ kind_of word =
     else if bytes_eq word (codes "which") then Some kinds.Which
     else if bytes_eq word (codes "watch") then Some kinds.Watch
     else if bytes_eq word (codes "text") then Some kinds.Text
-    else if bytes_eq word (codes "store") then Some kinds.Store
-    else if bytes_eq word (codes "fetch") then Some kinds.Fetch
-    else if bytes_eq word (codes "drop") then Some kinds.Drop
-    else if bytes_eq word (codes "key") then Some kinds.Key
-    else if bytes_eq word (codes "setkey") then Some kinds.SetKey
-    else if bytes_eq word (codes "put") then Some kinds.Put
-    else if bytes_eq word (codes "get") then Some kinds.Get
-    else None
+    else other_kind_of word
 
 -- what a line of a kind asks, by the words that it takes; none where these are malformed, and for the client's lines
 unfoldable pub kind_request : UserName → LineKind → List Text → Option Request

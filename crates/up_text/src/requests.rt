@@ -3,7 +3,7 @@
 ghost use Rattle.std.specs.Prelude.{◌≡◌, IfOk};
 ghost use Rattle.up_text.specs.Meant.{IsMeant};
 ghost use Rattle.up_text.specs.Numbers.{int_of};
-ghost use Rattle.up_text.specs.Requests.{byte_of, client_line_of, entry_by, file_line, filled, get_line, kind_client, kind_of, kind_request, link_line, mkdir_line, one_text, plain_entry, put_line, request_of, setkey_line, watch_line};
+ghost use Rattle.up_text.specs.Requests.{byte_of, client_line_of, entry_by, file_line, filled, get_line, kind_client, kind_of, kind_request, link_line, mkdir_line, one_text, other_kind_of, plain_entry, put_line, request_of, setkey_line, watch_line};
 
 use crate::fault::LineFault;
 use crate::lists::{blocks_of, endpoints_of, text_named};
@@ -122,7 +122,17 @@ pub(crate) fn kind_of(word: &[u8]) -> Option<LineKind>
         Some(LineKind::Watch)
     } else if word == b"text".as_slice() {
         Some(LineKind::Text)
-    } else if word == b"store".as_slice() {
+    } else {
+        other_kind_of(word)
+    }
+}
+
+/// The same of lines that ask no directory server.
+#[tactic(auto, unfolding(crate::specs::Requests::other_kind_of))]
+fn other_kind_of(word: &[u8]) -> Option<LineKind>
+    ensures { result ≡ other_kind_of word.now }
+{
+    if word == b"store".as_slice() {
         Some(LineKind::Store)
     } else if word == b"fetch".as_slice() {
         Some(LineKind::Fetch)

@@ -1,7 +1,10 @@
 //! A tree over its log.
-ghost use Rattle.std.specs.Prelude.{◌≡◌, ◌≤◌, false, length, option_map, slice_get, IfErr, IfOk, IsErr, IsOk};
+ghost use Rattle.std.specs.Prelude.{◌≡◌, ◌≤◌, false, length, option_map, slice_get, IfErr, IfOk, IsErr, IsOk, Ok, OnOk, Some};
 ghost use Rattle.std.specs.Option.{option_copied};
 ghost use Rattle.up_ends.specs.Growing.{OnlyGrows};
+ghost use Rattle.up_entry.specs.Reading.{rec_of};
+ghost use Rattle.up_entry.specs.Spelling as spelling;
+ghost use Rattle.up_entry.specs.Spelling.{IsSpelledRec};
 ghost use Rattle.up_faults.specs.Counts.{HasCause};
 ghost use Rattle.up_journal.specs.Crashes.{IsOpened, LeavesNow};
 ghost use Rattle.up_journal.specs.Journal.{AreLimits};
@@ -25,6 +28,7 @@ use crate::replay::replay;
 use std::alloc::{AllocError, Global};
 use std::marker::Model;
 use up_access::AccessText;
+use up_bytes::Bytes;
 use up_disk::{Disk, Failed};
 use up_ends::Grows;
 use up_entry::{Rec, write_rec};
@@ -276,8 +280,7 @@ impl<D: Disk> TreeState<D> {
         requires size { size_of rec ≤ self.old.limits.largest }
         ensures { Applies D.Disk rec self.old self.new result }
     {
-        let payload = write_rec(self.tree.owner().allocator(), &rec)?;
-        self.tree.make_ready(rec)?;
+        let payload = made_ready(&mut self.tree, rec)?;
         let position = self.journal.append(payload.as_slice())?;
         self.tree.enter();
         Ok(position)
@@ -307,5 +310,26 @@ impl<D: Disk> TreeState<D> {
         } = self;
         drop(tree);
         journal.into_disk()
+    }
+}
+
+// A record's bytes, once the record is ready to be entered. The tree stays as it is, whatever the answer.
+fn made_ready(tree: &mut MemTree, rec: Rec) -> Result<Bytes, AllocError>
+    requires { Fits tree.old.owner tree.old.log rec }
+    ensures owner { tree.new.owner ≡ tree.old.owner }
+    ensures log { tree.new.log ≡ tree.old.log }
+    ensures ready { OnOk result (tree.new.ready ≡ Some rec) }
+    ensures written { IfOk result (λ bytes. bytes ≡ spelling.rec rec) }
+    ensures again { IfOk result (λ bytes. IsSpelledRec rec → rec_of bytes ≡ Ok rec) }
+{
+    match write_rec(tree.owner().allocator(), &rec) {
+        Ok(bytes) => {
+            tree.make_ready(rec)?;
+            Ok(bytes)
+        }
+        Err(fault) => {
+            drop(rec);
+            Err(fault)
+        }
     }
 }

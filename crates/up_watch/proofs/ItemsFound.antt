@@ -125,20 +125,20 @@ found_owned look rooted path found closed = go [] found refl
 
 -- ---- the walk
 
-pub record Walks (tree : Tree) (path : PathName) (i : ℕ) (found : List Entry) : Type 0 where
-  pub all : found ≡ option_to_list (entry_at tree path) ++ entries_below tree (take i found)
+pub record Walks (tree : Tree) (first : List Entry) (i : ℕ) (found : List Entry) : Type 0 where
+  pub all : found ≡ first ++ entries_below tree (take i found)
 
-module _ (tree : Tree) (path : PathName) where
-  pub walks_first : (found : List Entry) → found ≡ option_to_list (entry_at tree path) → Walks tree path 0 found
-  walks_first found is = record { all = is ∙ sym (append-nil (option_to_list (entry_at tree path))) }
+module _ (tree : Tree) (first : List Entry) where
+  pub walks_first : (found : List Entry) → found ≡ first → Walks tree first 0 found
+  walks_first found is = record { all = is ∙ sym (append-nil first) }
 
-  pub walks_next : (i : ℕ) (found now : List Entry) (entry : Entry) → slice_get found i ≡ Some entry → Walks tree path i found → now ≡ found ++ entries_in tree entry.name → Walks tree path (i + 1) now
+  pub walks_next : (i : ℕ) (found now : List Entry) (entry : Entry) → slice_get found i ≡ Some entry → Walks tree first i found → now ≡ found ++ entries_in tree entry.name → Walks tree first (i + 1) now
   walks_next i found now entry at so_far is = record {
     all =
         is
         ∙ (ap (λ l. l ++ entries_in tree entry.name) so_far.all
-        ∙ (append_assoc (option_to_list (entry_at tree path)) (entries_below tree (take i found)) (entries_in tree entry.name)
-        ∙ ap (λ l. option_to_list (entry_at tree path) ++ l)
+        ∙ (append_assoc first (entries_below tree (take i found)) (entries_in tree entry.name)
+        ∙ ap (λ l. first ++ l)
         (ap (λ l. entries_below tree (take i found) ++ l) (sym (append-nil (entries_in tree entry.name)))
         ∙ (sym (flat_map-append (λ (e : Entry). entries_in tree e.name) (take i found) (entry ∷ []))
         ∙ ap (entries_below tree) (sym (take_next i found entry at)
@@ -146,8 +146,8 @@ module _ (tree : Tree) (path : PathName) where
         ∙ (ap (take (suc i)) (sym is) ∙ ap (λ n. take n now) (let e : suc i ≡ i + 1 = omega arith in e))))))));
   }
 
-  pub walks_end : (i : ℕ) (found : List Entry) → length found ≤ i → Walks tree path i found → IsClosed tree path found
-  walks_end i found end so_far = record { all = so_far.all ∙ ap (λ l. option_to_list (entry_at tree path) ++ entries_below tree l) (take_all i found end) }
+  pub walks_end : (i : ℕ) (found : List Entry) → length found ≤ i → Walks tree first i found → found ≡ first ++ entries_below tree found
+  walks_end i found end so_far = so_far.all ∙ ap (λ l. first ++ entries_below tree l) (take_all i found end)
 
 -- ---- what is told of them, in order of paths
 

@@ -8,7 +8,7 @@ ghost use Rattle.up_list.specs.Entries.{entries_in, entry_at};
 ghost use Rattle.up_list.specs.Founds.{entry_found};
 ghost use Rattle.up_list.specs.Places.{IsOwned};
 ghost use Rattle.up_list.specs.Rooted.{IsRooted};
-ghost use Rattle.up_watch.specs.Items.{IsClosed};
+ghost use Rattle.up_watch.specs.Items.{IsClosed, entries_below};
 ghost use Rattle.up_watch.specs.Watching.{is_before, item_told};
 
 use std::alloc::{AllocError, Global};
@@ -44,9 +44,27 @@ fn walk<'a, O: Onlooker>(
         IsClosed (O.look onlooker.now).tree path.now (map entry_found found.items)) }
 {
     let mut found = first(alloc, onlooker.item(alloc, path)?)?;
+    match add_below(alloc, onlooker, &mut found) {
+        Ok(()) => Ok(found),
+        Err(fault) => {
+            drop(found);
+            Err(fault)
+        }
+    }
+}
+
+/// Adds to these items those in each of them, those in each of these, and so on.
+fn add_below<'a, O: Onlooker>(
+    alloc: Global,
+    onlooker: &'a O,
+    found: &mut Vec<Found<'a>>,
+) -> Result<(), AllocError>
+    ensures { OnOk result (map entry_found found.new.items ≡ map entry_found found.old.items
+        ++ entries_below (O.look onlooker.now).tree (map entry_found found.new.items)) }
+{
     for i in 0..usize::MAX {
-        let Some(item) = item_at(&found, i) else {
-            return Ok(found);
+        let Some(item) = item_at(found, i) else {
+            return Ok(());
         };
         let mut inside = onlooker.items_in(alloc, &item.entry().name)?;
         found.append(&mut inside)?;

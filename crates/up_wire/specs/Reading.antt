@@ -144,16 +144,10 @@ done_table =
 unfoldable pub done_at : Input → Result (Done × Input) FieldFault
 done_at input = tagged_at done_table input
 
--- the replies, by their numbers
-abbrev pub reply_table : List (ℕ × (Input → Result (ServerFrame × Input) FieldFault))
-reply_table =
-    (0x00, made_of (λ d. Answer (reply.Ok d)) done_at)
-    ∷ (0x01, made_of (λ w. Answer (reply.Invalid w)) what_at)
-    ∷ (0x02, plain (Answer reply.WrongHost))
-    ∷ (0x03, made_of (λ e. Answer (reply.FollowLink e)) (entry_at true))
-    ∷ (0x04, plain (Answer reply.Private))
-    ∷ (0x05, made_of (λ r. Answer (reply.Permission r)) right_at)
-    ∷ (0x06, plain (Answer reply.NotExist))
+-- the replies from NotExist on, by their numbers
+abbrev pub later_reply_table : List (ℕ × (Input → Result (ServerFrame × Input) FieldFault))
+later_reply_table =
+    (0x06, plain (Answer reply.NotExist))
     ∷ (0x07, plain (Answer reply.NotDir))
     ∷ (0x08, plain (Answer reply.IsDir))
     ∷ (0x09, plain (Answer reply.Exist))
@@ -166,6 +160,17 @@ reply_table =
     ∷ (0x10, plain (Answer reply.Io))
     ∷ (0x11, plain (Answer reply.OutOfMemory))
     ∷ []
+
+-- the replies, by their numbers
+abbrev pub reply_table : List (ℕ × (Input → Result (ServerFrame × Input) FieldFault))
+reply_table =
+    (0x00, made_of (λ d. Answer (reply.Ok d)) done_at)
+    ∷ (0x01, made_of (λ w. Answer (reply.Invalid w)) what_at)
+    ∷ (0x02, plain (Answer reply.WrongHost))
+    ∷ (0x03, made_of (λ e. Answer (reply.FollowLink e)) (entry_at true))
+    ∷ (0x04, plain (Answer reply.Private))
+    ∷ (0x05, made_of (λ r. Answer (reply.Permission r)) right_at)
+    ∷ later_reply_table
 
 abbrev pub server_table : List (ℕ × (Input → Result (ServerFrame × Input) FieldFault))
 server_table =

@@ -5,7 +5,7 @@ ghost use Rattle.up_bytes.specs.Reading.{Gives, row_at};
 ghost use Rattle.up_bytes.specs.Spelling.{byte};
 ghost use Rattle.up_wire.specs.Bounds.{bounded, reply_size};
 ghost use Rattle.up_wire.specs.declared.messages.ServerFrame.TheVariants.{Answer};
-ghost use Rattle.up_wire.specs.Reading.{reply_table};
+ghost use Rattle.up_wire.specs.Reading.{later_reply_table, reply_table};
 ghost use Rattle.up_wire.specs.Spelling.{reply_fields, reply_tag, IsReply};
 
 use crate::replies::{Done, Reply};
@@ -90,6 +90,16 @@ pub(crate) fn take_reply(
         0x03 => Ok(Reply::FollowLink(Entry::take(alloc, input)?)),
         0x04 => Ok(Reply::Private),
         0x05 => Ok(Reply::Permission(take_right(input)?)),
+        _ => take_later_reply(number, place, input),
+    }
+}
+
+/// The same of the replies from `NotExist` on.
+fn take_later_reply(number: u8, place: u64, input: &mut Reader) -> Result<Reply, FieldFault>
+    ensures { Gives (λ given. (Answer given, input.new)) result
+        (row_at later_reply_table place number input.old) }
+{
+    match number {
         0x06 => Ok(Reply::NotExist),
         0x07 => Ok(Reply::NotDir),
         0x08 => Ok(Reply::IsDir),

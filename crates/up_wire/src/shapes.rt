@@ -3,7 +3,7 @@
 ghost use Rattle.std.specs.Prelude.{◌≡◌, Err};
 ghost use Rattle.up_bytes.specs.Reading.{byte_at, Gives};
 ghost use Rattle.up_wire.specs.Reading.{done_at, events_at};
-ghost use Rattle.up_wire.specs.Spelling.{spelled_done, IsDone};
+ghost use Rattle.up_wire.specs.Spelling.{done_tag, spelled_done, IsDone};
 
 use crate::keys::KeyRecord;
 use crate::replies::Done;
@@ -42,49 +42,24 @@ impl Fields for Done {
     }
 
     fn append(&self, out: &mut Writer) -> Result<(), AllocError> {
+        out.byte(number_of(self))?;
         match self {
-            Done::Changed(position) => {
-                out.byte(0x01)?;
-                out.num(*position)
-            }
-            Done::Entry(entry) => {
-                out.byte(0x02)?;
-                entry.write(out)
-            }
-            Done::Rows(rows) => {
-                out.byte(0x03)?;
-                write_list(rows.as_slice(), out)
-            }
-            Done::Access(None) => {
-                out.byte(0x04)?;
-                out.byte(0)
-            }
+            Done::Changed(position) => out.num(*position),
+            Done::Entry(entry) => entry.write(out),
+            Done::Rows(rows) => write_list(rows.as_slice(), out),
+            Done::Access(None) => out.byte(0),
             Done::Access(Some(entry)) => {
-                out.byte(0x04)?;
                 out.byte(1)?;
                 entry.write(out)
             }
             Done::Events(events, next) => {
-                out.byte(0x05)?;
                 write_list(events.as_slice(), out)?;
                 out.num(*next)
             }
-            Done::Text(text) => {
-                out.byte(0x06)?;
-                out.text(text.as_slice())
-            }
-            Done::Reference(reference) => {
-                out.byte(0x07)?;
-                out.raw(reference.bytes())
-            }
-            Done::Bytes(bytes) => {
-                out.byte(0x08)?;
-                out.text(bytes.as_slice())
-            }
-            Done::Key(record) => {
-                out.byte(0x09)?;
-                record.write(out)
-            }
+            Done::Text(text) => out.text(text.as_slice()),
+            Done::Reference(reference) => out.raw(reference.bytes()),
+            Done::Bytes(bytes) => out.text(bytes.as_slice()),
+            Done::Key(record) => record.write(out),
         }
     }
 
@@ -104,6 +79,23 @@ impl Fields for Done {
             Done::Key(record) => record.size(),
         };
         fields.saturating_add(1)
+    }
+}
+
+/// The number of what was done.
+fn number_of(done: &Done) -> u8
+    ensures { result ≡ done_tag done.now }
+{
+    match done {
+        Done::Changed(_) => 0x01,
+        Done::Entry(_) => 0x02,
+        Done::Rows(_) => 0x03,
+        Done::Access(_) => 0x04,
+        Done::Events(_, _) => 0x05,
+        Done::Text(_) => 0x06,
+        Done::Reference(_) => 0x07,
+        Done::Bytes(_) => 0x08,
+        Done::Key(_) => 0x09,
     }
 }
 

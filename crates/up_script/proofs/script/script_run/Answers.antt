@@ -1,5 +1,5 @@
 -- What was run is what the source told; and where there was no memory to read it, nothing was run.
-use Rattle.up_script.proofs.ScriptRunLemmas.{means_disk, means_read, means_unread}
+use Rattle.up_script.proofs.ScriptRunLemmas.{means_disk, means_read, means_unread, unread_is_4}
 use Rattle.up_script.proofs.script.script_run.Goals as goal
 
 pub returns-in-Ok-clause-meaning : goal.returns-in-Ok-clause-meaning
@@ -9,6 +9,6 @@ returns-in-Ok-clause-meaning g c words status =
 pub returns-in-Ok-clause-disk_fault : goal.returns-in-Ok-clause-disk_fault
 returns-in-Ok-clause-disk_fault g c = means_disk _ _ _ _ _ _ _ _ _ c.run_script.ensures.means
 
-pub returns-in-Err-OutOfMemory-clause-meaning : goal.returns-in-Err-OutOfMemory-clause-meaning
-returns-in-Err-OutOfMemory-clause-meaning g c words status =
-    means_unread _ _ _ _ _ _ c.code-in-Err-OutOfMemory.ensures c.requires.eighty c.requires.blank
+pub returns-in-Err-clause-meaning : goal.returns-in-Err-clause-meaning
+returns-in-Err-clause-meaning g c words status =
+    means_unread _ _ _ _ _ _ (unread_is_4 _ c.in-Err.ensures.statuses status) c.requires.eighty c.requires.blank

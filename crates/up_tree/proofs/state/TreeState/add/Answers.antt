@@ -15,14 +15,8 @@ use Rattle.up_tree.proofs.state.TreeState.add.Goals as goal
 pub returns-in_err-payload : goal.returns-in_err-payload
 returns-in_err-payload g c =
     let i = c.self.inside in
-    rw (← c.self.view_is) (no_memory g.D.Disk i.tree.owner g.met.D.Disk.only_now i.journal i.tree.log c.args.rec c.from_residual.result c.self.invariant.keeps
+    rw (c.made_ready.ensures.owner, c.made_ready.ensures.log, ← c.self.view_is) (no_memory g.D.Disk i.tree.owner g.met.D.Disk.only_now i.journal i.tree.log c.args.rec c.from_residual.result c.self.invariant.keeps
     (err_is c.from_residual.result _ c.from_residual.ensures.1))
-
-pub returns-in_err-make_ready : goal.returns-in_err-make_ready
-returns-in_err-make_ready g c =
-    let i = c.self.inside in
-    rw (c.make_ready.ensures.owner, c.make_ready.ensures.log, ← c.self.view_is) (no_memory g.D.Disk i.tree.owner g.met.D.Disk.only_now i.journal i.tree.log c.args.rec c.from_residual-in_err-make_ready.result c.self.invariant.keeps
-    (err_is c.from_residual-in_err-make_ready.result _ c.from_residual-in_err-make_ready.ensures.1))
 
 abbrev failed : AppendWhy → Result ℕ AppendWhy
 failed a = Err a
@@ -31,7 +25,7 @@ err_inj : (a b : AppendWhy) → failed a ≡ failed b → a ≡ b
 err_inj a b is = cc
 
 -- after the journal has refused it
-after_refusal : (g : Over) (c : goal.After-drop-payload-inside-in_err-position g)
+after_refusal : (g : Over) (c : goal.After-drop-payload-inside g)
     → KeepsLog g.D.Disk record_in (fits c.self.inside.tree.owner) spelling.rec c.append.new.self c.self.inside.tree.log
     × Applies g.D.Disk c.args.rec (state_of c.self.inside.tree.owner c.self.inside.journal c.self.inside.tree.log) (state_of c.self.inside.tree.owner c.append.new.self c.self.inside.tree.log) (Err c.in_err-position.field-0.0)
 after_refusal g c =
@@ -47,13 +41,13 @@ after_refusal g c =
     (HasCause-weaker (g.D.Disk.faults i.journal.disk) (g.D.Disk.faults c.append.new.self.disk) (IsErrOf c.append.result append.Fault) (a ≡ append.Fault) c.append.ensures.counts (λ is. was ∙ ap Err is))
 
 pub invariant_of-self-in_err-position : goal.invariant_of-self-in_err-position
-invariant_of-self-in_err-position g c = rw (c.make_ready.ensures.owner, c.make_ready.ensures.log) (record {
+invariant_of-self-in_err-position g c = rw (c.made_ready.ensures.owner, c.made_ready.ensures.log) (record {
   keeps = (after_refusal g c).0;
   limits_are = c.self.invariant.limits_are ∙ sym c.in_err-position.ensures.limits;
 })
 
 pub returns-in_err-position : goal.returns-in_err-position
-returns-in_err-position g c = rw (err_is c.from_residual-in_err-position.result _ c.from_residual-in_err-position.ensures.1, c.make_ready.ensures.owner, c.make_ready.ensures.log, ← c.self.view_is) (after_refusal g c).1
+returns-in_err-position g c = rw (err_is c.from_residual-in_err-position.result _ c.from_residual-in_err-position.ensures.1, c.made_ready.ensures.owner, c.made_ready.ensures.log, ← c.self.view_is) (after_refusal g c).1
 
 -- after it has appended the record
 after_append : (g : Over) (c : goal.After-drop-payload-inside-2 g)
@@ -72,14 +66,14 @@ after_append g c =
 
 entered : (g : Over) (c : goal.After-drop-payload-inside-2 g) → c.enter.new.self.log ≡ c.self.inside.tree.log ++ c.args.rec ∷ []
 entered g c =
-    log_entered c.make_ready.new.self.ready c.args.rec c.make_ready.new.self.log c.enter.new.self.log c.in_ok-make_ready.ensures.ready c.enter.ensures.log
-    ∙ ap (λ (l : List Rec). l ++ c.args.rec ∷ []) c.make_ready.ensures.log
+    log_entered c.made_ready.new.tree.ready c.args.rec c.made_ready.new.tree.log c.enter.new.self.log c.in_ok-payload.ensures.ready c.enter.ensures.log
+    ∙ ap (λ (l : List Rec). l ++ c.args.rec ∷ []) c.made_ready.ensures.log
 
 pub invariant_of-self-2 : goal.invariant_of-self-2
-invariant_of-self-2 g c = rw (c.enter.ensures.owner, c.make_ready.ensures.owner, entered g c) (record {
+invariant_of-self-2 g c = rw (c.enter.ensures.owner, c.made_ready.ensures.owner, entered g c) (record {
   keeps = (after_append g c).0;
   limits_are = c.self.invariant.limits_are ∙ sym c.in_ok-position.ensures.limits;
 })
 
 pub returns : goal.returns
-returns g c = rw (c.enter.ensures.owner, c.make_ready.ensures.owner, entered g c, ← c.self.view_is) (after_append g c).1
+returns g c = rw (c.enter.ensures.owner, c.made_ready.ensures.owner, entered g c, ← c.self.view_is) (after_append g c).1
