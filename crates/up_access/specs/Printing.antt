@@ -1,5 +1,5 @@
 -- How the rules of an Access text are printed: this project's own form of the Upspin access control document's.
-use Rattle.std.specs.Prelude.{◌≡◌, ℕ, Ok, List, [], ◌∷◌, ◌++◌, codes, filter}
+use Rattle.std.specs.Prelude.{◌≡◌, Ok, List, [], ◌∷◌, ◌++◌, codes, filter}
 use Rattle.std.specs.List.{flat_map, join_by}
 use Rattle.up_names.specs.Texts.{Text, UserName}
 use Rattle.up_names.specs.declared.items.Item.{Item}

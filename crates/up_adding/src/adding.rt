@@ -1,5 +1,5 @@
 //! What a request does to a tree over its log, once it is known what it leads to.
-ghost use Rattle.std.specs.Prelude.{◌≡◌, ◌≢◌, ◌-◌, ◌<◌, ◌^◌, nat_lt, true, IfOk, Result, Ok};
+ghost use Rattle.std.specs.Prelude.{◌≡◌, ◌-◌, ◌<◌, IfOk, Result, Ok};
 ghost use Rattle.up_ends.specs.Growing.{OnlyGrows};
 ghost use Rattle.up_list.specs.Changes.{added_by, answer_of};
 ghost use Rattle.up_replay.specs.Fits.{Fits};

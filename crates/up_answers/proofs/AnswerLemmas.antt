@@ -1,6 +1,6 @@
 -- Equal answers over two logs that agree.
 use Rattle.std.proofs.Common.{◌≡◌, ℕ, zero, suc, ◌+◌, Bool, true, false, not, ◌||◌, List, [], length, refl, sym, ap, subst, ◌∙◌, Option, Some, None, bytes_eq}
-use Rattle.std.specs.Prelude.{if◌then◌else◌, T, ⊤, ℤ, pos, negsuc, int_le, Contains, unwrap_or, Result, nat_le, nat_lt, filter}
+use Rattle.std.specs.Prelude.{if◌then◌else◌, ⊤, ℤ, pos, negsuc, int_le, unwrap_or, Result, nat_le, nat_lt, filter}
 use Rattle.std.specs.Prelude as std
 use Rattle.std.proofs.lemmas.Bool.{false≢true}
 use Rattle.std.proofs.lemmas.Slice.Eq.{bytes_eq-Decides}

@@ -1,6 +1,6 @@
 -- Delete and Put in two trees in which a user sees the same at every path.
 use Rattle.std.proofs.Common.{◌≡◌, ℕ, zero, suc, ◌-◌, ◌≤◌, Bool, true, false, not, List, [], length, refl, sym, ap, subst, ◌∙◌, arith, Option, Some, None}
-use Rattle.std.specs.Prelude.{if◌then◌else◌, ⊤, T, MatchOption, Contains, unwrap_or, codes, nat_lt, Result, is_none, is_some, ◌==◌}
+use Rattle.std.specs.Prelude.{if◌then◌else◌, ⊤, T, MatchOption, Contains, nat_lt, Result, is_none, ◌==◌}
 use Rattle.std.specs.Prelude as std
 use Rattle.std.specs.Option.{option_map, option_and_then}
 use Rattle.std.proofs.lemmas.Bool.{false≢true, false_from_ne_true}

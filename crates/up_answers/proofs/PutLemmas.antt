@@ -1,6 +1,6 @@
 -- Put in two trees in which a user sees the same at every path.
 use Rattle.std.proofs.Common.{◌≡◌, ℕ, zero, suc, ◌+◌, ◌-◌, ◌≤◌, Bool, true, false, not, ◌&&◌, ◌||◌, List, [], ◌∷◌, ◌++◌, length, take, drop, refl, sym, ap, subst, ◌∙◌, arith, Option, Some, None, bytes_eq}
-use Rattle.std.specs.Prelude.{if◌then◌else◌, nat_le, ⊤, T, MatchOption, Contains, unwrap_or, codes, nat_lt, Result, is_none, is_some, ◌==◌}
+use Rattle.std.specs.Prelude.{if◌then◌else◌, nat_le, ⊤, MatchOption, codes, nat_lt, Result, is_none, is_some, ◌==◌}
 use Rattle.std.specs.Prelude as std
 use Rattle.std.specs.Option.{option_map}
 use Rattle.std.proofs.Math.Seq.{take-length}

@@ -1,6 +1,6 @@
 -- Agreement is kept by the same request.
 use Rattle.std.proofs.Common.{◌≡◌, ℕ, ◌+◌, Bool, true, false, ◌||◌, List, [], ◌∷◌, ◌++◌, length, refl, sym, ap, subst, ◌∙◌, inl, inr, Option, Some, None, bytes_eq}
-use Rattle.std.specs.Prelude.{if◌then◌else◌, Contains, Result, is_none, nat_le, nat_lt, not, ◌==◌}
+use Rattle.std.specs.Prelude.{if◌then◌else◌, Result, is_none, nat_le, nat_lt, not, ◌==◌}
 use Rattle.std.specs.Prelude as std
 use Rattle.std.specs.List.{sum_by}
 use Rattle.std.proofs.lemmas.List.{append-nil, length_push}

@@ -1,6 +1,6 @@
 -- The answer to a request over a tree's log: what is replied, and the record that is added. All that a server ever says of a tree is
 -- said by these definitions.
-use Rattle.std.specs.Prelude.{◌≡◌, ℕ, Bool, ◌&&◌, if◌then◌else◌, List, length, Result, Ok, Err}
+use Rattle.std.specs.Prelude.{ℕ, if◌then◌else◌, List, length, Result, Ok, Err}
 use Rattle.std.specs.Prelude as std
 use Rattle.std.specs.Str.{bytes_eq}
 use Rattle.up_names.specs.Texts.{UserName}

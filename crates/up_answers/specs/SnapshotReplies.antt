@@ -1,6 +1,6 @@
 -- The replies of a snapshot tree. Who looks is answered as by any tree; and one file, when it is put, takes a snapshot (Upspin
 -- overview; the replies are this project's own).
-use Rattle.std.specs.Prelude.{ℕ, Bool, ◌&&◌, if◌then◌else◌, [], ◌∷◌, codes, Some, None, is_none, is_some, unwrap_or, Result}
+use Rattle.std.specs.Prelude.{ℕ, Bool, ◌&&◌, if◌then◌else◌, [], ◌∷◌, codes, None, is_none, is_some, unwrap_or, Result}
 use Rattle.std.specs.Prelude as std
 use Rattle.up_names.specs.Texts.{UserName}
 use Rattle.up_names.specs.PathNames.{PathName}

@@ -2,14 +2,13 @@
 ghost use Rattle.std.specs.Prelude.{◌≡◌, ◌+◌, IfOk, Some, length};
 ghost use Rattle.std.specs.Prelude as std;
 ghost use Rattle.std.specs.Option.{option_copied};
-ghost use Rattle.up_answers.specs.Puts.{holds, is_in_file, is_new, lacks_parent, place_refusal, put_outcome, sequence_refusal, wanted};
+ghost use Rattle.up_answers.specs.Puts.{holds, is_in_file, lacks_parent, place_refusal, put_outcome, sequence_refusal};
 ghost use Rattle.up_list.specs.Changes.{right_to_put, unless};
 ghost use Rattle.up_entry.specs.FixedForm.{HasFixedForm};
 ghost use Rattle.up_entry.specs.declared.records.Rec.TheVariants as rec;
 ghost use Rattle.up_replay.specs.Fits.{Fits};
 ghost use Rattle.up_changes.specs.Puts.{may_put, recorded};
 ghost use Rattle.up_changes.specs.Trees.{look_in};
-ghost use Rattle.up_entry.specs.Rules.{is_directory};
 ghost use Rattle.up_replay.specs.Trees.{Tree, is_file, kind_of, node_at, tree_of};
 
 use crate::texts::text_put;

@@ -1,5 +1,5 @@
 //! Where a request goes, and which blocks have to be fetched for it.
-ghost use Rattle.std.specs.Prelude.{◌≡◌, [], IfOk, OnOk, map, fold};
+ghost use Rattle.std.specs.Prelude.{◌≡◌, IfOk, OnOk};
 ghost use Rattle.up_answers.specs.Answers.{log_owner};
 ghost use Rattle.up_answers.specs.Routes.{locations_asked, locations_for, locations_of, with_location};
 ghost use Rattle.up_policy.specs.Trees.{owns_snapshots};

@@ -1,5 +1,5 @@
 //! The text of a control file that is put.
-ghost use Rattle.std.specs.Prelude.{◌≡◌, IfOk, OnOk};
+ghost use Rattle.std.specs.Prelude.{◌≡◌, IfOk};
 ghost use Rattle.std.specs.List.{list_any};
 ghost use Rattle.up_answers.specs.Fetching.{fetch_for, is_failed, joined_bytes, parsed_as, text_put};
 ghost use Rattle.up_changes.specs.Texts.{bytes_of_all};

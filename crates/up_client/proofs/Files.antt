@@ -7,7 +7,7 @@ use Rattle.std.specs.List.{AllZip, concat}
 use Rattle.std.specs.Str.{bytes_eq}
 use Rattle.sha2.specs.Sha256.{sha256}
 use Rattle.up_refs.specs.References.{text_of}
-use Rattle.up_names.specs.PathNames.{PathName, canonical}
+use Rattle.up_names.specs.PathNames.{PathName}
 use Rattle.up_entry.specs.declared.entries.Block.{Block}
 use Rattle.up_entry.specs.declared.entries.Endpoint.{Endpoint}
 use Rattle.up_entry.specs.declared.entries.Endpoint.TheVariants as endpoints
@@ -24,7 +24,7 @@ use Rattle.up_client.specs.declared.fault.ClientFault.{ClientFault}
 use Rattle.up_client.specs.declared.fault.ClientFault.TheVariants as faults
 use Rattle.up_client.specs.Getting.{block_from, blocks_in, fetched_at, fetching, file_blocks, fitting, get_talk, joined_blocks, look_up_at, reading}
 use Rattle.up_client.specs.Links.{following, leads_to, led, short}
-use Rattle.up_client.specs.Replies.{bytes_in, outcome}
+use Rattle.up_client.specs.Replies.{outcome}
 use Rattle.up_client.specs.Tables.{AnswersFrom, HasBlock, HasFile, IsReplyIn, IsSteady, LinksLead, Table, along, there}
 use Rattle.up_client.proofs.Behind.{short_is}
 use Rattle.up_client.specs.Talks.{Held, Talking, and_then, asking, done, ended, heard, reply_to, unanswered, wanting}

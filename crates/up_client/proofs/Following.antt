@@ -1,5 +1,5 @@
 -- Links that are followed.
-use Rattle.std.proofs.Common.{◌≡◌, ℕ, suc, zero, Option, Some, None, Result, Ok, Err, sym, subst}
+use Rattle.std.proofs.Common.{◌≡◌, ℕ, suc, zero, Some, None, Result, Ok, Err, sym, subst}
 use Rattle.up_names.specs.PathNames.{PathName}
 use Rattle.up_wire.specs.declared.requests.Request.{Request}
 use Rattle.up_wire.specs.declared.replies.Done.{Done}

@@ -1,7 +1,6 @@
 -- Conversations, one after the other.
-use Rattle.std.proofs.Common.{◌≡◌, ◌≢◌, ℕ, Option, Some, None, Result, Ok, Err, refl, sym, subst}
+use Rattle.std.proofs.Common.{◌≡◌, ◌≢◌, Option, Result, Ok, Err, sym, subst}
 use Rattle.std.specs.Prelude.{IsErrOf}
-use Rattle.up_faults.specs.Counts.{HasCause}
 use Rattle.up_faults.proofs.Causes.{HasCause-then, HasCause-same, HasCause-weaker}
 use Rattle.up_wire.specs.declared.requests.Request.{Request}
 use Rattle.up_wire.specs.declared.replies.Reply.{Reply}
@@ -11,7 +10,7 @@ use Rattle.up_client.specs.declared.fault.ClientFault.{ClientFault}
 use Rattle.up_client.specs.declared.fault.ClientFault.TheVariants as faults
 use Rattle.up_client.specs.declared.fault.ClientFault.TheVariants.{OutOfMemory, Failed}
 use Rattle.up_client.specs.Replies.{outcome}
-use Rattle.up_client.specs.Talks.{Talk, Talking, Talks, Held, Meant, and_then, asking, done, reply_to, ended, wanting, unanswered, heard}
+use Rattle.up_client.specs.Talks.{Talking, Talks, Held, Meant, and_then, done, ended, wanting, unanswered, heard}
 
 module _ {S : Type 0} (answers : S → Request → Option Reply → S → Type 0) where
   -- the one ended well, and then the other was held

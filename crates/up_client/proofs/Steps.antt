@@ -12,9 +12,9 @@ use Rattle.up_client.specs.declared.links.Step.{Step}
 use Rattle.up_client.specs.declared.links.Step.TheVariants as steps
 use Rattle.up_client.specs.Links.{following, leads_to, led, next_to, short, step_of, step_to}
 use Rattle.up_client.specs.Replies.{◌>>=◌, outcome}
-use Rattle.up_client.specs.Talks.{Meant, Talking, Talks, and_then, done, reply_to}
+use Rattle.up_client.specs.Talks.{Meant, Talks, and_then, done, reply_to}
 use Rattle.up_client.proofs.Following.{follow_ended, follow_led}
-use Rattle.up_client.proofs.Holding.{IsAnswered, outcome_answered, talks_done, talks_meant, talks_stop, talks_then}
+use Rattle.up_client.proofs.Holding.{IsAnswered, outcome_answered, talks_meant, talks_stop, talks_then}
 
 -- what is meant is meant
 pub meant_same : {X : Type 0} (result meant : Result X ClientFault) → result ≡ meant → Meant result meant

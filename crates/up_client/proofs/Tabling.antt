@@ -1,7 +1,6 @@
 -- Rows of a table that are looked at one after the other.
 use Rattle.std.proofs.Common.{◌≡◌, ◌≢◌, inl, inr, ℕ, ◌+◌, ◌<◌, List, ◌∷◌, length, drop, get_or, Result, Ok, Err, IfOk, sym, subst, ◌∙◌}
 use Rattle.std.proofs.lemmas.List.{drop_more}
-use Rattle.std.specs.declared.alloc.AllocError.{AllocError}
 use Rattle.up_wire.specs.declared.requests.Request.{Request}
 use Rattle.up_wire.specs.declared.replies.Reply.{Reply}
 use Rattle.up_client.specs.Tables.{IsReplyIn}

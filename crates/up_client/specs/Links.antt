@@ -1,9 +1,8 @@
 -- How a client follows links. The limit on their number is this project's own.
-use Rattle.std.specs.Prelude.{ℕ, Bool, zero, suc, true, false, ◌&&◌, nat_lt, if◌then◌else◌, List, ◌++◌, length, drop, Option, Some, None, option_map, Result, Ok, Err}
+use Rattle.std.specs.Prelude.{ℕ, Bool, zero, suc, true, false, ◌&&◌, nat_lt, if◌then◌else◌, ◌++◌, length, drop, Option, Some, None, option_map, Result, Ok, Err}
 use Rattle.up_names.specs.declared.fault.NameFault.{NameFault}
 use Rattle.up_names.specs.declared.fault.NameFault.TheVariants as names
 use Rattle.up_names.specs.PathNames.{PathName, canonical, is_under}
-use Rattle.up_entry.specs.declared.entries.Entry.{Entry}
 use Rattle.up_entry.specs.declared.entries.Kind.{Kind}
 use Rattle.up_entry.specs.declared.entries.Kind.TheVariants as kinds
 use Rattle.up_wire.specs.declared.requests.Request.{Request}

@@ -1,6 +1,5 @@
 -- What a client makes of one reply. This project's own.
 use Rattle.std.specs.Prelude.{ℕ, List, Result, Ok, Err}
-use Rattle.up_refs.specs.declared.Reference.{Reference}
 use Rattle.up_wire.specs.declared.replies.Done.{Done}
 use Rattle.up_wire.specs.declared.replies.Done.TheVariants as dones
 use Rattle.up_wire.specs.declared.replies.Reply.{Reply}

@@ -1,5 +1,5 @@
 -- Somebody who answers from a fixed table. This project's own.
-use Rattle.std.specs.Prelude.{◌≡◌, ◌≢◌, ◌⊎◌, ℕ, suc, nat_le, true, List, [], ◌∷◌, length, Option, Some, None, is_none, IfSome, Ok}
+use Rattle.std.specs.Prelude.{◌≡◌, ◌≢◌, ◌⊎◌, ℕ, suc, List, [], ◌∷◌, length, Option, Some, is_none, IfSome, Ok}
 use Rattle.std.specs.List.{AllZip, concat}
 use Rattle.sha2.specs.Sha256.{sha256}
 use Rattle.up_faults.specs.Calls.{CallPlan, after_call, fails_next}

@@ -1,5 +1,5 @@
 -- What a client and those it asks say to one another. This project's own.
-use Rattle.std.specs.Prelude.{◌≡◌, ◌≢◌, ℕ, Option, Some, None, Result, Ok, Err, IsErrOf}
+use Rattle.std.specs.Prelude.{◌≡◌, ◌≢◌, Option, Some, None, Result, Ok, Err, IsErrOf}
 use Rattle.up_faults.specs.Counts.{HasCause}
 use Rattle.up_wire.specs.declared.requests.Request.{Request}
 use Rattle.up_wire.specs.declared.replies.Reply.{Reply}

@@ -1,5 +1,5 @@
 //! The blocks of a file that are read.
-ghost use Rattle.std.specs.Prelude.{◌≡◌, [], ℕ, length, IfOk};
+ghost use Rattle.std.specs.Prelude.{◌≡◌, [], IfOk};
 ghost use Rattle.std.specs.List.{concat};
 ghost use Rattle.up_client.specs.Getting.{block_from, fetched_at, fetching, fitting, joined_blocks};
 ghost use Rattle.up_client.specs.Talks.{Talks};

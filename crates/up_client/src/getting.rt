@@ -1,7 +1,6 @@
 //! To get a file.
-ghost use Rattle.std.specs.Prelude.{◌≡◌, IfOk, IfSome, IsErrOf, Err, None, Ok};
+ghost use Rattle.std.specs.Prelude.{◌≡◌, IfSome, IsErrOf, Err, None, Ok};
 ghost use Rattle.up_faults.specs.Counts.{HasCause};
-ghost use Rattle.up_names.specs.PathNames.{canonical};
 ghost use Rattle.up_client.specs.declared.fault.ClientFault.TheVariants as client_fault;
 ghost use Rattle.up_client.specs.Getting.{blocks_in, file_blocks, get_talk, look_up_at, reading};
 ghost use Rattle.up_client.specs.Talks.{Held, Talks};

@@ -1,8 +1,6 @@
 //! Who answers from a table.
 ghost use Rattle.std.specs.Prelude.{◌≡◌, IfOk};
-ghost use Rattle.std.specs.Result.{result_ok};
 ghost use Rattle.up_faults.specs.Calls.{no_call_made};
-ghost use Rattle.up_faults.specs.Counts.{HasCause};
 ghost use Rattle.up_client.specs.Tables.{AnswersFrom, IsReplyIn};
 
 use crate::ask::{Ask, Failed};

@@ -1,5 +1,5 @@
 -- What a disk does between two syncs, and what a crash may leave of it. This project's own.
-use Rattle.std.specs.Prelude.{◌≡◌, ◌≤◌, ◌+◌, ◌-◌, ◌⊎◌, ℕ, min, max, List, ◌++◌, length, take, drop, Option, Some, None}
+use Rattle.std.specs.Prelude.{◌≡◌, ◌≤◌, ◌+◌, ◌⊎◌, ℕ, min, max, List, ◌++◌, length, take, drop, Option, Some, None}
 
 -- n bytes from a place on
 abbrev pub part : ℕ → ℕ → List ℕ → List ℕ

@@ -1,6 +1,6 @@
 -- What each call of a disk in memory does, which a disk with a hook repeats. What every disk promises comes first in
 -- each. This project's own.
-use Rattle.std.specs.Prelude.{◌≡◌, ◌≤◌, ◌+◌, ◌/◌, ◌⊎◌, ℕ, max, List, length, take, true, false, Result, Option, option_map, IfSome, IsErr, OnOk, OnErr}
+use Rattle.std.specs.Prelude.{◌≡◌, ◌≤◌, ◌+◌, ◌/◌, ◌⊎◌, ℕ, max, List, length, take, true, false, Result, option_map, IfSome, IsErr, OnOk, OnErr}
 use Rattle.up_faults.specs.Counts.{HasCause}
 use Rattle.up_faults.specs.Calls.{IsCalled, fails_next}
 use Rattle.up_disk.specs.Disk.{CutShort, Follows, Only, Steps, TimePasses, Torn, part, written}

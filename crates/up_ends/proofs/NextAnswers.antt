@@ -1,5 +1,5 @@
 -- The next answer of a list of which some are used up.
-use Rattle.std.proofs.Common.{◌≡◌, ℕ, zero, suc, List, [], ◌∷◌, drop, Option, Some, None, refl, sym, slice_get}
+use Rattle.std.proofs.Common.{◌≡◌, ℕ, zero, suc, List, [], ◌∷◌, drop, Some, None, refl, slice_get}
 use Rattle.up_ends.specs.Telling.{next_from}
 
 -- there is one more

@@ -7,7 +7,6 @@ ghost use Rattle.up_names.specs.PathNames.{canonical, IsCanonical};
 ghost use Rattle.up_entry.specs.declared.entries.Entry.{Entry};
 ghost use Rattle.up_entry.specs.declared.puts.Checked.{Checked};
 ghost use Rattle.up_entry.specs.declared.puts.PutEntry.{PutEntry};
-ghost use Rattle.up_entry.specs.declared.records.Rec.{Rec};
 ghost use Rattle.up_entry.specs.Checking.{checked_as, IsChecked};
 ghost use Rattle.up_entry.specs.FixedForm.{has_fixed_form, HasFixedForm};
 ghost use Rattle.up_entry.specs.RawEntries.{raw_entry, raw_entry_at, FitsRawEntry};

@@ -1,9 +1,7 @@
 //! Raw entries as fields.
 
-ghost use Rattle.std.specs.Prelude.{◌≡◌, ◌++◌, is_ok, if◌then◌else◌, IfOk, Err, length, take, OnOk};
+ghost use Rattle.std.specs.Prelude.{◌≡◌, IfOk, Err, take};
 ghost use Rattle.up_bytes.specs.Reading.{text_at};
-ghost use Rattle.up_bytes.specs.Sizes.{size_of};
-ghost use Rattle.up_bytes.specs.Spelling.{byte, int, text};
 ghost use Rattle.up_entry.specs.RawEntries.{raw_entry, raw_entry_at, IsRawEntry};
 
 use crate::front::Front;

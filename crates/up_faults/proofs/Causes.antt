@@ -1,5 +1,5 @@
 -- How counts go on, for every crate whose calls can fail.
-use Rattle.std.proofs.Common.{ℕ, ◌+◌, ◌-◌, ◌^◌, ◌<◌, ◌≤◌, min, max, arith, inl, inr}
+use Rattle.std.proofs.Common.{ℕ, ◌-◌, ◌^◌, ◌<◌, ◌≤◌, arith, inl, inr}
 use Rattle.std.proofs.lemmas.Bool.{cases_lt}
 use Rattle.up_faults.specs.Counts.{count_after, HasCause, Rose}
 

@@ -1,6 +1,6 @@
 //! The frames of a stream that comes in any pieces.
 
-ghost use Rattle.std.specs.Prelude.{◌≡◌, ◌≢◌, ◌+◌, ◌<◌, ◌^◌, ◌↔◌, ℕ, List, [], ◌++◌, length, drop, OnOk, IsErrOf, IsNone, Option, slice_get};
+ghost use Rattle.std.specs.Prelude.{◌≡◌, ◌≢◌, ◌+◌, ◌<◌, ◌^◌, ◌↔◌, ℕ, List, [], ◌++◌, length, drop, OnOk, IsNone, Option, slice_get};
 ghost use Rattle.std.specs.Option.{option_to_list};
 
 use crate::cutting::take_frames;

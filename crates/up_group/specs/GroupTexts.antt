@@ -1,5 +1,5 @@
 -- Group texts (Upspin access control document).
-use Rattle.std.specs.Prelude.{ℕ, List, map, Result}
+use Rattle.std.specs.Prelude.{List, map, Result}
 use Rattle.up_names.specs.Texts.{Text, UserName}
 use Rattle.up_names.specs.declared.fault.TextFault.{TextFault}
 use Rattle.up_names.specs.declared.items.Item.{Item}

@@ -1,5 +1,5 @@
 -- What a tree answers to GroupText of a path of its snapshot tree, with nothing loaded.
-use Rattle.std.proofs.Common.{◌≡◌, true, List, [], sym, ap, ◌∙◌, Ok, Err, bytes_eq}
+use Rattle.std.proofs.Common.{◌≡◌, true, List, [], sym, ap, ◌∙◌, Ok, bytes_eq}
 use Rattle.std.specs.Prelude as std
 use Rattle.std.specs.Prelude.{if◌then◌else◌}
 use Rattle.std.proofs.lemmas.Slice.Eq.{bytes_eq-Decides}

@@ -1,5 +1,5 @@
 //! One request, and what comes of it.
-ghost use Rattle.std.specs.Prelude.{◌≡◌, ◌≢◌, ◌<◌, ◌^◌, [], Some, IfOk, length};
+ghost use Rattle.std.specs.Prelude.{◌≡◌, ◌<◌, [], Some, IfOk, length};
 ghost use Rattle.up_host.specs.Alike.{TellsNoMore};
 ghost use Rattle.up_host.specs.Alone.{Counts, IsAlone, disk_faults, views};
 ghost use Rattle.up_host.specs.Calls.{Asked, IsTried};

@@ -1,5 +1,5 @@
 //! The blocks that are fetched for a Put of a control file.
-ghost use Rattle.std.specs.Prelude.{◌≡◌, [], ◌∷◌, ◌++◌, map, Some, IfOk, OnErr, OnOk};
+ghost use Rattle.std.specs.Prelude.{◌≡◌, [], ◌∷◌, ◌++◌, map, Some, IfOk, OnOk};
 ghost use Rattle.std.specs.Result.{result_ok};
 ghost use Rattle.up_host.specs.Asks.{Tries};
 ghost use Rattle.up_host.specs.Fetches.{FetchedAs, Fetches, FetchesAt, StoreReads};

@@ -1,5 +1,5 @@
 //! The group texts that are loaded for a request.
-ghost use Rattle.std.specs.Prelude.{◌≡◌, ◌≢◌, ◌==◌, ◌||◌, ◌<◌, ◌≤◌, ◌∷◌, ◌++◌, ◌+◌, [], if◌then◌else◌, is_ok, None, Some, length, position, IfOk, OnErr, OnOk};
+ghost use Rattle.std.specs.Prelude.{◌≡◌, ◌≢◌, ◌==◌, ◌||◌, ◌<◌, ◌≤◌, ◌∷◌, ◌++◌, ◌+◌, [], if◌then◌else◌, is_ok, None, Some, length, position, IfOk, OnOk};
 ghost use Rattle.std.specs.Option.{option_copied};
 ghost use Rattle.std.specs.Result.{result_ok};
 ghost use Rattle.up_answers.specs.Needs.{needs};

@@ -1,20 +1,19 @@
 -- Logs of records over a journal, whatever the records are.
-use Rattle.std.proofs.Common.{◌≡◌, ◌≢◌, ◌<◌, ◌≤◌, ◌^◌, IfSome, ℕ, zero, suc, Bool, true, false, cond, List, [], ◌∷◌, ◌++◌, length, map, take, slice_get, Option, Some, None, is_some, IsSome, Result, Ok, Err, OnOk, OnErr, refl, sym, ap, ◌∙◌, subst, ◌⊎◌, inl, inr, ⊎_elim}
+use Rattle.std.proofs.Common.{◌≡◌, ◌≢◌, IfSome, ℕ, zero, suc, Bool, true, false, cond, List, [], ◌∷◌, ◌++◌, length, map, take, slice_get, Option, Some, None, is_some, IsSome, Result, Ok, Err, OnOk, OnErr, refl, sym, ap, ◌∙◌, subst, ◌⊎◌, inl, inr, ⊎_elim}
 use Rattle.std.proofs.lemmas.List.{length-map, map-append}
 use Rattle.std.specs.Option.{option_and_then}
-use Rattle.up_disk.specs.Disk.{LeavesOnly}
 use Rattle.up_disk.specs.declared.disk.Disk.{Ghosts}
 use Rattle.up_disk.proofs.Moments.{started, weaker}
 use Rattle.up_journal.specs.Crashes.{Leaves, LeavesNow}
 use Rattle.up_journal.specs.Damages.{Damage}
 use Rattle.up_journal.specs.Format2.{log_of}
 use Rattle.up_journal.specs.Journal.{HasLog, IsReadAs, IsSettled, MayHave, StandsFor, State, is_full, with_further}
-use Rattle.up_journal.specs.Logs.{AddsRecord, EachFits, HasOneMore, IsFurther, IsSettledLog, KeepsLog, LogState, MayHaveLog, OpensLog, RefusesLog, ResolvesLog, StandsForLog, further_record, grown, log_in, log_state, log_step}
+use Rattle.up_journal.specs.Logs.{AddsRecord, EachFits, IsFurther, IsSettledLog, KeepsLog, MayHaveLog, OpensLog, RefusesLog, ResolvesLog, StandsForLog, further_record, grown, log_in, log_state, log_step}
 use Rattle.up_journal.specs.Opened.{IsDamageOf, IsLogOf}
 use Rattle.up_journal.specs.declared.fault.OpenFault.{OpenFault}
 use Rattle.up_journal.specs.declared.fault.OpenWhy.{OpenWhy}
 use Rattle.up_journal.specs.declared.fault.OpenWhy.TheVariants as open_why
-use Rattle.up_journal.specs.Records.{HasNext, MayHaveState, OnlyPayloads, Replays, StandsForState, replay, state_of}
+use Rattle.up_journal.specs.Records.{MayHaveState, OnlyPayloads, StandsForState, replay}
 use Rattle.up_journal.specs.declared.limits.Limits.{Limits}
 use Rattle.up_journal.proofs.Records.{content_damaged, content_state, may_have_state, read_safe, refused_synced, replays_kept, replays_more, replays_opened, replays_settled, settled_state, stands_for_state}
 

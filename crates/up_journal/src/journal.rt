@@ -1,10 +1,10 @@
 //! A journal: the log of payloads on a disk.
-ghost use Rattle.std.specs.Prelude.{◌≡◌, ◌≢◌, ◌⊎◌, ◌<◌, ◌≤◌, ◌^◌, ◌+◌, ◌-◌, ◌↔◌, ℕ, List, [], ◌∷◌, ◌++◌, None, Some, Ok, Err, true, false, length, map, drop, take, slice_get, is_ok, is_some, if◌then◌else◌, option_map, IfErr, IfOk, IfSome, IsErr, IsErrOf, IsOk, IsSome, IsTrue, OnErr, OnOk, vec_len, vec_capacity};
+ghost use Rattle.std.specs.Prelude.{◌≡◌, ◌≢◌, ◌⊎◌, ◌<◌, ◌≤◌, ◌^◌, ◌+◌, ◌-◌, ◌↔◌, ℕ, [], ◌∷◌, ◌++◌, None, Some, Ok, Err, true, false, length, map, drop, take, slice_get, is_ok, is_some, if◌then◌else◌, option_map, IfErr, IfOk, IfSome, IsErr, IsErrOf, IsOk, IsSome, IsTrue, OnErr, OnOk, vec_len, vec_capacity};
 ghost use Rattle.std.specs.List.{AllByRecursion};
 ghost use Rattle.up_refs.specs.Sha256.{sha256};
-ghost use Rattle.up_disk.specs.Disk.{LeavesOnly, written};
+ghost use Rattle.up_disk.specs.Disk.{written};
 ghost use Rattle.up_journal.specs.Crashes.{IsOpened, Leaves, LeavesNow};
-ghost use Rattle.up_journal.specs.Format2.{format2, head_of, head_size, log_of};
+ghost use Rattle.up_journal.specs.Format2.{format2, head_of, log_of};
 ghost use Rattle.up_journal.specs.Gates.{behind_gate, new_size, record_bytes};
 ghost use Rattle.up_journal.specs.Journal.{AreLimits, HasLog, IsReadAs, IsSettled, MayHave, StandsFor, bytes_of, gate_behind, is_full, with_further};
 ghost use Rattle.up_journal.specs.Opened.{IsDamageOf, IsLogOf, IsRefusedFor};

@@ -1,5 +1,5 @@
 //! The limits of a journal.
-ghost use Rattle.std.specs.Prelude.{◌≡◌, ◌<◌, ◌≤◌, ◌+◌, ◌^◌, ◌||◌, nat_le, nat_lt};
+ghost use Rattle.std.specs.Prelude.{◌≡◌, ◌<◌, ◌+◌, ◌||◌, nat_le, nat_lt};
 ghost use Rattle.up_journal.specs.Format2.{head_size};
 
 use crate::format::HEAD;

@@ -1,5 +1,5 @@
 //! A log is moved from a device of the first format to one of the second.
-ghost use Rattle.std.specs.Prelude.{◌≡◌, ◌≢◌, ◌≤◌, ◌<◌, ◌^◌, ◌+◌, ℕ, List, Ok, Err, None, Some, true, false, is_some, length, option_map, IfErr, IfOk, IfSome, IsErr, IsErrOf, OnOk};
+ghost use Rattle.std.specs.Prelude.{◌≡◌, ◌≢◌, ◌<◌, ℕ, Ok, Err, false, is_some, IfOk, IfSome, IsErr, IsErrOf};
 ghost use Rattle.up_disk.specs.Disk.{LeavesOnly, Only};
 ghost use Rattle.up_faults.specs.Counts.{HasCause};
 ghost use Rattle.up_journal.specs.Cells.{OnlyRead};

@@ -1,7 +1,6 @@
 //! What stands on a device: the gates are read, or a new device is begun.
-ghost use Rattle.std.specs.Prelude.{◌≡◌, ◌⊎◌, ◌<◌, ◌≤◌, ◌+◌, ◌^◌, ◌++◌, ◌∷◌, [], ℕ, List, None, Ok, Err, true, false, take, drop, length, is_some, ◌≢◌, IfErr, IfOk, IfSome, IsErr, IsErrOf, OnOk};
+ghost use Rattle.std.specs.Prelude.{◌≡◌, ◌<◌, ◌≤◌, ◌+◌, ◌^◌, ◌++◌, ◌∷◌, [], ℕ, List, None, Ok, Err, true, false, drop, length, is_some, ◌≢◌, IfErr, IfOk, IfSome, IsErr, IsErrOf, OnOk};
 ghost use Rattle.std.specs.Str.{bytes_eq};
-ghost use Rattle.up_refs.specs.Sha256.{sha256};
 ghost use Rattle.up_disk.specs.Disk.{LeavesOnly, Only, part};
 ghost use Rattle.up_journal.specs.Cells.{Closed, OnlyRead};
 ghost use Rattle.up_journal.specs.Crashes.{IsOpened};

@@ -1,5 +1,5 @@
 //! The writes of a whole image, of which the first byte is the switch.
-ghost use Rattle.std.specs.Prelude.{◌≡◌, ◌≤◌, ◌+◌, ◌^◌, ◌⊎◌, ℕ, List, false, is_some, length, max, take, option_map, IfSome, IsErr, OnOk};
+ghost use Rattle.std.specs.Prelude.{◌≡◌, ◌≤◌, ◌+◌, ◌^◌, false, is_some, length, max, take, option_map, IfSome, IsErr, OnOk};
 ghost use Rattle.up_disk.specs.Disk.{CutShort, LeavesOnly, Only, Torn, written};
 ghost use Rattle.up_faults.specs.Counts.{HasCause};
 ghost use Rattle.up_journal.specs.Format2.{format2};

@@ -1,5 +1,5 @@
 //! The records of users, kept over a journal.
-ghost use Rattle.std.specs.Prelude.{◌≡◌, ◌≤◌, ◌<◌, ℕ, List, Some, true, false, length, IfErr, IfOk, IsErr, IsOk, OnOk, slice_get, vec_capacity, vec_len};
+ghost use Rattle.std.specs.Prelude.{◌≡◌, ◌≤◌, ◌<◌, Some, true, false, length, IfErr, IfOk, IsErr, IsOk, OnOk, slice_get, vec_capacity, vec_len};
 ghost use Rattle.std.specs.Option.{option_copied};
 ghost use Rattle.up_ends.specs.Growing.{OnlyGrows};
 ghost use Rattle.up_faults.specs.Counts.{HasCause};

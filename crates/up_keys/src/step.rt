@@ -1,6 +1,5 @@
 //! What a key server answers to a request.
 ghost use Rattle.std.specs.Prelude.{◌≡◌, ◌≢◌, IfOk};
-ghost use Rattle.std.specs.Str.{bytes_eq};
 ghost use Rattle.up_ends.specs.Growing.{OnlyGrows};
 ghost use Rattle.up_faults.specs.Counts.{HasCause};
 ghost use Rattle.up_keys.specs.Answers.{IsAsked, KeySteps, PutsAsked, ToPut, looked_up, may_put, put_reply, to_put};

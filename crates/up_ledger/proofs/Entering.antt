@@ -1,5 +1,5 @@
 -- An entry that is made, or refused.
-use Rattle.std.proofs.Common.{◌≡◌, ◌≢◌, ◌≤◌, ◌<◌, ◌+◌, ◌-◌, ◌^◌, ℕ, Bool, true, false, cond, ltb, List, [], ◌∷◌, ◌++◌, length, Option, Some, None, is_some, Result, Ok, Err, IsErrAnd, refl, sym, ◌∙◌, ap, subst, ◌⊎◌, arith, sum_by}
+use Rattle.std.proofs.Common.{◌≡◌, ◌≢◌, ◌≤◌, ◌+◌, ◌-◌, ◌^◌, ℕ, Bool, true, false, cond, ltb, List, [], ◌∷◌, ◌++◌, length, Some, None, is_some, Result, Ok, Err, IsErrAnd, refl, sym, ◌∙◌, ap, subst, ◌⊎◌, arith}
 use Rattle.std.proofs.lemmas.Bool.{ltb-false}
 use Rattle.std.proofs.lemmas.List.Sums.{sum_by-append, sum_by-cons}
 use Rattle.up_faults.specs.Counts.{HasCause}
@@ -7,12 +7,12 @@ use Rattle.up_faults.proofs.Causes.{HasCause-same, HasCause-weaker}
 use Rattle.up_disk.specs.declared.disk.Disk.{Ghosts}
 use Rattle.up_journal.specs.Crashes.{Leaves}
 use Rattle.up_journal.specs.Journal.{IsSettled, MayHave, StandsFor, State, is_full, with_further}
-use Rattle.up_journal.specs.Logs.{LogState, log_state}
+use Rattle.up_journal.specs.Logs.{log_state}
 use Rattle.up_journal.specs.declared.fault.AppendWhy.{AppendWhy}
 use Rattle.up_journal.specs.declared.fault.AppendWhy.TheVariants as append
 use Rattle.up_journal.specs.declared.limits.Limits.{Limits}
 use Rattle.up_journal.proofs.Logs.{adds_err, adds_none, adds_ok, keeps_full, keeps_len}
-use Rattle.up_ledger.specs.Entries.{applied, balance_of, deposited, entry_of, fits, largest_record, record_of, withdrawn}
+use Rattle.up_ledger.specs.Entries.{applied, deposited, entry_of, fits, largest_record, record_of, withdrawn}
 use Rattle.up_ledger.specs.Ledger.{Enters, IsLedger, IsRun, why_of}
 use Rattle.up_ledger.specs.declared.entry.Entry.{Entry}
 use Rattle.up_ledger.specs.declared.entry.Entry.TheVariants.{Deposit, Withdraw}

@@ -1,7 +1,7 @@
 -- The records of entries are read again, and each is the one spelling of its entry.
-use Rattle.std.proofs.Common.{◌≡◌, ◌<◌, ◌≤◌, ◌+◌, ◌^◌, ℕ, Bool, true, false, cond, eqb, List, [], ◌∷◌, ◌++◌, length, Option, Some, None, Result, Ok, Err, refl, sym, ◌∙◌, ap, arith}
+use Rattle.std.proofs.Common.{◌≡◌, ◌<◌, ◌+◌, ◌^◌, ℕ, Bool, true, cond, eqb, List, [], ◌++◌, length, Some, Result, Ok, Err, refl, sym, ◌∙◌, ap, arith}
 use Rattle.std.specs.Result.{result_ok}
-use Rattle.std.proofs.lemmas.List.{append-nil, length-append}
+use Rattle.std.proofs.lemmas.List.{append-nil}
 use Rattle.up_bytes.specs.Forms.{IsBytes}
 use Rattle.up_bytes.specs.Input.{Input, place}
 use Rattle.up_bytes.specs.Num.{num}
@@ -15,7 +15,7 @@ use Rattle.up_bytes.proofs.Messages.{messages}
 use Rattle.up_bytes.proofs.Numbers.{length-num}
 use Rattle.up_bytes.proofs.Parts.{IsPart}
 use Rattle.up_bytes.proofs.Tables.{has_tag, made_row, tagged_part, Tagged}
-use Rattle.up_ledger.specs.Entries.{IsTyped, amount_of, entry_at, entry_of, entry_table, kind_of, largest_record, record_of}
+use Rattle.up_ledger.specs.Entries.{IsTyped, amount_of, entry_at, entry_of, entry_table, kind_of, record_of}
 use Rattle.up_ledger.specs.declared.entry.Entry.{Entry}
 use Rattle.up_ledger.specs.declared.entry.Entry.TheVariants.{Deposit, Withdraw}
 

@@ -1,5 +1,5 @@
 -- What contracts see of a ledger, and what it keeps. This project's own.
-use Rattle.std.specs.Prelude.{◌≡◌, ◌≢◌, ◌≤◌, ℕ, Bool, true, false, List, length, map, sum_by, Option, Result, Ok, Err, IfErr, IsErrOf}
+use Rattle.std.specs.Prelude.{◌≡◌, ◌≢◌, ◌≤◌, ℕ, true, false, List, length, map, sum_by, Result, Ok, Err, IfErr, IsErrOf}
 use Rattle.up_faults.specs.Counts.{HasCause}
 use Rattle.up_disk.specs.declared.disk.Disk.{Ghosts}
 use Rattle.up_journal.specs.Journal.{State, is_full}

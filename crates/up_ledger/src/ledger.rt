@@ -1,5 +1,5 @@
 //! A ledger: a balance that is kept over a journal.
-ghost use Rattle.std.specs.Prelude.{◌≡◌, ◌≤◌, ◌+◌, ◌-◌, ◌↔◌, ℕ, List, Some, false, length, is_ok, if◌then◌else◌, IfErr, IfOk, IsErr, IsOk, IsTrue, OnOk, slice_get};
+ghost use Rattle.std.specs.Prelude.{◌≡◌, ◌≤◌, ◌+◌, ◌-◌, ◌↔◌, Some, false, length, is_ok, if◌then◌else◌, IfErr, IfOk, IsErr, IsOk, IsTrue, OnOk, slice_get};
 ghost use Rattle.std.specs.Option.{option_copied};
 ghost use Rattle.up_ends.specs.Growing.{OnlyGrows};
 ghost use Rattle.up_faults.specs.Counts.{HasCause};

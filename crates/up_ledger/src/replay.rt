@@ -1,10 +1,10 @@
 //! The entries of a journal's records.
-ghost use Rattle.std.specs.Prelude.{◌≡◌, ◌≤◌, ◌++◌, ◌∷◌, [], ℕ, List, Ok, Err, Some, None, true, false, length, sum_by, IfErr, IfOk, IfSome, IsErrOf, OnOk};
+ghost use Rattle.std.specs.Prelude.{◌≡◌, ◌++◌, ◌∷◌, [], ℕ, List, Ok, Err, Some, None, true, false, length, IfErr, IfOk, IsErrOf, OnOk};
 ghost use Rattle.up_faults.specs.Counts.{HasCause};
 ghost use Rattle.up_journal.specs.Logs.{log_step};
 ghost use Rattle.up_journal.specs.Opened.{IsDamageOf};
 ghost use Rattle.up_journal.specs.Records.{OnlyPayloads, replay};
-ghost use Rattle.up_ledger.specs.Entries.{balance_of, deposited, entry_of, fits, withdrawn};
+ghost use Rattle.up_ledger.specs.Entries.{entry_of, fits};
 ghost use Rattle.up_ledger.specs.Ledger.{IsRun, sizes_of};
 
 use crate::entry::{Entry, applied, read_entry};

@@ -3,7 +3,7 @@ ghost use Rattle.std.specs.Prelude.{◌≡◌, IfOk, None};
 ghost use Rattle.up_names.specs.PathNames.{PathName};
 ghost use Rattle.up_policy.specs.Verdicts.{is_control};
 ghost use Rattle.up_list.specs.Deciding.{AreGovernedAlike, decided_for, IsDecided, with_decided};
-ghost use Rattle.up_list.specs.Looks.{Look, rights};
+ghost use Rattle.up_list.specs.Looks.{rights};
 
 use crate::onlooker::Onlooker;
 use std::alloc::{AllocError, Global};

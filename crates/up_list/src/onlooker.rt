@@ -1,5 +1,5 @@
 //! A tree as one user meets it.
-ghost use Rattle.std.specs.Prelude.{◌≡◌, IfOk, Some, is_some, map};
+ghost use Rattle.std.specs.Prelude.{◌≡◌, IfOk, is_some, map};
 ghost use Rattle.std.specs.Option.{option_map};
 ghost use Rattle.up_names.specs.PathNames.{extended};
 ghost use Rattle.up_replay.specs.Trees.{node_at};

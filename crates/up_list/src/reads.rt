@@ -5,7 +5,7 @@ ghost use Rattle.up_entry.specs.Showing.{shown_as};
 ghost use Rattle.up_list.specs.Entries.{entry_at};
 ghost use Rattle.up_list.specs.Founds.{entry_found};
 ghost use Rattle.up_list.specs.Governing.{governing_file};
-ghost use Rattle.up_list.specs.Looks.{Look, rights, shown};
+ghost use Rattle.up_list.specs.Looks.{rights, shown};
 ghost use Rattle.up_list.specs.Reads.{access_reply, entry_reply, group_text_reply, lookup_reply, text_reply};
 
 use crate::checks::{check, pass};

@@ -1,5 +1,5 @@
 //! The tree of a log, as it is or as it was, and a user before it.
-ghost use Rattle.std.specs.Prelude.{◌≡◌, ◌≤◌, ◌<◌, None, IfOk, find, length, map, take};
+ghost use Rattle.std.specs.Prelude.{◌≡◌, ◌≤◌, ◌<◌, None, IfOk, length, map, take};
 ghost use Rattle.std.specs.Option.{option_and_then, option_copied, option_map};
 ghost use Rattle.up_names.specs.PathNames.{cut, extended};
 ghost use Rattle.up_list.specs.Entries.{entries_in, entry_at, entry_of, entry_on_way};

@@ -1,6 +1,6 @@
 //! The walk that finds the rows of a Glob: from the directory of the literal elements in front, level by level down.
 ghost use Rattle.std.specs.Prelude.{◌≡◌, ◌++◌, ◌<◌, ◌-◌, ℕ, suc, [], ◌∷◌, IfOk, OnOk, Some, is_some, filter, length, map};
-ghost use Rattle.std.specs.List.{AllByRecursion, filter_map};
+ghost use Rattle.std.specs.List.{AllByRecursion};
 ghost use Rattle.std.specs.Option.{option_map, option_to_list};
 ghost use Rattle.up_entry.specs.Showing.{shown_as};
 ghost use Rattle.up_names.specs.PathNames.{PathName};
@@ -9,10 +9,9 @@ ghost use Rattle.up_list.specs.Entries.{entry_at};
 ghost use Rattle.up_list.specs.Deciding.{IsDecided};
 ghost use Rattle.up_list.specs.Founds.{entry_found};
 ghost use Rattle.up_list.specs.Globs.{is_literal};
-ghost use Rattle.up_list.specs.Looks.{Look, rights};
 ghost use Rattle.up_list.specs.Places.{ArePlaces, IsBelow, IsIn, IsNextLevel, IsOwned, IsPlace, Meets, path_in};
 ghost use Rattle.up_list.specs.Rooted.{IsRooted};
-ghost use Rattle.up_list.specs.Walking.{element_at, further, goes_on, has_row, is_match, met_from, met_in, row_held, row_met, walked};
+ghost use Rattle.up_list.specs.Walking.{element_at, goes_on, has_row, is_match, met_from, met_in, row_held, walked};
 
 use crate::decided::Decided;
 use crate::found::Found;

@@ -1,5 +1,5 @@
 -- Lists that grow, for every crate that has a history.
-use Rattle.std.proofs.Common.{◌≡◌, ◌≤◌, ◌<◌, ◌+◌, ℕ, zero, suc, List, [], ◌∷◌, ◌++◌, length, take, map, refl, sym, ap, ◌∙◌, arith, append_assoc, append-nil, length-append, slice_get, take-append-drop, drop, subst}
+use Rattle.std.proofs.Common.{◌≡◌, ◌≤◌, ◌<◌, ◌+◌, ℕ, zero, suc, List, [], ◌∷◌, ◌++◌, length, take, refl, sym, ap, ◌∙◌, arith, append_assoc, append-nil, length-append, slice_get, take-append-drop, drop, subst}
 use Rattle.std.proofs.lemmas.List.{take-append-le, take_all}
 use Rattle.up_lists.specs.Begins.{Begins}
 

@@ -1,5 +1,5 @@
 -- A map that is kept by the numbers of the records of a log that gave its values. This project's own.
-use Rattle.std.specs.Prelude.{◌≡◌, ℕ, List, map, option_map, Option, Some, slice_get}
+use Rattle.std.specs.Prelude.{◌≡◌, ℕ, List, map, Option, Some, slice_get}
 use Rattle.std.specs.Option.{option_and_then}
 
 -- the same keys with other values

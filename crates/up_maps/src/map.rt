@@ -1,5 +1,5 @@
 //! The map.
-ghost use Rattle.std.specs.Prelude.{◌≡◌, ◌≤◌, [], true, not, filter, length, map, is_some, OnOk, slice_get};
+ghost use Rattle.std.specs.Prelude.{◌≡◌, ◌≤◌, [], true, not, length, map, is_some, OnOk, slice_get};
 ghost use Rattle.std.specs.FinMap.Entries.{find, is_sorted, put, where_key};
 ghost use Rattle.std.specs.Option.{option_copied};
 ghost use Rattle.std.specs.Ordering.{eq_by_cmp, is_lt};

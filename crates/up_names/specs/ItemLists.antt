@@ -1,5 +1,5 @@
 -- The names that stand together in a line of an Access or Group text (Upspin access control document).
-use Rattle.std.specs.Prelude.{ℕ, List, map, Option}
+use Rattle.std.specs.Prelude.{List, map, Option}
 use Rattle.up_names.specs.Texts.{Text, UserName}
 use Rattle.up_names.specs.declared.items.Item.{Item}
 use Rattle.up_names.specs.ItemNames.{item_of}

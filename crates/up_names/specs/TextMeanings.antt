@@ -1,6 +1,6 @@
 -- What a text stands for, by what each of its lines does (Upspin access control document). That the number of the first
 -- bad line is told is this project's own.
-use Rattle.std.specs.Prelude.{ℕ, ◌+◌, List, [], ◌∷◌, Option, Some, None, option_map, is_none, Result, Ok, Err}
+use Rattle.std.specs.Prelude.{◌+◌, List, [], ◌∷◌, Option, Some, None, option_map, is_none, Result, Ok, Err}
 use Rattle.std.specs.List.{flat_map, position_or_len}
 use Rattle.up_names.specs.declared.fault.TextFault.{TextFault}
 use Rattle.up_names.specs.declared.fault.TextFault.TheVariants.{BadText}

@@ -1,5 +1,5 @@
 //! A verifier that asks another program.
-ghost use Rattle.std.specs.Prelude.{◌≡◌, ◌++◌, ◌∷◌, [], ℕ, IfOk, OnOk, None, Some, IsErr, is_err, if◌then◌else◌, string_bytes};
+ghost use Rattle.std.specs.Prelude.{◌≡◌, ◌++◌, ◌∷◌, [], IfOk, OnOk, None, Some, IsErr, is_err, if◌then◌else◌, string_bytes};
 ghost use Rattle.std.specs.Process.{command_args, command_program, exit_code};
 ghost use Rattle.up_faults.specs.Counts.{count_after, HasCause};
 ghost use Rattle.up_ends.specs.Verdicts.{Judges};

@@ -2,7 +2,7 @@
 ghost use Rattle.std.specs.Prelude.{◌≡◌, ◌==◌, ◌&&◌, IfOk, MatchOption, ⊤, is_ok, is_some, length};
 ghost use Rattle.std.specs.List.{list_any};
 ghost use Rattle.std.specs.Option.{option_copied};
-ghost use Rattle.up_names.specs.PathNames.{PathName, parent_of};
+ghost use Rattle.up_names.specs.PathNames.{parent_of};
 ghost use Rattle.up_access.specs.AccessTexts.{access_of};
 ghost use Rattle.up_group.specs.GroupTexts.{group_of};
 ghost use Rattle.up_nodes.specs.Kept.{IsOwnSlot, Stands};

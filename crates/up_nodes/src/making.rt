@@ -1,5 +1,5 @@
 //! The step of a record, made before the record is written.
-ghost use Rattle.std.specs.Prelude.{◌≡◌, ◌<◌, ℕ, true, List, IfOk, IsSome, MatchOption, ⊤, option_map, Some, None};
+ghost use Rattle.std.specs.Prelude.{◌≡◌, ◌<◌, ℕ, List, IfOk, IsSome, option_map, Some, None};
 ghost use Rattle.up_names.specs.PathNames.{PathName, parent_of};
 ghost use Rattle.up_entry.specs.declared.records.Rec.TheVariants.{Delete, Put};
 ghost use Rattle.up_nodes.specs.Edits.{HasRoomFor};

@@ -1,5 +1,5 @@
 //! Room for what a record changes, so that it is entered without memory.
-ghost use Rattle.std.specs.Prelude.{◌≡◌, ◌≢◌, ◌<◌, ℕ, OnOk, IfSome, Some, length, slice_get};
+ghost use Rattle.std.specs.Prelude.{◌≡◌, ◌<◌, ℕ, OnOk, IfSome, Some, slice_get};
 ghost use Rattle.up_nodes.specs.Edits.{CanEdit, HasRoomFor, IsWithin};
 ghost use Rattle.up_nodes.specs.Slots.{known_all};
 ghost use Rattle.up_nodes.specs.Steps.{CanEnterAbove, CanEnterOwn, CanStep, HasOwnRoom, IsApart, IsInRange, IsParentWithin};

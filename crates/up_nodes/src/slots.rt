@@ -1,5 +1,5 @@
 //! The slots of a tree: what is kept of each path that a record has named.
-ghost use Rattle.std.specs.Prelude.{◌≡◌, ℕ, List, slice_get};
+ghost use Rattle.std.specs.Prelude.{◌≡◌, List, slice_get};
 ghost use Rattle.std.specs.Option.{option_copied};
 ghost use Rattle.up_names.specs.PathNames.{PathName, extended};
 ghost use Rattle.up_nodes.specs.Slots.{AreSiblings, IsFoundAs, ends_in, is_below, known_all, path_in};

@@ -1,6 +1,5 @@
 //! From the root down to a path: each element is read once.
 ghost use Rattle.std.specs.Prelude.{◌≡◌, ◌<◌, length, ◌+◌, Some};
-ghost use Rattle.std.specs.Option.{option_copied};
 ghost use Rattle.up_names.specs.PathNames.{cut};
 ghost use Rattle.up_nodes.specs.Kept.{Stands, paths_of, slots_of};
 ghost use Rattle.up_nodes.specs.Slots.{IsDeepest, IsIdOf, IsParentIdOf, path_in};

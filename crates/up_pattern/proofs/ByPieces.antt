@@ -1,6 +1,6 @@
 -- The test of matching says that the text can be cut into pieces that fit.
-use Rattle.std.proofs.Common.{◌≡◌, ◌∙◌, ◌++◌, Bool, true, false, ◌&&◌, ◌||◌, List, [], ◌∷◌, map, refl, sym, ap, inl, inr, ◌⊎◌, ℕ}
-use Rattle.std.specs.Prelude.{IsTrue, ◌↔◌}
+use Rattle.std.proofs.Common.{◌≡◌, ◌∙◌, ◌++◌, Bool, true, false, ◌&&◌, List, [], ◌∷◌, refl, sym, ap, inl, inr, ℕ}
+use Rattle.std.specs.Prelude.{IsTrue}
 use Rattle.std.specs.List.{AllZip, concat, list_any}
 use Rattle.std.proofs.lemmas.Bool.{and_from, and_parts, or_cases}
 use Rattle.up_pattern.specs.declared.terms.Term.{Term}

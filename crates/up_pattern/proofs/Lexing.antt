@@ -1,7 +1,6 @@
 -- Tokens, one character at a time.
-use Rattle.std.proofs.Common.{◌≡◌, ◌∙◌, ℕ, ◌+◌, ◌<◌, ◌≤◌, Bool, true, false, List, [], ◌∷◌, length, get_or, drop, Option, Some, None, refl, sym, ap, if◌then◌else◌}
+use Rattle.std.proofs.Common.{◌≡◌, ◌∙◌, ℕ, ◌+◌, ◌<◌, ◌≤◌, Bool, true, false, List, [], ◌∷◌, length, get_or, drop, Some, None, refl, sym, ap, if◌then◌else◌}
 use Rattle.std.proofs.lemmas.List.{at_drop_all, at_drop_more}
-use Rattle.up_pattern.specs.declared.tokens.Token.{Token}
 use Rattle.up_pattern.specs.Elements.{escapes, prepended, tokens_behind}
 
 pub tokens_behind-cons : (escaped : Bool) (c : ℕ) (rest : List ℕ)

@@ -1,12 +1,12 @@
 -- A literal element matches its text alone.
-use Rattle.std.proofs.Common.{◌≡◌, ◌∙◌, ◌++◌, Bool, true, false, ◌==◌, List, [], ◌∷◌, Option, Some, None, refl, sym, ap, subst, ℕ}
+use Rattle.std.proofs.Common.{◌≡◌, ◌∙◌, ◌++◌, true, List, [], ◌∷◌, Some, refl, sym, ap, subst, ℕ}
 use Rattle.std.specs.Prelude.{IsTrue, ◌↔◌, encode_utf8}
 use Rattle.std.specs.List.{AllZip, concat, flat_map}
 use Rattle.std.proofs.lemmas.Bool.{eqb-true, eq-eqb}
 use Rattle.up_pattern.specs.declared.terms.Term.{Term}
 use Rattle.up_pattern.specs.declared.terms.Term.TheVariants.{Many, One, Char, OneOf, NoneOf}
-use Rattle.up_pattern.specs.Elements.{literal_of, prepended}
-use Rattle.up_pattern.specs.Matching.{Matches, fits, matches}
+use Rattle.up_pattern.specs.Elements.{literal_of}
+use Rattle.up_pattern.specs.Matching.{fits, matches}
 use Rattle.up_pattern.proofs.ByPieces.{matches-pieces, pieces-matches}
 use Rattle.up_pattern.proofs.LiteralNames.{appended_rest}
 

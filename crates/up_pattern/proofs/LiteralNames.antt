@@ -1,16 +1,16 @@
 -- A literal element of a pattern reads what may be an element of a path.
-use Rattle.std.proofs.Common.{◌≡◌, ◌∙◌, ◌++◌, ◌<◌, ◌+◌, ℕ, Bool, true, false, ◌&&◌, ◌||◌, not, List, [], ◌∷◌, length, map, filter, Option, Some, None, is_some, unwrap_or, codes, Result, Ok, Err, refl, sym, ap, arith, inl, inr, if◌then◌else◌}
+use Rattle.std.proofs.Common.{◌≡◌, ◌∙◌, ◌++◌, ◌<◌, ◌+◌, ℕ, Bool, true, false, ◌&&◌, not, List, [], ◌∷◌, length, map, filter, Option, Some, None, is_some, unwrap_or, codes, Ok, refl, sym, ap, arith, inl, inr, if◌then◌else◌}
 use Rattle.std.specs.Prelude.{encode_utf8, encode_utf8_all, option_and_then, position}
 use Rattle.std.specs.List.{list_all, position_from}
 use Rattle.std.proofs.lemmas.Iterator.Adapters.{position_from-zero}
 use Rattle.up_names.proofs.Cleaning.{staying-all, staying-names}
 use Rattle.std.specs.Option.{option_map, option_map_or}
-use Rattle.std.specs.Str.{IsUtf8, is_utf8, all_scalars, byte, bytes_eq, chars}
+use Rattle.std.specs.Str.{is_utf8, all_scalars, byte, bytes_eq, chars}
 use lib.Utf8.{scalar}
 use Rattle.std.proofs.lemmas.Bool.{and_from, and_parts, cases_Bool, not-true, or_parts}
 use Rattle.std.proofs.lemmas.List.{length-append}
 use Rattle.std.proofs.lemmas.List.Folds.{list_all-append}
-use Rattle.std.proofs.lemmas.Str.{IsUtf8-from_is_utf8, encodes-append, encodes-chars, len_utf8_bounds, length-encode, is_utf8-from_IsUtf8, scalars-chars}
+use Rattle.std.proofs.lemmas.Str.{IsUtf8-from_is_utf8, encodes-chars, len_utf8_bounds, length-encode, is_utf8-from_IsUtf8, scalars-chars}
 use Rattle.up_names.specs.PathNames.{cleaned, is_allowed_byte, is_element, is_name, is_skipped, is_up}
 use Rattle.up_pattern.specs.declared.terms.Term.{Term}
 use Rattle.up_pattern.specs.declared.terms.Term.TheVariants.{Many, One, Char, OneOf, NoneOf}

@@ -1,7 +1,7 @@
 -- Parts read one after another: what is read so far stands in front of what is left.
-use Rattle.std.proofs.Common.{◌≡◌, ◌∙◌, ◌++◌, List, [], ◌∷◌, Option, Some, None, refl, sym, ap, append_assoc}
+use Rattle.std.proofs.Common.{◌≡◌, ◌++◌, List, [], ◌∷◌, Option, Some, None, refl, ap, append_assoc}
 use Rattle.std.proofs.lemmas.List.{append-nil}
-use Rattle.up_pattern.specs.Elements.{in_front, prepended}
+use Rattle.up_pattern.specs.Elements.{prepended}
 
 -- nothing is left
 pub prepended-nil : {X : Type 0} (xs : List X) (more : Option (List X)) → more ≡ Some [] → prepended xs more ≡ Some xs

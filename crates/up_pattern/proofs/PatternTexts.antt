@@ -1,5 +1,5 @@
 -- The text of a pattern: an owner, and perhaps pieces behind a slash.
-use Rattle.std.proofs.Common.{◌≡◌, ◌∙◌, ℕ, ◌≤◌, Bool, true, false, nat_lt, List, [], length, Option, Some, None, Result, Ok, Err, refl, sym, ap, inl, inr, if◌then◌else◌}
+use Rattle.std.proofs.Common.{◌≡◌, ◌∙◌, ℕ, ◌≤◌, List, [], length, Some, None, Ok, Err, refl, ap, inl, inr, if◌then◌else◌}
 use Rattle.std.specs.List.{after_first, before_first, list_any, slice_split}
 use Rattle.std.proofs.lemmas.Bool.{cases_Bool, le-ltb}
 use Rattle.up_names.specs.PathNames.{cleaned, is_slash, pieces_of}

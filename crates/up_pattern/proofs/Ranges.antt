@@ -1,10 +1,9 @@
 -- Ranges between brackets, one taken off the front at a time.
-use Rattle.std.proofs.Common.{◌≡◌, ◌∙◌, ◌++◌, Bool, true, false, List, [], ◌∷◌, Option, Some, None, unwrap_or, refl, sym, ap, if◌then◌else◌, append_assoc, length, ◌<◌}
-use Rattle.std.specs.Option.{MatchOption, IfSome}
+use Rattle.std.proofs.Common.{◌≡◌, Bool, true, false, List, [], ◌∷◌, Option, Some, None, unwrap_or, refl, ap, if◌then◌else◌}
+use Rattle.std.specs.Option.{MatchOption}
 use Rattle.std.specs.Borrow.{Bor}
-use Rattle.up_pattern.specs.declared.terms.Range.{Range}
 use Rattle.up_pattern.specs.declared.tokens.Token.{Token}
-use Rattle.up_pattern.specs.Elements.{is_dash, prepended, in_front, range_of, ranges_of, upper_end}
+use Rattle.up_pattern.specs.Elements.{is_dash, in_front, range_of, ranges_of, upper_end}
 
 chosen_some : {X : Type 0} (test : Bool) (x y : X) → (if test then Some x else None) ≡ Some y → (test ≡ true) × (x ≡ y)
 chosen_some true x y same = (refl, cc)

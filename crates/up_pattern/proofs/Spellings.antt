@@ -1,16 +1,15 @@
 -- An element is read from its text exactly where it is written so.
-use Rattle.std.proofs.Common.{◌≡◌, ◌∙◌, ◌++◌, ℕ, Bool, true, false, ◌==◌, ◌&&◌, ◌||◌, not, List, [], ◌∷◌, Option, Some, None, refl, sym, ap, subst, inl, inr, ◌⊎◌, append_assoc, append-nil, if◌then◌else◌}
+use Rattle.std.proofs.Common.{◌≡◌, ◌∙◌, ◌++◌, ℕ, Bool, true, false, ◌==◌, ◌||◌, not, List, [], ◌∷◌, Option, Some, None, refl, sym, ap, subst, inl, inr, append_assoc, append-nil, if◌then◌else◌}
 use Rattle.std.specs.Prelude.{◌↔◌, option_and_then}
 use Rattle.std.specs.List.{AllZip, flat_map, list_all, list_any}
 use Rattle.std.specs.Option.{option_map}
 use Rattle.std.specs.Str.{byte}
-use Rattle.std.proofs.lemmas.Bool.{and_from, and_parts, cases_Bool, eqb-true, not-true, or_parts, true≢false}
-use Rattle.std.proofs.lemmas.List.Folds.{list_any-append}
+use Rattle.std.proofs.lemmas.Bool.{and_from, and_parts, cases_Bool, eqb-true, not-true, or_parts}
 use Rattle.up_pattern.specs.declared.terms.Range.{Range}
 use Rattle.up_pattern.specs.declared.terms.Term.{Term}
 use Rattle.up_pattern.specs.declared.terms.Term.TheVariants.{Many, One, Char, OneOf, NoneOf}
 use Rattle.up_pattern.specs.declared.tokens.Token.{Token}
-use Rattle.up_pattern.specs.Elements.{class_of, escapes, in_front, is_close, is_dash, is_sign, prepended, range_of, ranges_of, some_ranges, term_of, terms_behind, terms_of, tokens_behind, upper_end}
+use Rattle.up_pattern.specs.Elements.{class_of, escapes, is_close, is_dash, is_sign, prepended, range_of, ranges_of, term_of, terms_behind, terms_of, tokens_behind, upper_end}
 use Rattle.up_pattern.specs.Spelling.{SpellsClass, SpellsElement, SpellsRange, SpellsRanges, SpellsTerm, is_token, joined, spelled}
 use Rattle.up_pattern.proofs.Lexing.{tokens_behind-cons}
 use Rattle.up_pattern.proofs.LiteralNames.{prepended_rest, in_front_rest}

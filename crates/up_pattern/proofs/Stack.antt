@@ -1,15 +1,14 @@
 -- The pieces of a pattern's text, taken one after the other.
-use Rattle.std.proofs.Common.{◌≡◌, ◌≢◌, ◌∙◌, ℕ, suc, ◌+◌, ◌-◌, ◌≤◌, ◌<◌, Bool, true, false, cond, not, List, [], ◌∷◌, ◌++◌, length, take, map, filter, Option, Some, None, is_some, unwrap_or, Result, Ok, Err, refl, sym, ap, arith, inl, inr}
+use Rattle.std.proofs.Common.{◌≡◌, ◌≢◌, ◌∙◌, ℕ, ◌+◌, ◌-◌, ◌≤◌, ◌<◌, Bool, cond, not, List, [], ◌∷◌, ◌++◌, length, take, map, filter, Option, Some, None, is_some, unwrap_or, Ok, Err, refl, sym, ap, arith, inl, inr}
 use Rattle.std.specs.Option.{option_map}
-use Rattle.std.specs.List.{position_from, slice_split, onto_first}
-use Rattle.std.specs.Prelude.{position}
+use Rattle.std.specs.List.{position_from, slice_split}
 use Rattle.std.proofs.lemmas.Iterator.Adapters.{position_from-zero}
 use Rattle.std.proofs.lemmas.Bool.{cases_Bool}
 use Rattle.std.proofs.lemmas.List.Sums.{count_by-le-length}
 use Rattle.std.proofs.lemmas.List.Splits.{length-slice_split}
 use Rattle.std.proofs.lemmas.List.{length-map, map-append, take-map}
 use Rattle.up_names.specs.PathNames.{cleaned, is_skipped, is_slash, is_up}
-use Rattle.up_names.proofs.Cleaning.{stepped, walk, walk-staying}
+use Rattle.up_names.proofs.Cleaning.{walk, walk-staying}
 use Rattle.up_pattern.specs.declared.fault.PatternFault.{PatternFault}
 use Rattle.up_pattern.specs.declared.fault.PatternFault.TheVariants.{Element, OutOfMemory}
 use Rattle.up_pattern.specs.declared.fault.ElementFault.{ElementFault}

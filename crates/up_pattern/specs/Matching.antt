@@ -1,6 +1,6 @@
 -- Which texts an element of a pattern matches (Go's path.Match). An element is a list of terms and a text a list of
 -- characters.
-use Rattle.std.specs.Prelude.{◌≡◌, ℕ, ◌+◌, Bool, true, false, ◌==◌, ◌&&◌, nat_le, not, List, [], ◌∷◌, length, map, IsTrue}
+use Rattle.std.specs.Prelude.{◌≡◌, ℕ, Bool, true, false, ◌==◌, ◌&&◌, nat_le, not, List, [], ◌∷◌, map, IsTrue}
 use Rattle.std.specs.List.{list_any, concat, AllZip}
 use Rattle.up_pattern.specs.declared.terms.Range.{Range}
 use Rattle.up_pattern.specs.declared.terms.Term.{Term}

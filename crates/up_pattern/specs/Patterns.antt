@@ -1,7 +1,7 @@
 -- Patterns of Glob: a literal user name, and elements behind it, cleaned as those of a path (this project's own).
 use Rattle.std.specs.Prelude.{ℕ, Bool, true, false, ◌-◌, ◌&&◌, ◌||◌, not, nat_lt, if◌then◌else◌, List, [], ◌∷◌, ◌++◌, length, take, map, slice_get, Option, Some, None, is_some, unwrap_or, option_and_then, Result, Ok, Err, codes, position}
 use Rattle.std.specs.List.{before_first}
-use Rattle.std.specs.Option.{option_map, option_map_or}
+use Rattle.std.specs.Option.{option_map_or}
 use Rattle.std.specs.Str.{bytes_eq, chars}
 use Rattle.up_names.specs.PathNames.{cleaned, is_element, is_name, is_skipped, is_slash, is_up, pieces_of}
 use Rattle.up_names.specs.UserNames.{user_of}

@@ -1,13 +1,13 @@
 -- How an element is written, part by part: the reading of `Elements` the other way round (Go's path.Match).
-use Rattle.std.specs.Prelude.{◌≡◌, ◌↔◌, ℕ, Bool, true, false, ◌==◌, ◌||◌, not, if◌then◌else◌, List, [], ◌∷◌, ◌++◌, Some}
+use Rattle.std.specs.Prelude.{◌≡◌, ℕ, Bool, true, false, ◌==◌, ◌||◌, not, if◌then◌else◌, List, [], ◌∷◌, ◌++◌, Some}
 use Rattle.std.specs.List.{AllZip, flat_map, list_all, list_any}
 use Rattle.std.specs.Str.{byte}
 use Rattle.std.proofs.Common.{◌⊎◌}
 use Rattle.up_pattern.specs.declared.terms.Range.{Range}
 use Rattle.up_pattern.specs.declared.terms.Term.{Term}
-use Rattle.up_pattern.specs.declared.terms.Term.TheVariants.{Many, One, Char, OneOf, NoneOf}
+use Rattle.up_pattern.specs.declared.terms.Term.TheVariants.{OneOf, NoneOf}
 use Rattle.up_pattern.specs.declared.tokens.Token.{Token}
-use Rattle.up_pattern.specs.Elements.{class_of, is_close, is_dash, is_sign, range_of, ranges_of, term_of, terms_of}
+use Rattle.up_pattern.specs.Elements.{is_close, is_dash, is_sign, range_of, term_of}
 
 -- pieces, one after the other
 abbrev pub joined : {X : Type 0} → List (List X) → List X

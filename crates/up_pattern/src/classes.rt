@@ -1,6 +1,6 @@
 //! Classes: what stands between the brackets of an element.
-ghost use Rattle.std.specs.Prelude.{◌≡◌, ◌<◌, [], ◌∷◌, List, Option, None, Some, IfSome, MatchOption, length};
-ghost use Rattle.up_pattern.specs.Elements.{class_of, in_front, prepended, range_of, ranges_of, some_ranges, upper_end};
+ghost use Rattle.std.specs.Prelude.{◌≡◌, ◌<◌, [], ◌∷◌, Option, None, Some, IfSome, MatchOption, length};
+ghost use Rattle.up_pattern.specs.Elements.{class_of, prepended, range_of, ranges_of, some_ranges, upper_end};
 ghost use Rattle.up_pattern.specs.Reading.{Reads};
 ghost use Rattle.up_pattern.specs.declared.terms.Range.{Range};
 

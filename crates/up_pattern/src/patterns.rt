@@ -4,7 +4,6 @@ ghost use Rattle.std.specs.List.{slice_split};
 ghost use Rattle.std.specs.Option.{option_copied, option_map};
 ghost use Rattle.std.specs.Str.{chars};
 ghost use Rattle.up_names.specs.PathNames.{is_name, is_slash};
-ghost use Rattle.up_names.specs.UserNames.{user_of};
 ghost use Rattle.up_pattern.specs.Matching.{matches};
 ghost use Rattle.up_pattern.specs.PatternGives.{Gives};
 ghost use Rattle.up_pattern.specs.Patterns.{after_piece, element_of, elements_of, literal_at, pattern_of};

@@ -1,8 +1,4 @@
 //! Boxed peers.
-ghost use Rattle.std.specs.Prelude.{◌≡◌, Ok};
-ghost use Rattle.up_ends.specs.Telling.{Grew};
-ghost use Rattle.up_faults.specs.Counts.{HasCause};
-ghost use Rattle.up_peer.specs.Asking.{call_of};
 ghost use Rattle.up_peer.specs.declared.answers.PeerQuestion.TheVariants as questions;
 ghost use Rattle.up_peer.specs.declared.answers.PeerAnswer.TheVariants as answers;
 

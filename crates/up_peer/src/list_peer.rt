@@ -1,5 +1,5 @@
 //! A peer in memory that gives answers of a list.
-ghost use Rattle.std.specs.Prelude.{◌≡◌, [], ◌∷◌, ◌++◌, Ok, OnErr, IfOk, OnOk};
+ghost use Rattle.std.specs.Prelude.{◌≡◌, [], Ok, OnErr, IfOk, OnOk};
 ghost use Rattle.up_ends.specs.Telling.{Grew};
 ghost use Rattle.up_faults.specs.Counts.{HasCause};
 ghost use Rattle.up_peer.specs.Asking.{call_of};

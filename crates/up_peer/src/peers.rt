@@ -1,9 +1,8 @@
 //! The peers of a host, in order, and what they give as a loader.
-ghost use Rattle.std.specs.Prelude.{◌≡◌, ◌<◌, ℕ, [], ◌∷◌, ◌++◌, length, position, sum_by, Ok, OnOk, OnErr, IfOk};
+ghost use Rattle.std.specs.Prelude.{◌≡◌, ◌<◌, [], ◌∷◌, ◌++◌, length, position, sum_by, Ok, OnOk, OnErr};
 ghost use Rattle.std.specs.Result.{result_ok};
-ghost use Rattle.up_faults.specs.Counts.{HasCause};
 ghost use Rattle.up_peer.specs.Asking.{Asks, AsksAt, KeptPeer, WasAsked, has_address, has_owner};
-ghost use Rattle.up_peer.specs.Loading.{BlockQuestion, FetchesFrom, GroupQuestion, LoadsAs, LoadsFrom, fault_sum, fetch_of};
+ghost use Rattle.up_peer.specs.Loading.{FetchesFrom, LoadsAs, LoadsFrom, fault_sum, fetch_of};
 ghost use Rattle.up_peer.specs.declared.answers.PeerQuestion.TheVariants as questions;
 
 use crate::answers::PeerAnswer;

@@ -1,5 +1,5 @@
 //! A peer in memory that has nothing.
-ghost use Rattle.std.specs.Prelude.{◌≡◌, [], ◌∷◌, ◌++◌, Ok, OnErr, IfOk};
+ghost use Rattle.std.specs.Prelude.{◌≡◌, [], ◌++◌, Ok, IfOk};
 ghost use Rattle.up_ends.specs.Telling.{Grew};
 ghost use Rattle.up_faults.specs.Counts.{HasCause};
 ghost use Rattle.up_peer.specs.Asking.{call_of};

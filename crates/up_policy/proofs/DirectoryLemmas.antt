@@ -1,6 +1,5 @@
 -- Access texts that are kept by canonical texts are the list that is seen.
-use Rattle.std.proofs.Common.{◌≡◌, Option, Bool, true, false, cond, ◌&&◌, List, [], ◌∷◌, refl, sym, ap, subst, ◌∙◌, ℕ, ◌<◌, ◌≤◌, length, Global, Some, None, ◌⊎◌, inl, inr}
-use Rattle.std.specs.List.{list_all}
+use Rattle.std.proofs.Common.{◌≡◌, Option, Bool, true, false, cond, List, [], ◌∷◌, refl, sym, ap, ◌∙◌, ℕ, Global, Some, None, inl, inr}
 use Rattle.std.specs.Map.{lookup}
 use Rattle.std.specs.Str.{bytes_eq}
 use Rattle.std.specs.String.{string_bytes, string_eq}
@@ -10,7 +9,7 @@ use Rattle.std.proofs.lemmas.Bool.Decides.{same_from_decides}
 use Rattle.std.proofs.lemmas.Slice.Eq.{bytes_eq-Decides}
 use Rattle.indexmap.specs.IndexMap.{insert_entry}
 use Rattle.up_access.specs.declared.Rule.{Rule}
-use Rattle.up_names.specs.PathNames.{PathName, IsCanonical, canonical, cut}
+use Rattle.up_names.specs.PathNames.{PathName, IsCanonical, canonical}
 use Rattle.up_names.specs.PathOrder.{path_eq}
 use Rattle.up_names.specs.PathOrderLaws.{path_eq-Decides}
 use Rattle.up_names.specs.PathParts.{path_in}

@@ -1,9 +1,8 @@
 -- The first text on the way up is the governor; and how a walk to the root finds it.
-use Rattle.std.proofs.Common.{◌≡◌, ℕ, zero, suc, ◌+◌, ◌-◌, ◌<◌, ◌≤◌, Bool, true, false, List, [], ◌∷◌, length, take, refl, sym, ap, subst, ◌∙◌, ◌⊎◌, inl, inr, arith, Option, Some, None}
+use Rattle.std.proofs.Common.{◌≡◌, ℕ, zero, suc, ◌-◌, ◌<◌, ◌≤◌, Bool, true, false, List, length, refl, sym, ap, subst, ◌∙◌, inl, inr, arith, Option, Some, None}
 use Rattle.std.specs.Prelude.{◌↔◌, MatchBool, if◌then◌else◌}
 use Rattle.std.specs.Option.{option_or}
 use Rattle.std.proofs.lemmas.Bool.{cases_lt, cases_order}
-use Rattle.std.proofs.lemmas.List.{take-take, take_all, length-take-le}
 use Rattle.up_names.specs.PathNames.{PathName, cut}
 use Rattle.up_access.specs.declared.Rule.{Rule}
 use Rattle.up_policy.specs.Trees.{AccessTexts, TreeFacts, owns_snapshots}

@@ -1,6 +1,5 @@
 -- Loadings as lists of names with answers.
-use Rattle.std.proofs.Common.{◌≡◌, Bool, List, [], ◌∷◌, ◌++◌, ap, Option, Some, None, true, false, cond, refl}
-use Rattle.std.specs.Map.{lookup}
+use Rattle.std.proofs.Common.{◌≡◌, Bool, List, [], ◌∷◌, ◌++◌, ap, Some, None, true, false, cond, refl}
 use Rattle.indexmap.specs.IndexMap.{insert_entry}
 use Rattle.up_names.specs.PathNames.{PathName}
 use Rattle.up_names.specs.PathOrder.{path_eq}

@@ -1,19 +1,17 @@
 -- Rights only grow with what is loaded.
-use Rattle.std.proofs.Common.{◌≡◌, ℕ, Bool, true, false, not, ◌&&◌, List, [], ◌∷◌, refl, sym, ap, subst, ◌∙◌, Option, Some, None, bytes_eq, unwrap_or}
-use Rattle.std.specs.Prelude.{Contains, Any, IsTrue, MatchBool, MatchOption, if◌then◌else◌}
+use Rattle.std.proofs.Common.{◌≡◌, ℕ, Bool, true, false, not, ◌&&◌, List, [], ◌∷◌, refl, sym, subst, Option, Some, None, bytes_eq, unwrap_or}
+use Rattle.std.specs.Prelude.{Contains, IsTrue, MatchBool, MatchOption, if◌then◌else◌}
 use Rattle.std.specs.List.{list_any}
 use Rattle.up_names.specs.declared.items.Item.{Item}
 use Rattle.up_names.specs.declared.items.Item.TheVariants.{Everyone, Domain, User, Group}
 use Rattle.up_names.specs.PathNames.{PathName}
 use Rattle.up_rights.specs.declared.Right.{Right}
-use Rattle.up_rights.specs.RightSets.{has_right}
 use Rattle.up_access.specs.declared.Rule.{Rule}
 use Rattle.up_policy.specs.declared.load_answer.LoadAnswer.{LoadAnswer}
 use Rattle.up_policy.specs.Trees.{TreeFacts, owns_snapshots}
 use Rattle.up_policy.specs.Loadings.{loaded_text}
-use Rattle.up_policy.specs.Governors.{Governs}
-use Rattle.up_policy.specs.Members.{text_of, is_user, groups_in, items_in, names_in, has_user, Chain, IsMember}
-use Rattle.up_policy.specs.Verdicts.{only_looks, is_control, Means, Grants, HasRight}
+use Rattle.up_policy.specs.Members.{text_of, is_user, groups_in, items_in, Chain}
+use Rattle.up_policy.specs.Verdicts.{only_looks, is_control, Means, Grants}
 use Rattle.up_policy.specs.Laws.{HasTextsOf, RightsAreMonotone}
 use Rattle.up_policy.proofs.PathLists.{no_member}
 

@@ -1,5 +1,5 @@
 -- The search for the groups that have to be loaded.
-use Rattle.std.proofs.Common.{◌≡◌, ℕ, ◌<◌, ◌++◌, Bool, List, [], length, refl, ◌∙◌, None, slice_get, Result, Ok, Err}
+use Rattle.std.proofs.Common.{◌≡◌, ℕ, ◌++◌, Bool, List, ◌∙◌, None, slice_get, Result, Ok, Err}
 use Rattle.std.specs.Prelude.{OnErr}
 use Rattle.std.specs.Map.{keys_of}
 use Rattle.up_names.specs.PathNames.{PathName}

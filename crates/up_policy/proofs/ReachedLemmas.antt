@@ -1,7 +1,7 @@
 -- The search that keeps the groups already met agrees with lists of groups, cycles included.
-use Rattle.std.proofs.Common.{◌≡◌, ℕ, zero, suc, ◌+◌, ◌<◌, ◌≤◌, Bool, true, false, List, [], ◌∷◌, ◌++◌, length, refl, sym, ap, subst, ◌∙◌, ◌⊎◌, inl, inr, arith, Option, Some, None, slice_get, Decides, append-nil, append_assoc, get_or, unwrap_or}
+use Rattle.std.proofs.Common.{◌≡◌, ℕ, zero, suc, ◌+◌, ◌<◌, ◌≤◌, List, [], ◌∷◌, ◌++◌, length, refl, sym, ap, subst, ◌∙◌, ◌⊎◌, inl, inr, arith, Option, Some, None, slice_get, append-nil, append_assoc, get_or, unwrap_or}
 use Rattle.std.specs.Prelude.{Contains, IsTrue, IsSome}
-use Rattle.std.specs.List.{list_any, flat_map, IsDistinct}
+use Rattle.std.specs.List.{flat_map, IsDistinct}
 use Rattle.std.proofs.lemmas.Bool.{cases_lt}
 use Rattle.std.proofs.lemmas.List.Elements.{Contains-append_left, Contains-append_right}
 use Rattle.std.proofs.lemmas.Map.Made.{length-le_from_is_member}
@@ -12,7 +12,7 @@ use Rattle.up_names.specs.PathOrder.{path_eq}
 use Rattle.up_names.specs.PathOrderLaws.{path_eq_equivalence}
 use Rattle.up_policy.specs.Members.{Chain, IsMember, groups_in, names_in, has_user}
 use Rattle.up_policy.specs.Reached.{after_look, met_after, nameable, reached, IsReached, with_paths}
-use Rattle.up_policy.proofs.PathLists.{no_member, place_of, Contains-at, slice_get-front, Contains-flat_map, Contains-from_among, among_from_Contains, front_of_with_paths, with_paths-keeps, with_paths-has, with_paths-cases, with_paths-distinct}
+use Rattle.up_policy.proofs.PathLists.{no_member, place_of, Contains-at, slice_get-front, Contains-flat_map, Contains-from_among, among_from_Contains, front_of_with_paths, with_paths-has, with_paths-cases, with_paths-distinct}
 
 -- each group that has a text is listed
 pub record Lists (texts : PathName → Option (List Item)) (listed : List PathName) : Type 0 where

@@ -1,21 +1,18 @@
 -- Worked examples of rights, as the definitions compute them.
-use Rattle.std.proofs.Common.{◌≡◌, ℕ, Bool, true, false, List, [], ◌∷◌, refl, Option, Some, None, codes}
-use Rattle.std.specs.Map.{lookup}
+use Rattle.std.proofs.Common.{◌≡◌, ℕ, Bool, true, false, List, [], ◌∷◌, refl, codes}
 use Rattle.up_names.specs.declared.items.Item.{Item}
 use Rattle.up_names.specs.declared.items.Item.TheVariants.{Everyone, Domain, User, Group}
 use Rattle.up_names.specs.PathNames.{PathName}
-use Rattle.up_names.specs.PathOrder.{path_eq}
 use Rattle.up_rights.specs.declared.Right.{Right}
-use Rattle.up_rights.specs.declared.Right.TheVariants.{Read, Write, List as ListRight, Create, Delete}
-use Rattle.up_rights.specs.RightSets.{Rights, no_rights, with_right, all_rights}
+use Rattle.up_rights.specs.declared.Right.TheVariants.{Read, Write, List as ListRight, Delete}
+use Rattle.up_rights.specs.RightSets.{no_rights, with_right, all_rights}
 use Rattle.up_access.specs.declared.Rule.{Rule}
 use Rattle.up_policy.specs.declared.load_answer.LoadAnswer.{LoadAnswer}
 use Rattle.up_policy.specs.declared.load_answer.LoadAnswer.TheVariants.{Text, Missing, BadText, Failed}
-use Rattle.up_policy.specs.Trees.{TreeFacts}
 use Rattle.up_policy.specs.Files.{Files, facts_of}
 use Rattle.up_policy.specs.Governors.{governor}
 use Rattle.up_policy.specs.Reached.{reached, needed, needed_by}
-use Rattle.up_policy.specs.Verdicts.{grants, text_decides, without_text, right_test, rights_held}
+use Rattle.up_policy.specs.Verdicts.{grants, text_decides, without_text, right_test}
 
 abbrev ann : List ℕ
 ann = codes "ann@a.example"

@@ -1,11 +1,11 @@
 -- The test of a right holds exactly where the user has the right.
-use Rattle.std.proofs.Common.{◌≡◌, ℕ, zero, suc, ◌+◌, ◌<◌, ◌≤◌, Bool, true, false, not, ◌&&◌, ◌||◌, cond, List, [], ◌∷◌, ◌++◌, length, refl, sym, ap, subst, ◌∙◌, ◌⊎◌, inl, inr, arith, Option, Some, None, Decides, bytes_eq}
-use Rattle.std.specs.Prelude.{Contains, IsTrue, IsSome, Any, MatchBool, MatchOption, ◌↔◌, if◌then◌else◌, ⊤, is_some, Result, Ok, Err, IfOk}
-use Rattle.std.specs.List.{list_any, flat_map, filter_map, cons_option}
-use Rattle.std.specs.Map.{keys_of, lookup}
+use Rattle.std.proofs.Common.{◌≡◌, ℕ, ◌+◌, Bool, true, false, not, ◌&&◌, List, [], ◌∷◌, ◌++◌, refl, sym, ap, subst, ◌∙◌, ◌⊎◌, inl, inr, Option, Some, None, Decides, bytes_eq}
+use Rattle.std.specs.Prelude.{Contains, IsTrue, IsSome, MatchBool, MatchOption, ◌↔◌, if◌then◌else◌, ⊤, is_some, Result, Ok, Err, IfOk}
+use Rattle.std.specs.List.{list_any, cons_option}
+use Rattle.std.specs.Map.{keys_of}
 use Rattle.std.specs.Option.{option_and_then}
-use Rattle.std.proofs.lemmas.Bool.{or_cases, or_left, or_right, and_parts, and_from, cases_Bool}
-use Rattle.std.proofs.lemmas.Bool.Decides.{Decides-and, Decides-or, Decides-like}
+use Rattle.std.proofs.lemmas.Bool.{or_cases, or_left, or_right, cases_Bool}
+use Rattle.std.proofs.lemmas.Bool.Decides.{Decides-and}
 use Rattle.std.proofs.lemmas.List.Elements.{Contains-append_left, Contains-append_right, Contains-append_cases}
 use Rattle.std.proofs.lemmas.List.Folds.{Any-from_list_any, list_any-from_Any}
 use Rattle.std.proofs.lemmas.Map.Made.{is_some-lookup}
@@ -20,11 +20,10 @@ use Rattle.up_rights.specs.declared.Right.TheVariants.{Read, Write, List as List
 use Rattle.up_rights.specs.RightSets.{Rights, has_right, no_rights, with_right}
 use Rattle.up_access.specs.declared.Rule.{Rule}
 use Rattle.up_policy.specs.declared.load_answer.LoadAnswer.{LoadAnswer}
-use Rattle.up_policy.specs.declared.load_answer.LoadAnswer.TheVariants.{Text, Missing, BadText, Failed}
 use Rattle.up_policy.specs.Trees.{TreeFacts, owns_snapshots}
 use Rattle.up_policy.specs.Loadings.{text_in, answer_for, loaded_text}
 use Rattle.up_policy.specs.Governors.{Governs, governor, first_text, prefixes}
-use Rattle.up_policy.specs.Members.{text_of, is_user, group_in, groups_in, has_user, IsMember, Chain, names_in}
+use Rattle.up_policy.specs.Members.{text_of, is_user, group_in, groups_in, has_user, IsMember}
 use Rattle.up_policy.specs.Reached.{reached}
 use Rattle.up_policy.specs.Verdicts.{only_looks, is_control, Means, Grants, HasRight, items_by, items_for, grants, text_decides, without_text, right_test, rights_held}
 use Rattle.up_policy.specs.Laws.{ListsGroups, TestIsRight, ReachedIsReached}

@@ -1,5 +1,5 @@
 -- A tree's Access and Group files, held in memory (this project's own).
-use Rattle.std.specs.Prelude.{◌≡◌, ℕ, true, List, Contains, Option, IsSome}
+use Rattle.std.specs.Prelude.{List, Contains, IsSome}
 use Rattle.std.specs.Map.{keys_of, lookup}
 use Rattle.std.proofs.Common.{sym, ◌∙◌}
 use Rattle.std.proofs.lemmas.Map.Made.{is_some-lookup}

@@ -1,5 +1,5 @@
 -- Laws of rights: the values that compute are what is meant, and rights only grow with what is loaded.
-use Rattle.std.specs.Prelude.{◌≡◌, ℕ, ◌↔◌, IsTrue, IsSome, List, ◌++◌, Contains, Option, Some}
+use Rattle.std.specs.Prelude.{◌≡◌, ◌↔◌, IsTrue, IsSome, List, ◌++◌, Contains, Option, Some}
 use Rattle.std.specs.Map.{keys_of}
 use Rattle.up_names.specs.Texts.{UserName}
 use Rattle.up_names.specs.PathNames.{PathName}

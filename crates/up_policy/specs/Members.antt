@@ -1,5 +1,5 @@
 -- Who belongs to a group (Upspin access control document): by lists of groups, each of which names the next.
-use Rattle.std.specs.Prelude.{ℕ, Bool, true, false, IsTrue, if◌then◌else◌, List, [], ◌∷◌, Contains, Option, Some, None, unwrap_or}
+use Rattle.std.specs.Prelude.{Bool, true, false, IsTrue, if◌then◌else◌, List, [], ◌∷◌, Contains, Option, Some, None, unwrap_or}
 use Rattle.std.specs.List.{list_any, filter_map}
 use Rattle.std.specs.Str.{bytes_eq}
 use Rattle.up_names.specs.Texts.{UserName}

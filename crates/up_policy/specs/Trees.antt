@@ -1,5 +1,5 @@
 -- What a tree says of rights (Upspin access control document).
-use Rattle.std.specs.Prelude.{ℕ, Bool, false, List, codes, Option, Some, None}
+use Rattle.std.specs.Prelude.{Bool, false, List, codes, Option, Some, None}
 use Rattle.std.specs.Str.{bytes_eq}
 use Rattle.up_names.specs.Texts.{UserName}
 use Rattle.up_names.specs.declared.items.Item.{Item}

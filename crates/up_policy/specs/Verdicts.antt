@@ -1,5 +1,5 @@
 -- Who has which right where (Upspin access control document). The rule of snapshot trees is this project's own.
-use Rattle.std.specs.Prelude.{◌≡◌, ℕ, Bool, true, false, ◌&&◌, ◌||◌, not, ⊤, IsTrue, MatchBool, MatchOption, if◌then◌else◌, List, [], ◌++◌, Any, Option, Some, None}
+use Rattle.std.specs.Prelude.{◌≡◌, Bool, true, false, ◌&&◌, ◌||◌, not, ⊤, IsTrue, MatchBool, MatchOption, if◌then◌else◌, [], ◌++◌, Any, Option, Some, None}
 use Rattle.std.specs.Prelude as std
 use Rattle.std.specs.List.{list_any, flat_map}
 use Rattle.std.specs.Map.{keys_of}
@@ -7,7 +7,6 @@ use Rattle.std.specs.Str.{bytes_eq}
 use Rattle.up_names.specs.Texts.{UserName}
 use Rattle.up_names.specs.declared.items.Item.{Item}
 use Rattle.up_names.specs.declared.items.Item.TheVariants as items
-use Rattle.up_names.specs.declared.paths.Control.{Control}
 use Rattle.up_names.specs.declared.paths.Control.TheVariants as control
 use Rattle.up_names.specs.UserNames.{base_of}
 use Rattle.up_names.specs.PathNames.{PathName, control_of}

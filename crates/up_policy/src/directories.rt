@@ -1,6 +1,5 @@
 //! The Access texts of a tree, by their directories.
 ghost use Rattle.std.specs.Prelude.{◌≡◌, ◌≤◌, [], is_ok, if◌then◌else◌, length};
-ghost use Rattle.std.specs.Map.{lookup};
 ghost use Rattle.std.specs.Option.{option_copied};
 ghost use Rattle.indexmap.specs.IndexMap.{insert_entry};
 ghost use Rattle.up_names.specs.PathNames.{cut};

@@ -1,7 +1,7 @@
 //! The groups that a search has met.
-ghost use Rattle.std.specs.Prelude.{◌≡◌, ◌<◌, ◌^◌, [], IfOk, OnOk, OnSome, false, length, slice_get};
+ghost use Rattle.std.specs.Prelude.{◌≡◌, ◌<◌, ◌^◌, [], IfOk, OnOk, OnSome, false, slice_get};
 ghost use Rattle.std.specs.List.{list_any};
-ghost use Rattle.std.specs.Option.{option_copied, option_map};
+ghost use Rattle.std.specs.Option.{option_copied};
 ghost use Rattle.up_names.specs.UserNames.{domain_part};
 ghost use Rattle.up_policy.specs.Members.{groups_in, is_user};
 ghost use Rattle.up_policy.specs.Reached.{groups_named, with_path, with_paths};

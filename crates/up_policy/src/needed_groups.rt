@@ -1,7 +1,5 @@
 //! Which groups of other owners have to be loaded.
-ghost use Rattle.std.specs.Prelude.{◌≡◌, ◌++◌, if◌then◌else◌, List, OnErr, OnOk};
-ghost use Rattle.std.specs.Map.{keys_of};
-ghost use Rattle.up_names.specs.PathNames.{PathName};
+ghost use Rattle.std.specs.Prelude.{◌≡◌, if◌then◌else◌, OnErr, OnOk};
 ghost use Rattle.up_policy.specs.Reached.{AddsPart, is_wanted, needed, needed_by, with_path, with_paths};
 
 use crate::facts::Facts;

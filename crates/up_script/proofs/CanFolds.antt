@@ -2,7 +2,7 @@
 use Rattle.std.proofs.Common.{◌≡◌, ℕ, ◌+◌, List, [], ◌∷◌, ◌++◌, refl, sym, ap, subst, ◌∙◌, append_assoc, append-nil, Option, Some, None}
 use Rattle.std.specs.Io.KnownBytes.{Appends}
 use Rattle.up_ends.specs.Writing.{Going, WritesPart}
-use Rattle.up_ends.proofs.Going.{Going-more, Going-all, WritesPart-so_far, WritesPart-step}
+use Rattle.up_ends.proofs.Going.{Going-more, Going-all, WritesPart-step}
 use Rattle.up_text.specs.Lines.{script_lines}
 use Rattle.up_script.specs.declared.can_files.CanFiles.{CanFiles}
 use Rattle.up_script.specs.CanLines.{Tree, Effect, effect_of, reply_of, tree_after, asked}

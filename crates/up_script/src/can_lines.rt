@@ -7,7 +7,7 @@ ghost use Rattle.up_access.specs.AccessTexts.{access_of};
 ghost use Rattle.up_group.specs.GroupTexts.{group_of};
 ghost use Rattle.up_text.specs.Lines.{words_left};
 ghost use Rattle.up_text.specs.Words.{decoded};
-ghost use Rattle.up_script.specs.CanLines.{access_dir, access_line, access_set, group_line, group_set, is_group, kind_of, named, path_named, reply_of, tree_after, user_named, verdict_line};
+ghost use Rattle.up_script.specs.CanLines.{access_dir, access_line, access_set, group_line, group_set, kind_of, named, path_named, reply_of, tree_after, user_named, verdict_line};
 
 use crate::can_files::CanFiles;
 use std::alloc::{AllocError, Global};

@@ -1,5 +1,5 @@
 //! The texts that the lines of a script print, each added to what is gathered. Where memory is wanting, a part of one may be left there.
-ghost use Rattle.std.specs.Prelude.{◌≡◌, ◌++◌, ◌∷◌, OnOk, codes, decimal};
+ghost use Rattle.std.specs.Prelude.{◌≡◌, ◌++◌, OnOk, codes, decimal};
 ghost use Rattle.up_script.specs.Scripts.{all_numbered, ended, numbered};
 ghost use Rattle.up_text.specs.ClientFaults.{fault_lines};
 ghost use Rattle.up_text.specs.Replies.{reply_lines};

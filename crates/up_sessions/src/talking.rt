@@ -1,6 +1,5 @@
 //! A session puts and gets files.
 ghost use Rattle.std.specs.Prelude.{◌≡◌, ◌<◌, ◌++◌, IfSome, IsSome, Some, length, refl};
-ghost use Rattle.std.specs.Result.{result_ok};
 ghost use Rattle.up_client.specs.Getting.{get_talk};
 ghost use Rattle.up_client.specs.Putting.{put_talk};
 ghost use Rattle.up_sessions.specs.Kept.{OneOf};

@@ -1,5 +1,5 @@
 //! A user before the snapshot tree of a log.
-ghost use Rattle.std.specs.Prelude.{◌≡◌, ◌≤◌, None, IfOk, is_some, length, map, option_map};
+ghost use Rattle.std.specs.Prelude.{◌≡◌, ◌≤◌, None, IfOk, is_some, length, option_map};
 ghost use Rattle.up_names.specs.PathNames.{cut, extended};
 ghost use Rattle.up_list.specs.Entries.{entry_at, entry_on_way};
 ghost use Rattle.up_list.specs.Founds.{entry_found};

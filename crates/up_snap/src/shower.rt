@@ -1,7 +1,7 @@
 //! The user whose tree shows the snapshots of a user's tree, and the roots of snapshots in it.
 ghost use Rattle.std.specs.Prelude.{◌≡◌, ◌<◌, ◌≤◌, length, None, IfOk};
 ghost use Rattle.up_answers.specs.SnapshotTrees.{moved};
-ghost use Rattle.up_names.specs.UserNames.{domain_part, name_part, suffix_of};
+ghost use Rattle.up_names.specs.UserNames.{name_part, suffix_of};
 ghost use Rattle.up_replay.specs.Fits.{root_of, snapshot_user};
 
 use crate::moments::root_at;

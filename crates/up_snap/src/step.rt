@@ -12,7 +12,6 @@ ghost use Rattle.up_list.specs.declared.asking.Asked.{Asked};
 ghost use Rattle.up_policy.specs.Loadings.{Loading};
 ghost use Rattle.up_replay.specs.Fits.{Fits};
 ghost use Rattle.up_snap.specs.Firsts.{IsMoment};
-ghost use Rattle.up_snap.specs.Looked.{IsShower};
 ghost use Rattle.up_snap.specs.Outcomes.{IsOfSnapshots, log_with};
 ghost use Rattle.up_tree.specs.States.{entries_of, fixed_of, log_of};
 

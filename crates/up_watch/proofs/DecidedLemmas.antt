@@ -3,7 +3,7 @@ use Rattle.std.proofs.Common.{◌≡◌, ℕ, zero, suc, ◌+◌, ◌<◌, ◌�
 use Rattle.std.specs.Prelude.{⊤, ◌++◌, codes, find, slice_get, if◌then◌else◌}
 use Rattle.std.specs.declared.cmp.Ordering.TheVariants.{Equal}
 use Rattle.std.specs.FinMap.Entries as entries
-use Rattle.std.specs.FinMap.Entries.{find-put, find-where_key, is_sorted, where_key}
+use Rattle.std.specs.FinMap.Entries.{find-put, find-where_key, is_sorted}
 use Rattle.std.specs.Ordering.{eq_by_cmp}
 use Rattle.std.specs.Map.{keys_of}
 use Rattle.std.specs.Option.{option_and_then, option_map, option_or}

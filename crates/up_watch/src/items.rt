@@ -1,10 +1,9 @@
 //! The items under a path, as they are now.
 ghost use Rattle.std.specs.Prelude.{◌≡◌, ◌++◌, IfOk, OnOk, length, map, slice_get};
-ghost use Rattle.std.specs.List.{AllByRecursion, filter_map, flat_map};
+ghost use Rattle.std.specs.List.{AllByRecursion, filter_map};
 ghost use Rattle.std.specs.List.Sorted.{IsSortedBy, IsStableBy};
 ghost use Rattle.std.specs.Option.{option_copied, option_map, option_to_list};
 ghost use Rattle.up_answers.specs.Watches.{items_under};
-ghost use Rattle.up_list.specs.Entries.{entries_in, entry_at};
 ghost use Rattle.up_list.specs.Founds.{entry_found};
 ghost use Rattle.up_list.specs.Places.{IsOwned};
 ghost use Rattle.up_list.specs.Rooted.{IsRooted};

@@ -1,10 +1,9 @@
 //! What a key server keeps of a user.
 
-ghost use Rattle.std.specs.Prelude.{◌≡◌, ◌++◌, is_ok, if◌then◌else◌, IfOk, Ok, Err};
-ghost use Rattle.up_bytes.specs.Reading.{byte_at, Gives, text_at};
+ghost use Rattle.std.specs.Prelude.{◌≡◌, IfOk, Ok, Err};
+ghost use Rattle.up_bytes.specs.Reading.{Gives, text_at};
 ghost use Rattle.up_bytes.specs.Sizes.{size_of};
-ghost use Rattle.up_bytes.specs.Spelling.{IsList, IsText};
-ghost use Rattle.up_wire.specs.Keys.{FitsKeyRecord, IsEndpoint, IsKeyCard, IsKeyRecord, IsSpelledKeyRecord, key_card, key_card_at, key_fields, key_record, key_record_at, logged, logged_at, logged_of};
+ghost use Rattle.up_wire.specs.Keys.{FitsKeyRecord, IsKeyCard, IsKeyRecord, IsSpelledKeyRecord, key_card, key_card_at, key_record, key_record_at, logged, logged_of};
 
 use crate::laws::key_records_have_one_spelling;
 use std::alloc::{AllocError, Global};

@@ -1,6 +1,6 @@
 //! What one byte of a reply tells: what is malformed, which right is missing, whether there is an entry.
 
-ghost use Rattle.std.specs.Prelude.{◌≡◌, ◌++◌, [], IfOk, OnOk, MatchOption};
+ghost use Rattle.std.specs.Prelude.{◌≡◌, [], MatchOption};
 ghost use Rattle.up_bytes.specs.Num.{num};
 ghost use Rattle.up_bytes.specs.Reading.{Answers, Gives};
 ghost use Rattle.up_wire.specs.Reading.{event_kind_at, option_at, right_at, what_at};

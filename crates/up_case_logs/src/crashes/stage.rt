@@ -1,5 +1,5 @@
 //! What commands work with.
-ghost use Rattle.std.specs.Prelude.{◌≡◌, ◌<◌, ◌≤◌, ◌^◌, min, IfOk};
+ghost use Rattle.std.specs.Prelude.{◌<◌, ◌≤◌, ◌^◌, IfOk};
 ghost use Rattle.up_journal.specs.Journal.{AreLimits};
 
 use super::on_journal::{Running, add_open_fault};

@@ -1,4 +1,4 @@
-use Rattle.std.proofs.Common.{[], Ok, Err, sym, subst, ap, arith}
+use Rattle.std.proofs.Common.{[], Ok, Err, arith}
 use Rattle.up_client.specs.declared.fault.ClientFault.TheVariants as faults
 use Rattle.up_client.specs.Getting.{fetched_at, fetching}
 use Rattle.up_client.proofs.Exits.{handed, with_result}

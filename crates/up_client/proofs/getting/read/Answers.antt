@@ -1,7 +1,5 @@
-use Rattle.std.proofs.Common.{Ok, ap, ◌∙◌, List, subst}
-use Rattle.up_entry.specs.declared.entries.Block.{Block}
 use Rattle.up_client.specs.Getting.{blocks_in, joined_blocks}
-use Rattle.up_client.specs.Talks.{Talks, done}
+use Rattle.up_client.specs.Talks.{done}
 use Rattle.up_client.proofs.Exits.{blocks_answered, exit_done, exit_stop, exit_then}
 use Rattle.up_client.proofs.getting.read.Goals as goal
 

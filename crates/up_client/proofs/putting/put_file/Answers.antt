@@ -1,4 +1,4 @@
-use Rattle.std.proofs.Common.{◌≡◌, ℤ, [], List, subst, w64, to_z, of_z}
+use Rattle.std.proofs.Common.{◌≡◌, ℤ, [], subst, w64, to_z, of_z}
 use Rattle.std.proofs.Math.Facts.{to_z-of_z}
 use Rattle.up_client.specs.Putting.{entering, pieces_of, storing}
 use Rattle.up_client.specs.Talks.{Talks}

@@ -1,6 +1,3 @@
-use Rattle.std.proofs.Common.{◌≡◌, Result, sym, subst}
-use Rattle.up_wire.specs.declared.replies.Reply.{Reply}
-use Rattle.up_wire.specs.declared.requests.Request.{Request}
 use Rattle.up_wire.specs.declared.requests.Request.TheVariants as requests
 use Rattle.up_client.specs.Putting.{reference_from, stored}
 use Rattle.up_client.specs.Talks.{Talks, done, reply_to}

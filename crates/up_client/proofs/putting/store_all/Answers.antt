@@ -1,8 +1,8 @@
-use Rattle.std.proofs.Common.{◌<◌, ◌+◌, [], length, Ok, Err, ap, sym, ◌∙◌, arith}
+use Rattle.std.proofs.Common.{[], length, Ok, Err, arith}
 use Rattle.up_client.specs.declared.fault.ClientFault.TheVariants as faults
-use Rattle.up_client.specs.Putting.{block_at, pieces_of, stored, storing}
+use Rattle.up_client.specs.Putting.{pieces_of, stored, storing}
 use Rattle.up_client.proofs.Exits.{handed, with_result}
-use Rattle.up_client.proofs.Fetching.{GoesOn, goes_wanting}
+use Rattle.up_client.proofs.Fetching.{goes_wanting}
 use Rattle.up_client.proofs.Storing.{none_left, piece_lengths, piece_smaller, some_left, store_end, store_more, store_stop}
 use Rattle.up_client.proofs.putting.store_all.Goals as goal
 

@@ -1,5 +1,5 @@
 -- what is held from here on is held from the start on
-use Rattle.std.proofs.Common.{◌≡◌, ◌≤◌, ◌+◌, [], length}
+use Rattle.std.proofs.Common.{◌≡◌, ◌+◌, [], length}
 use Rattle.up_client.specs.Putting.{pieces_of, storing}
 use Rattle.up_client.proofs.Fetching.{GoesOn}
 use Rattle.up_client.proofs.putting.store_all.Given as goal

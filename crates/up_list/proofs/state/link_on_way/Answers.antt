@@ -1,4 +1,4 @@
-use Rattle.std.proofs.Common.{◌≡◌, ap, sym, ◌∙◌, Some, None}
+use Rattle.std.proofs.Common.{◌≡◌, ap, sym, ◌∙◌, Some}
 use Rattle.std.specs.Option.{option_and_then, option_copied, option_map}
 use Rattle.up_replay.specs.Trees.{tree_of}
 use Rattle.up_list.specs.Checks.{first_link, ways}

@@ -1,9 +1,7 @@
 -- Each turn takes a word, and the line ends where no word is left, or at one that names nothing.
-use Rattle.std.proofs.Common.{◌≡◌, ◌∙◌, ◌++◌, [], ◌∷◌, None, option_map, take, vec_len, rules, arith}
+use Rattle.std.proofs.Common.{◌≡◌, None, arith}
 use Rattle.std.proofs.lemmas.Grind.{common_steps}
-use Rattle.up_names.specs.ControlTexts.{words_in}
 use Rattle.up_names.specs.ItemNames.{item_of}
-use Rattle.up_names.specs.ItemLists.{items_in}
 use Rattle.up_names.proofs.ItemListLemmas.{items_more, items_spoilt, items_all}
 use Rattle.up_names.proofs.item_lists.push_each.Goals as goal
 

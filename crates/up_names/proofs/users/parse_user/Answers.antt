@@ -1,5 +1,3 @@
-use Rattle.std.proofs.Common.{◌++◌, ◌∷◌}
-use Rattle.std.specs.Str.{str_to_ascii_lowercase}
 use Rattle.up_names.proofs.UserLemmas.{user_of-again}
 use Rattle.up_names.proofs.users.parse_user.Goals as goal
 

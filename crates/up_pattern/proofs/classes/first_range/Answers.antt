@@ -1,5 +1,5 @@
 use Rattle.std.proofs.Common.{◌≡◌, ◌∙◌, ◌∷◌, None, Some, ap, refl, rules}
-use Rattle.up_pattern.specs.Elements.{in_front, range_of, ranges_of}
+use Rattle.up_pattern.specs.Elements.{range_of, ranges_of}
 use Rattle.up_pattern.proofs.Ranges.{ranges_of-first}
 use Rattle.up_pattern.proofs.classes.first_range.Goals as goal
 

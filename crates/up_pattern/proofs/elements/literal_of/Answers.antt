@@ -1,7 +1,7 @@
-use Rattle.std.proofs.Common.{◌≡◌, ◌∙◌, ◌++◌, length, sym, ap, rules, arith}
+use Rattle.std.proofs.Common.{◌≡◌, ◌∙◌, ◌++◌, sym, ap, rules, arith}
 use Rattle.std.specs.Prelude.{encode_utf8}
 use Rattle.std.specs.String.{string_bytes}
-use Rattle.up_pattern.specs.Elements.{literal_of, prepended}
+use Rattle.up_pattern.specs.Elements.{prepended}
 use Rattle.up_pattern.proofs.Literals.{literal_of-drop_char, literal_of-drop_end, literal_of-drop_other}
 use Rattle.up_pattern.proofs.Parts.{prepended-append, prepended-nil, prepended-none}
 use Rattle.up_pattern.proofs.elements.literal_of.Goals as goal

@@ -1,9 +1,8 @@
-use Rattle.std.proofs.Common.{◌≡◌, ◌≢◌, ◌∙◌, ◌++◌, [], ◌∷◌, Bool, true, false, None, Some, refl, sym, ap, rules, arith}
+use Rattle.std.proofs.Common.{◌≡◌, ◌∙◌, ◌++◌, [], ◌∷◌, true, false, None, Some, refl, sym, ap, rules}
 use Rattle.std.specs.Str.{byte}
 use Rattle.std.proofs.lemmas.Result.{err_from_is_err_and}
 use Rattle.std.proofs.lemmas.List.{nil_from_length}
 use Rattle.up_pattern.specs.Elements.{class_of, in_front, is_sign, prepended, term_of, terms_behind}
-use Rattle.up_pattern.specs.declared.terms.Term.{Term}
 use Rattle.up_pattern.proofs.Closing.{terms_behind-class, terms_behind-nil, terms_behind-token, terms_behind-unclosed}
 use Rattle.up_pattern.proofs.Parts.{prepended-nil, prepended-none, prepended-push}
 use Rattle.up_pattern.proofs.elements.terms_outside.Goals as goal

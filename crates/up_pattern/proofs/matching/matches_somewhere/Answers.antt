@@ -1,10 +1,8 @@
-use Rattle.std.proofs.Common.{◌≡◌, ◌∷◌, ◌∙◌, [], Bool, true, false, List, ℕ, length, arith, rules, ap, sym}
+use Rattle.std.proofs.Common.{◌≡◌, ◌∙◌, true, false, length, arith, rules, ap, sym}
 use Rattle.std.specs.Str.{chars}
 use Rattle.std.proofs.lemmas.List.{nil_from_length}
 use Rattle.up_pattern.specs.Matching.{matches, stands_for, is_many}
-use Rattle.up_pattern.specs.declared.terms.Term.{Term}
-use Rattle.up_pattern.specs.declared.terms.Term.TheVariants.{Many}
-use Rattle.up_pattern.proofs.Stars.{Walks, walk_starts, walk-many_at, walk-one_at, walk-back, walk-none, walk-end, stuck-none, stuck-other}
+use Rattle.up_pattern.proofs.Stars.{walk_starts, walk-many_at, walk-one_at, walk-back, walk-end, stuck-none, stuck-other}
 use Rattle.up_pattern.proofs.matching.matches_somewhere.Goals as goal
 use Rattle.up_pattern.proofs.matching.matches_somewhere.Goals.{in_default-split_first-via-in-Some-2+else-stands_for, in_default-split_first-via-in_default-split_first}
 

@@ -1,7 +1,6 @@
-use Rattle.std.proofs.Common.{◌≡◌, ◌∷◌, ◌∙◌, [], Bool, true, false, ap, sym, rules}
-use Rattle.std.specs.Str.{chars}
+use Rattle.std.proofs.Common.{◌≡◌, ◌∙◌, true, false, sym, rules}
 use Rattle.std.proofs.lemmas.List.{nil_from_length}
-use Rattle.up_pattern.specs.Matching.{matches, stands_for, is_many}
+use Rattle.up_pattern.specs.Matching.{stands_for, is_many}
 use Rattle.up_pattern.proofs.Stars.{matches-one_at, matches-one_empty_at, no_terms-utf8, stuck-other}
 use Rattle.up_pattern.proofs.matching.matches_terms.Goals as goal
 

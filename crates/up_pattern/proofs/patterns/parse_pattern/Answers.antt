@@ -1,4 +1,4 @@
-use Rattle.std.proofs.Common.{◌≡◌, ◌∙◌, [], Ok, Some, sym, ap, rules, arith}
+use Rattle.std.proofs.Common.{◌≡◌, ◌∙◌, [], Ok, ap, rules, arith}
 use Rattle.std.specs.List.{before_first}
 use Rattle.up_names.specs.PathNames.{is_slash, pieces_of}
 use Rattle.up_names.specs.UserNames.{user_of}

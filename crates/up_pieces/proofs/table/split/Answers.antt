@@ -1,4 +1,4 @@
-use Rattle.std.proofs.Common.{◌≡◌, ◌<◌, ◌+◌, ◌^◌, List, ℕ, [], length, take, get_or, sym, ap, ◌∙◌, arith}
+use Rattle.std.proofs.Common.{◌≡◌, ◌<◌, ◌+◌, ◌^◌, List, ℕ, [], length, take, get_or, ap, ◌∙◌, arith}
 use Rattle.std.proofs.lemmas.List.{get_or_read, length-take-le}
 use Rattle.up_pieces.specs.Joined.{before}
 use Rattle.up_pieces.proofs.Moves.{places_small, cut_made, cut_joined, cut_low, cut_at, placed_cut}

@@ -1,7 +1,7 @@
-use Rattle.std.proofs.Common.{◌≡◌, ◌∙◌, ap, arith, ◌++◌, ◌+◌, length, ◌<◌}
+use Rattle.std.proofs.Common.{◌∙◌, ap, arith, ◌++◌, ◌+◌, length, ◌<◌}
 use Rattle.std.specs.Map.{keys_of}
 use Rattle.up_policy.specs.Members.{groups_in, text_of}
-use Rattle.up_policy.specs.Reached.{groups_named, is_wanted, nameable, with_paths}
+use Rattle.up_policy.specs.Reached.{groups_named, nameable, with_paths}
 use Rattle.up_policy.proofs.NeedLemmas.{added_same, on_err, part_of_needed, all_of_needed}
 use Rattle.up_policy.proofs.SearchLemmas.{looked_start, looked_more, looked_within, added_start, added_more, added_met}
 use Rattle.up_policy.proofs.VerdictLemmas.{lists_texts}

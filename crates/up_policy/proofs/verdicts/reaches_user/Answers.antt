@@ -1,4 +1,4 @@
-use Rattle.std.proofs.Common.{◌≡◌, ◌∙◌, ap, arith, ◌++◌, length, ◌<◌}
+use Rattle.std.proofs.Common.{◌∙◌, ap, arith, ◌++◌, length, ◌<◌}
 use Rattle.std.specs.Map.{keys_of}
 use Rattle.up_policy.specs.Members.{groups_in, text_of}
 use Rattle.up_policy.specs.Reached.{nameable, with_paths}

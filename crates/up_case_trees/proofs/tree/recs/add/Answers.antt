@@ -1,4 +1,4 @@
-use Rattle.std.proofs.Common.{◌≡◌, ◌≤◌, ◌<◌, ◌-◌, ◌^◌, ℕ, length, min, arith, subst, sym, ◌∙◌}
+use Rattle.std.proofs.Common.{◌≤◌, ◌<◌, ◌-◌, ◌^◌, ℕ, length, min, arith, subst}
 use Rattle.up_entry.specs.Spelling as spelling
 use Rattle.up_case_trees.proofs.tree.recs.add.Goals as goal
 

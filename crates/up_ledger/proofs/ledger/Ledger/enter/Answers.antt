@@ -1,9 +1,9 @@
-use Rattle.std.proofs.Common.{◌≡◌, ◌++◌, ◌∷◌, [], ℕ, Some, length, Result, Ok, Err, IsErrOf, sym, ap, ◌∙◌}
+use Rattle.std.proofs.Common.{◌≡◌, ◌++◌, ◌∷◌, [], ℕ, length, Result, Ok, Err, IsErrOf, sym, ap, ◌∙◌}
 use Rattle.up_faults.proofs.Causes.{HasCause-weaker}
 use Rattle.up_journal.specs.Logs.{log_state}
 use Rattle.up_journal.specs.declared.fault.AppendWhy.{AppendWhy}
 use Rattle.up_journal.specs.declared.fault.AppendWhy.TheVariants as append
-use Rattle.up_ledger.specs.Entries.{applied, entry_of, record_of}
+use Rattle.up_ledger.specs.Entries.{entry_of}
 use Rattle.up_ledger.specs.Ledger.{Enters, IsLedger, why_of}
 use Rattle.up_ledger.proofs.Entering.{entered, err_is, no_memory, not_entered, refused}
 use Rattle.up_ledger.proofs.ledger.Ledger.enter.Given.{Over}

@@ -1,6 +1,4 @@
-use Rattle.std.proofs.Common.{sym, ap, ◌∙◌}
 use Rattle.up_journal.proofs.Logs.{opens_log, refuses_opened, refuses_read}
-use Rattle.up_journal.proofs.Records.{opened_and_read}
 use Rattle.up_ledger.specs.Entries.{entry_of, fits, record_of}
 use Rattle.up_ledger.proofs.ledger.Ledger.open.Goals as goal
 

@@ -1,5 +1,5 @@
 use Rattle.std.proofs.Common.{◌≡◌, true, ap, subst, sym, ◌∙◌, slice_get}
-use Rattle.std.specs.FinMap.Entries.{is_sorted, put}
+use Rattle.std.specs.FinMap.Entries.{is_sorted}
 use Rattle.std.specs.List.{insert, remove}
 use Rattle.up_maps.proofs.Places.{put_fresh, put_there, sorted_put}
 use Rattle.up_maps.proofs.map.OrderedMap.put_reserved.Goals as goal

@@ -1,9 +1,9 @@
-use Rattle.std.proofs.Common.{◌≡◌, ◌∙◌, ◌+◌, ◌++◌, ◌<◌, refl, ℕ, Bool, true, false, [], ◌∷◌, length, get_or, drop, Some, None, sym, ap, rules, arith}
+use Rattle.std.proofs.Common.{◌≡◌, ◌∙◌, ◌+◌, ◌++◌, refl, true, false, [], ◌∷◌, length, sym, ap, rules, arith}
 use Rattle.std.specs.Str.{chars}
 use Rattle.std.proofs.lemmas.Iterator.{YieldsList-from_chars}
 use Rattle.std.proofs.lemmas.Iterator.Consumers.{YieldsList-turn, YieldsList-end}
 use Rattle.std.proofs.lemmas.List.{length_push}
-use Rattle.up_pattern.specs.Elements.{escapes, prepended, tokens_behind}
+use Rattle.up_pattern.specs.Elements.{escapes, prepended}
 use Rattle.up_pattern.proofs.Lexing.{tokens_behind-end, tokens_behind-escape, tokens_behind-token}
 use Rattle.up_pattern.proofs.Parts.{prepended-nil, prepended-none, prepended-push}
 use Rattle.up_pattern.proofs.tokens.Token.all_of.Goals as goal

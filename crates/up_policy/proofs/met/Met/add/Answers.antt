@@ -1,4 +1,4 @@
-use Rattle.std.proofs.Common.{◌≡◌, ap, ◌∙◌, sym}
+use Rattle.std.proofs.Common.{ap, ◌∙◌}
 use Rattle.up_policy.specs.Reached.{with_path}
 use Rattle.up_policy.proofs.MetLemmas.{paths_of, paths_insert}
 use Rattle.up_policy.proofs.met.Met.add.Goals as goal
