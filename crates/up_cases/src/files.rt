@@ -69,20 +69,31 @@ fn run_topic<R: RandomSource + AllocGlobal + Print>(
         "names" => run_lines(rt, file, Names, tally),
         "texts" => run_lines(rt, file, Texts, tally),
         "tree" => run_lines(rt, file, Trees, tally),
-        "ends" => run_lines(rt, file, Ends, tally),
         "messages" => run_lines(rt, file, Messages, tally),
         "replies" => run_lines(rt, file, Replies, tally),
         "requests" => run_lines(rt, file, Requests, tally),
-        "logs" => run_lines(rt, file, Logs::new(), tally),
-        "moves" => run_lines(rt, file, Moves, tally),
         "fields" => run_lines(rt, file, Fields, tally),
+        "patterns" => run_lines(rt, file, Patterns, tally),
+        _ => run_other_topic(rt, file, tally),
+    }
+}
+
+// The same of other topics: ends and frames, peers and signatures, and what logs are made of.
+fn run_other_topic<R: RandomSource + AllocGlobal + Print>(
+    rt: &R,
+    file: File<'_>,
+    tally: &mut Tally,
+) -> io::Result<()> {
+    match topic_of(file.name) {
+        "ends" => run_lines(rt, file, Ends, tally),
         "frames" => run_lines(rt, file, Streams, tally),
         "peers" => run_lines(rt, file, PeerLines, tally),
         "signing" => run_lines(rt, file, Signing, tally),
-        "patterns" => run_lines(rt, file, Patterns, tally),
         "references" => run_lines(rt, file, References, tally),
-        "crashes" => run_lines(rt, file, Crashes, tally),
         "records" => run_lines(rt, file, Records::new(), tally),
+        "logs" => run_lines(rt, file, Logs::new(), tally),
+        "moves" => run_lines(rt, file, Moves, tally),
+        "crashes" => run_lines(rt, file, Crashes, tally),
         _ => run_hashed(rt, file, RandomState::new(rt)?, tally),
     }
 }

@@ -81,7 +81,6 @@ impl<D: Disk + Drop> Host<D> {
     }
 
     /// The disks, in the order in which they were opened. A crash leaves on each its log, or it with its doubtful record.
-    #[tactic(auto, using(crate::proofs::HandingLemmas::behind))]
     pub fn into_disks(self) -> Disks<D>
         ensures disks { result.disks ≡ disks_of self }
         ensures safe { LeavesHost D.Disk self }
@@ -104,7 +103,6 @@ impl<D: Disk + Drop> Host<D> {
 }
 
 // Opens all disks, in their order.
-#[tactic(auto, using(crate::proofs::OpeningLemmas::tree_refused, crate::proofs::OpeningLemmas::logs_opened, crate::proofs::HandingLemmas::last_is_none))]
 fn open_logs<D: Disk + Drop>(
     alloc: Global,
     owners: Items<User>,
@@ -254,7 +252,6 @@ fn open_keys<D: Disk + Drop>(
 }
 
 // The disk after those of the opened trees was refused.
-#[tactic(auto, using(crate::proofs::HandingLemmas::in_order))]
 fn refusal<D: Disk + Drop>(
     room: Disks<D>,
     trees: Vec<Held<TreeState<D>>>,

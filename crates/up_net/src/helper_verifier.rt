@@ -117,7 +117,7 @@ fn question(
     }
 }
 
-/// Gives a command the words of a question, behind those that it has.
+/// Gives a command the words of a question, behind those that it has. For want of memory it may have a part of them.
 fn give_words(
     alloc: Global,
     command: &mut Command,

@@ -103,11 +103,17 @@ module _ {D P V C N : Type 0} (who : Parties D P V C N) where
     safe = means.safe;
   }
 
-  -- a disk failed
-  pub means_disk : (left old new : Option Text) (given back : List D) (before after : Around P V C N) (status : ℕ) → Means who left old new given back before after status → status ≡ 6
+  -- of statuses with which a run ends, one is that of a fault of a disk: a disk failed
+  pub means_disk : (left old new : Option Text) (given back : List D) (before after : Around P V C N) (status : ℕ) → (IsOneOf (0 ∷ 1 ∷ 3 ∷ 4 ∷ 5 ∷ 6 ∷ []) status → Means who left old new given back before after status) → status ≡ 6
       → Rose (sum_by who.disks.faults given) (sum_by who.disks.faults back)
-  means_disk left old new given back before after status means six below =
+  means_disk left old new given back before after status run six below =
+      let means = run (grind (arith)) in
       let first = faults_all who.disks (at_first given) in
       let last : sum_by who.disks.faults back ≡ faults_in who.disks means.state = ap (sum_by who.disks.faults) means.disks ∙ faults_all who.disks means.state in
       let rose = means.scripted.disk six (omega (arith, first, below)) in
       omega (arith, first, last, rose)
+
+  -- and one is that of a fault of the verifier
+  pub means_helper : (left old new : Option Text) (given back : List D) (before after : Around P V C N) (status : ℕ) → (IsOneOf (0 ∷ 1 ∷ 3 ∷ 4 ∷ 5 ∷ 6 ∷ []) status → Means who left old new given back before after status) → status ≡ 5
+      → Rose (who.verifiers.faults before.verifier) (who.verifiers.faults after.verifier)
+  means_helper left old new given back before after status run five = (run (grind (arith))).scripted.helper five

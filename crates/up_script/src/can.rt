@@ -7,13 +7,13 @@ ghost use Rattle.up_script.specs.CanRuns.{bad_line, run_of};
 ghost use Rattle.up_script.specs.Statuses.{AnswersWith, IsOneOf, answer_of, can_answer, code_of, input_limit, is_can, usage_line};
 
 use crate::can_script::CanScript;
-use crate::input::INPUT_LIMIT;
+use crate::input::read_script;
 use crate::output::{Stop, finish, print};
 use crate::saying::say_count;
 use crate::status::Status;
 use std::alloc::{AllocError, Global};
 use std::hash::RandomState;
-use up_ends::{ReadFault, Sink, Source, read_all, write_all};
+use up_ends::{Sink, Source, write_all};
 use up_text::next_line;
 
 /// What is printed where the words are not those of a command.
@@ -27,7 +27,6 @@ const USAGE: &str =
 /// 3 where the source or the sink failed, 4 for want of memory, 7 for an input of over 67,108,864 bytes, and 64 where
 /// the words are not `can` alone, with the usage line printed. After 2 and 7 nothing was written, after 3 and 4 a front
 /// of the text. The names that the script chooses are hashed with these keys.
-#[tactic(auto, using(crate::proofs::Answering::answers_nothing))]
 pub fn can_run<S: Source, K: Sink>(
     alloc: Global,
     random: RandomState,
@@ -64,11 +63,9 @@ pub fn can_run<S: Source, K: Sink>(
     if !is_can(words) {
         return usage(sink).code();
     }
-    match read_all(alloc, source, INPUT_LIMIT) {
+    match read_script(alloc, source) {
         Ok(input) => run_script(alloc, random, &input, sink).code(),
-        Err(ReadFault::TooLong) => Status::TooLong.code(),
-        Err(ReadFault::Failed) => Status::ReadFault.code(),
-        Err(ReadFault::OutOfMemory) => Status::OutOfMemory.code(),
+        Err(status) => status,
     }
 }
 

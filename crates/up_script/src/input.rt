@@ -8,8 +8,8 @@ use crate::status::Status;
 use std::alloc::Global;
 use up_ends::{ReadFault, Source, read_all};
 
-/// The most bytes that a script may have.
-pub const INPUT_LIMIT: u64 = 67_108_864;
+// The most bytes that a script may have.
+const INPUT_LIMIT: u64 = 67_108_864;
 
 /// All bytes of a script; or the number of the status with which a run of it ends, nothing of it done: 2 where the source failed, 4
 /// for want of memory, 7 for over 67,108,864 bytes.

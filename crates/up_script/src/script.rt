@@ -1,5 +1,5 @@
 //! `upspin script`: a script in, replies out.
-ghost use Rattle.std.specs.Prelude.{◌≡◌, ◌≢◌, ◌⊎◌, ◌+◌, ◌-◌, ◌<◌, ◌≤◌, ◌^◌, [], ◌∷◌, ◌++◌, false, true, length, map, IfOk, IfSome, IsErrOf, OnOk, Some, string_bytes};
+ghost use Rattle.std.specs.Prelude.{◌≡◌, ◌≢◌, ◌⊎◌, ◌+◌, ◌-◌, ◌<◌, ◌≤◌, ◌^◌, ◌↔◌, [], ◌∷◌, ◌++◌, false, true, length, map, IfOk, IfSome, IsErrOf, OnOk, Some, string_bytes};
 ghost use Rattle.std.specs.List.{AllByRecursion, sum_by};
 ghost use Rattle.std.specs.Io.KnownBytes.{Appends, IsAtEnd};
 ghost use Rattle.up_faults.specs.Counts.{Rose};
@@ -104,12 +104,9 @@ pub fn script_run<D: Disk + Drop, S: Source, K: Sink, V: Verifier, C: Clock, N: 
     if !is_script(words) {
         return usage(sink).code();
     }
-    match read_script(alloc, source) {
-        Ok(input) => run_script(
-            alloc, random, &input, sink, disks, peers, verifier, clock, nonces,
-        ),
-        Err(status) => status,
-    }
+    run_source(
+        alloc, random, source, sink, disks, peers, verifier, clock, nonces,
+    )
 }
 
 /// Whether the words are those of `upspin script`: the word `script`, and a helper's path.
@@ -119,6 +116,53 @@ fn is_script(words: &[String]) -> bool
     match words {
         [command, _helper] => command.as_str() == "script",
         _ => false,
+    }
+}
+
+/// Reads a script to its end, runs it, and answers the status with which that ended. Where it was not read, nothing was done.
+fn run_source<D: Disk + Drop, P: Loader, S: Source, K: Sink, V: Verifier, C: Clock, N: Nonces>(
+    alloc: Global,
+    random: RandomState,
+    source: &mut S,
+    sink: &mut K,
+    disks: &mut Disks<D>,
+    peers: &mut P,
+    verifier: &mut V,
+    clock: &mut C,
+    nonces: &mut N,
+) -> u8
+    requires eighty { length disks.old.disks ≡ 80 }
+    requires blank { AllByRecursion (IsBlank D.Disk) disks.old.disks }
+    ensures statuses { IsOneOf (0 ∷ 1 ∷ 2 ∷ 3 ∷ 4 ∷ 5 ∷ 6 ∷ 7 ∷ []) result }
+    ensures means { IsOneOf (0 ∷ 1 ∷ 3 ∷ 4 ∷ 5 ∷ 6 ∷ []) result
+        → Means (parties D.Disk P.Loader V.Verifier C.Clock N.Nonces)
+        (S.left source.old) (K.held sink.old) (K.held sink.new) disks.old.disks disks.new.disks
+        (around peers.old verifier.old clock.old nonces.old)
+        (around peers.new verifier.new clock.new nonces.new) result }
+    ensures whole { IsOneOf (0 ∷ 1 ∷ 3 ∷ 5 ∷ 6 ∷ []) result → IsAtEnd (S.left source.new)
+        × IfSome (S.left source.old) (λ bytes. length bytes ≤ input_limit) }
+    ensures unread { result ≡ 4 → IsAtEnd (S.left source.new)
+        ⊎ ((sink.new ≡ sink.old) × (disks.new ≡ disks.old)
+        × (around peers.new verifier.new clock.new nonces.new
+        ≡ around peers.old verifier.old clock.old nonces.old)) }
+    ensures untouched { IsOneOf (2 ∷ 7 ∷ []) result
+        → (sink.new ≡ sink.old) × (disks.new ≡ disks.old)
+        × (around peers.new verifier.new clock.new nonces.new
+        ≡ around peers.old verifier.old clock.old nonces.old) }
+    ensures read_fault { result ≡ 2 → Rose (S.faults source.old) (S.faults source.new) }
+    ensures write_fault { result ≡ 3 → Rose (K.faults sink.old) (K.faults sink.new) }
+    ensures long { S.given source.old + input_limit < 2 ^ 64 - 1
+        → (result ≡ 7 ↔ (S.given source.old + input_limit < S.given source.new)) }
+    ensures told_long { result ≡ 7
+        → IfSome (S.left source.old) (λ bytes. input_limit < length bytes) }
+    ensures source_counts { S.faults source.old ≤ S.faults source.new }
+    ensures sink_counts { K.faults sink.old ≤ K.faults sink.new }
+{
+    match read_script(alloc, source) {
+        Ok(input) => run_script(
+            alloc, random, &input, sink, disks, peers, verifier, clock, nonces,
+        ),
+        Err(status) => status,
     }
 }
 

@@ -1,12 +1,20 @@
 use Rattle.std.proofs.Common.{ap, arith}
 use Rattle.up_host.proofs.HandingLemmas.{last_is_none, one_left, stops_spare, takes_spare, two_left}
-use Rattle.up_host.proofs.OpeningLemmas.{keys_refused, store_refused}
+use Rattle.std.proofs.lemmas.Grind.{common_steps}
+use Rattle.up_host.proofs.OpeningLemmas.{keys_refused, logs_opened, store_refused, tree_refused}
 use Rattle.up_host.proofs.opening.open_logs.Goals as goal
+
+pub open_trees-requires-clause-room : goal.open_trees-requires-clause-room
+open_trees-requires-clause-room g c = grind (arith, common_steps)
 
 pub refusal-requires : goal.refusal-requires
 refusal-requires g c =
     let room = stops_spare g.D.Disk c.args.limits c.args.owners c.args.disks.disks c.open_trees.new.room.disks c.open_trees.new.trees.items c.in-Err.refused c.args.disks.spare c.open_trees.new.room.spare c.in-Err.ensures.stops c.in-Err.ensures.spare in
     omega (arith, room)
+
+pub returns-in-Err-clause-refuses : goal.returns-in-Err-clause-refuses
+returns-in-Err-clause-refuses g c =
+    tree_refused g.D.Disk c.args.limits c.args.owners c.args.disks.disks c.open_trees.new.room.disks c.open_trees.new.trees.items c.in-Err.refused c.refusal.result c.in-Err.ensures.stops c.refusal.ensures.disks c.refusal.ensures.which c.refusal.ensures.why
 
 pub returns-in-Err-clause-spare : goal.returns-in-Err-clause-spare
 returns-in-Err-clause-spare g c =
@@ -48,6 +56,13 @@ pub refusal_of_keys-requires-clause-none : goal.refusal_of_keys-requires-clause-
 refusal_of_keys-requires-clause-none g c =
     last_is_none g.D.Disk c.args.limits c.args.owners c.args.disks.disks c.open_trees.new.room.disks c.open_store.new.room.disks c.open_keys.new.room.disks c.open_trees.new.trees.items _ _ _ _ _ _
     c.in_default.ensures.opens c.open_store.ensures.takes c.open_keys.ensures.takes c.requires.disks
+
+pub returns-in-Ok-open_keys-clause-opens : goal.returns-in-Ok-open_keys-clause-opens
+returns-in-Ok-open_keys-clause-opens g c =
+    let none = last_is_none g.D.Disk c.args.limits c.args.owners c.args.disks.disks c.open_trees.new.room.disks c.open_store.new.room.disks c.open_keys.new.room.disks c.open_trees.new.trees.items _ _ _ _ _ _
+    c.in_default.ensures.opens c.open_store.ensures.takes c.open_keys.ensures.takes c.requires.disks in
+    logs_opened g.D.Disk c.args.limits c.args.owners c.args.disks.disks c.open_trees.new.room.disks c.open_store.new.room.disks c.open_keys.new.room.disks c.open_trees.new.trees.items c.in-Ok.store c.in-Ok-open_keys.keys
+    c.in_default.ensures.opens c.in-Ok.ensures.takes c.in-Ok-open_keys.ensures.takes none
 
 pub returns-in-Ok-open_keys-clause-room : goal.returns-in-Ok-open_keys-clause-room
 returns-in-Ok-open_keys-clause-room g c =

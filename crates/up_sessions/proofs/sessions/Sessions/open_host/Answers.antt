@@ -1,6 +1,8 @@
 use Rattle.std.proofs.Common.{◌≡◌, ◌≤◌, ◌+◌, ◌∷◌, ◌++◌, [], arith, length, refl, sym, ap, subst, ◌∙◌}
+use Rattle.std.specs.List.{AllByRecursion}
 use Rattle.std.specs.Vec.{vec_capacity, vec_len}
 use Rattle.up_sessions.proofs.OpeningLemmas.{adds_next, hands_none, kept_next, refuses_next, when_ok}
+use Rattle.up_sessions.specs.Opening.{IsBlank}
 use Rattle.up_sessions.specs.Worlds.{Hosts}
 use Rattle.up_sessions.specs.declared.fault.LineFault.TheVariants as line
 use Rattle.up_sessions.proofs.sessions.Sessions.open_host.Goals as goal
@@ -11,6 +13,12 @@ returns-then-is_err g c =
     rw (← c.self.view_is)
     (refuses_next g.D.Disk c.args.limits c.args.owners line.OutOfMemory c.self.inside.free c.self.inside.free c.self.inside.hosts.items c.reserve.new.self.items c.self.inside.sessions.items
     (hands_none g.D.Disk c.args.limits c.args.owners c.self.inside.free c.self.inside.free enough refl refl) c.reserve.ensures.items)
+
+pub next_host-requires-clause-disks : goal.next_host-requires-clause-disks
+next_host-requires-clause-disks g c = subst (λ (a : Hosts _). length c.args.owners + 2 ≤ length a.free) (sym c.self.view_is) c.requires.disks
+
+pub next_host-requires-clause-blank : goal.next_host-requires-clause-blank
+next_host-requires-clause-blank g c = subst (λ (a : Hosts _). AllByRecursion (IsBlank g.D.Disk) a.free) (sym c.self.view_is) c.requires.blank
 
 pub push_reserved-requires : goal.push_reserved-requires
 push_reserved-requires g c =
@@ -29,3 +37,9 @@ returns-in-Ok g c =
     rw (← c.self.view_is)
     (adds_next g.D.Disk c.args.limits c.args.name.now c.args.operator c.args.owners c.self.inside.free c.next_host.new.free c.in-Ok.host c.self.inside.hosts.items c.push_reserved.new.self.items c.self.inside.sessions.items
     c.in-Ok.ensures.opens later)
+
+pub returns-in-Err : goal.returns-in-Err
+returns-in-Err g c =
+    rw (← c.self.view_is)
+    (refuses_next g.D.Disk c.args.limits c.args.owners c.in-Err.why c.self.inside.free c.next_host.new.free c.self.inside.hosts.items c.reserve.new.self.items c.self.inside.sessions.items
+    c.in-Err.ensures.refuses c.reserve.ensures.items)
