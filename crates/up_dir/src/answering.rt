@@ -132,7 +132,6 @@ fn is_in_log_of(base: &User, owner: &User) -> Result<bool, AllocError>
 }
 
 /// The same, on a path of the tree.
-#[tactic(auto, unfolding(up_answers::specs::Answers::tree_outcome))]
 fn step_in_tree<D: Disk>(
     alloc: Global,
     state: &mut TreeState<D>,

@@ -1,10 +1,19 @@
 use Rattle.std.proofs.Common.{rules}
 use Rattle.up_tree.specs.States.{log_of}
 use Rattle.up_wire.specs.Bounds.{bounded}
+use Rattle.up_answers.specs.Answers.{tree_outcome}
 use Rattle.up_answers.specs.Watches.{watch_reply}
 use Rattle.up_adding.specs.Steps.{IsTold}
 use Rattle.up_dir.proofs.ReadLemmas.{reads_access, reads_glob, reads_group, reads_lookup, reads_watch}
 use Rattle.up_dir.proofs.answering.step_in_tree.Goals as goal
+
+pub returns-in-Put-clause-steps : goal.returns-in-Put-clause-steps
+unfolding tree_outcome
+returns-in-Put-clause-steps g c = c.change.ensures.steps (tree_outcome (log_of c.args.state.now) c.args.loaded.now c.args.fetched.now c.args.user.now c.args.asked) (search rules)
+
+pub returns-in-Delete-clause-steps : goal.returns-in-Delete-clause-steps
+unfolding tree_outcome
+returns-in-Delete-clause-steps g c = c.change-in-Delete.ensures.steps (tree_outcome (log_of c.args.state.now) c.args.loaded.now c.args.fetched.now c.args.user.now c.args.asked) (search rules)
 
 pub returns-in-Lookup-clause-steps : goal.returns-in-Lookup-clause-steps
 returns-in-Lookup-clause-steps g c =
