@@ -272,6 +272,35 @@ passed_right look tested path r h = lacking_right (rights look path) r (passed l
 pub passed_links : (look : Look) (tested : List PathName) (path : PathName) (needed : Option Right) → check look tested path needed ≡ None → first_link look.tree tested ≡ None
 passed_links look tested path needed h = (passed look tested path needed h).0
 
+-- no refusal tells of success
+pub refused_not : (look : Look) (tested : List PathName) (path : PathName) (needed : Option Right) (done : Done) → check look tested path needed ≡ Some (reply.Ok done) → ⊥
+unfolding check lacking
+refused_not look tested path needed done h = by_link (first_link look.tree tested) h
+  where
+    at : (link : Entry) (b : Bool) → (if b then reply.FollowLink (shown look link) else reply.Private) ≡ reply.Ok done → ⊥
+    at link true k = absurd (cc)
+    at link false k = absurd (cc)
+
+    same : (x y : Reply) → Some x ≡ Some y → x ≡ y
+    same x y k = cc
+
+    any : (b : Bool) → (if b then None else Some reply.Private) ≡ Some (reply.Ok done) → ⊥
+    any true k = absurd (some_none (reply.Ok done) (sym k))
+    any false k = absurd (let e = same reply.Private (reply.Ok done) k in cc)
+
+    this : (r : Right) (a b : Bool) → (if not a then Some reply.Private else if not b then Some (reply.Permission r) else None) ≡ Some (reply.Ok done) → ⊥
+    this r false b k = absurd (let e = same reply.Private (reply.Ok done) k in cc)
+    this r true false k = absurd (let e = same (reply.Permission r) (reply.Ok done) k in cc)
+    this r true true k = absurd (some_none (reply.Ok done) (sym k))
+
+    by_needed : (needed : Option Right) → lacking (rights look path) needed ≡ Some (reply.Ok done) → ⊥
+    by_needed None k = any (has_any (rights look path)) k
+    by_needed (Some r) k = this r (has_any (rights look path)) (has_right (rights look path) r) k
+
+    by_link : (found : Option Entry) → elim found as (λ _. Option Reply) [ Some link ↦ Some (at_link look link) | None ↦ lacking (rights look path) needed ] ≡ Some (reply.Ok done) → ⊥
+    by_link (Some link) k = at link (has_some look link.name) (same (at_link look link) (reply.Ok done) k)
+    by_link None k = by_needed needed k
+
 -- a check that is refused, or what is answered behind it
 pub behind_check : (a b : Option Reply) (x y : Reply) → a ≡ b → (a ≡ None → x ≡ y) → unwrap_or a x ≡ unwrap_or b y
 behind_check a b x y same rest = go a refl ∙ ap (λ o. unwrap_or o y) same

@@ -175,8 +175,9 @@ module _ (one two : Look) (alike : AreAlike one two) where
       ap (λ b. is_candidate pattern path && (b && (not (ends_literal passed) || has_some one path))) (listed_same path 0 passed)
       ∙ ap (λ b. is_candidate pattern path && (is_listed two path 0 passed && (not (ends_literal passed) || b))) (same_some one two alike path)
 
--- An item that may be shown is seen itself, or is listed in its parent.
-pub met_seen : (look : Look) (pattern : PatternName) (path : PathName) → is_met look pattern path ≡ true → (has_some look path ≡ true) ⊎ ((dir : PathName) × (parent_of path ≡ Some dir) × ((rights look dir).list ≡ true))
+-- An item that may be shown is seen itself, or, where the last element that it matches is not literal, is listed in its parent.
+pub met_seen : (look : Look) (pattern : PatternName) (path : PathName) → is_met look pattern path ≡ true
+    → (has_some look path ≡ true) ⊎ ((ends_literal (take (length path.elements) pattern.elements) ≡ false) × ((dir : PathName) × (parent_of path ≡ Some dir) × ((rights look dir).list ≡ true)))
 unfolding is_met is_candidate
 met_seen look pattern path h = go (ends_literal passed) refl (or_cases (not (ends_literal passed)) (has_some look path) parts.1)
   where
@@ -205,9 +206,10 @@ met_seen look pattern path h = go (ends_literal passed) refl (or_cases (not (end
       ap (λ k. (rights look (cut k path)).list) (let z : length path.elements - 1 ≡ 0 + length passed - 1 = omega (arith, size) in z) ∙ listed_last look path 0 passed parts.0 e,
     )
 
-    go : (b : Bool) → ends_literal passed ≡ b → ((not (ends_literal passed) ≡ true) ⊎ (has_some look path ≡ true)) → (has_some look path ≡ true) ⊎ ((dir : PathName) × (parent_of path ≡ Some dir) × ((rights look dir).list ≡ true))
+    go : (b : Bool) → ends_literal passed ≡ b → ((not (ends_literal passed) ≡ true) ⊎ (has_some look path ≡ true))
+        → (has_some look path ≡ true) ⊎ ((ends_literal passed ≡ false) × ((dir : PathName) × (parent_of path ≡ Some dir) × ((rights look dir).list ≡ true)))
     go b e (inr seen) = inl seen
-    go false e (inl open') = inr (listed e)
+    go false e (inl open') = inr (e, listed e)
     go true e (inl open') = absurd (false≢true (ap not (sym e) ∙ open'))
 
 module _ (one two : Look) (alike : AreAlike one two) (rooted : IsRooted one.owner one.tree) (rooted' : IsRooted two.owner two.tree) (sorted : T (is_sorted path_cmp one.tree)) (sorted' : T (is_sorted path_cmp two.tree)) where
@@ -221,7 +223,7 @@ module _ (one two : Look) (alike : AreAlike one two) (rooted : IsRooted one.owne
       entries : (q : PathName) → is_met one pattern q ≡ true → option_map (shown_node one) (node_at one.tree q) ≡ option_map (shown_node two) (node_at two.tree q)
       entries q met = elim (met_seen one pattern q met) [
         | inl some ↦ same_entry one two alike q some
-        | inr listed ↦ listed_entry one two alike rooted rooted' sorted sorted' listed.0 q listed.1 listed.2
+        | inr listed ↦ let in' = listed.1 in listed_entry one two alike rooted rooted' sorted sorted' in'.0 q in'.1 in'.2
       ]
 
       go : (q : PathName) (met : Bool) → is_met one pattern q ≡ met → option_and_then (row_of one pattern q) (node_at one.tree q) ≡ option_and_then (row_of two pattern q) (node_at two.tree q)

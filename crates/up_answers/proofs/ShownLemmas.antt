@@ -1,6 +1,6 @@
 -- What rows of Glob and items of Watch show is seen.
 use Rattle.std.proofs.Common.{◌≡◌, ◌-◌, Bool, true, false, cond, ◌&&◌, ◌||◌, List, [], ◌∷◌, length, refl, sym, ap, subst, ◌∙◌, inl, inr, Option, Some, None, is_some}
-use Rattle.std.specs.Prelude.{if◌then◌else◌, Contains, MatchOption, ◌==◌}
+use Rattle.std.specs.Prelude.{if◌then◌else◌, Contains, MatchOption, ◌==◌, unwrap_or}
 use Rattle.std.specs.FinMap.Entries.{find}
 use Rattle.std.specs.List.{cons_option}
 use Rattle.std.specs.Map.{values_of}
@@ -11,20 +11,29 @@ use Rattle.up_names.specs.PathOrderLaws.{path_cmp_eq}
 use Rattle.up_rights.specs.declared.Right.TheVariants as right
 use Rattle.up_entry.specs.Rules.{is_directory}
 use Rattle.up_pattern.specs.Patterns.{PatternName}
+use Rattle.up_names.specs.Texts.{UserName}
+use Rattle.up_policy.specs.Loadings.{Loading}
 use Rattle.up_policy.proofs.PathLists.{Contains-behind, Contains-head}
+use Rattle.up_wire.specs.declared.replies.Done.TheVariants as done
+use Rattle.up_wire.specs.declared.replies.Reply.{Reply}
+use Rattle.up_wire.specs.declared.replies.Reply.TheVariants as reply
 use Rattle.up_wire.specs.declared.replies.Row.{Row}
 use Rattle.up_wire.specs.declared.replies.WatchEvent.{WatchEvent}
 use Rattle.up_replay.specs.declared.node.Node.{Node}
 use Rattle.up_replay.specs.Fits.{HasDirectory}
+use Rattle.up_replay.specs.Logs.{Log}
 use Rattle.up_replay.specs.Trees.{is_link, is_parent, kind_of, made_of, node_at, tree_of}
 use Rattle.up_replay.proofs.Paths.{parent_passes, path_same, some_none, some_same}
 use Rattle.up_replay.proofs.Rooted.{rooted}
 use Rattle.up_replay.proofs.Trees.{find-made, tree_sorted}
-use Rattle.up_list.specs.Globs.{is_met, row_of}
+use Rattle.up_list.specs.Checks.{check, ways}
+use Rattle.up_list.specs.Entries.{entry_at, entry_of}
+use Rattle.up_list.specs.Globs.{glob_reply, is_met, is_whole, literal_path, one_row, row_of, rows_reply, whole_reply}
 use Rattle.up_list.specs.Looks.{Look, has_some, look_now, rights, shown}
-use Rattle.up_answers.specs.Laws.{ItemsAreSeen, RowsAreShown}
+use Rattle.up_answers.specs.Laws.{EndsUnlike, IsListedAt, IsSeenAt, IsWhole, ItemsAreSeen, RowsAreShown}
 use Rattle.up_answers.specs.Views.{of_directory, shown_children, shown_node, sight, view, where_held}
 use Rattle.up_answers.specs.Watches.{items_under}
+use Rattle.up_answers.proofs.AlikeLemmas.{passed_some, refused_not}
 use Rattle.up_answers.proofs.RightLemmas.{any_from}
 use Rattle.up_answers.proofs.SeenLemmas.{met_seen}
 
@@ -59,10 +68,14 @@ row_met look pattern path node row h = go (is_met look pattern path) (length pat
     go true false e k = absurd (some_none row (sym k))
     go false b e k = absurd (some_none row (sym k))
 
-pub rows_are_shown : RowsAreShown
-rows_are_shown log loaded user pattern path node row is there h = elim (met_seen look pattern path met.0) [
+-- the row of an item that matches
+matched : (log : Log) (loaded : Loading) (user : UserName) (pattern : PatternName) (path : PathName) (node : Node) (row : Row) → IsWhole log →
+    node_at (tree_of log.records) path ≡ Some node → row_of (look_now log loaded user) pattern path node ≡ Some row →
+    IsSeenAt (look_now log loaded user) path row.entry ⊎ (EndsUnlike pattern path × IsListedAt (look_now log loaded user) path row.entry)
+matched log loaded user pattern path node row is there h = elim (met_seen look pattern path met.0) [
   | inl some ↦ inl (sight look path, view_is look path some, ap (option_map (shown_node look)) there ∙ ap Some (sym met.1))
-  | inr listed ↦ inr (listed.0, sight look listed.0, shown_children look listed.0, listed.1, view_is look listed.0 (any_from (rights look listed.0) right.List listed.2), children listed.0 listed.1 listed.2, among listed.0 listed.1)
+  | inr unlike ↦ let listed = unlike.1 in
+      inr (unlike.0, (listed.0, sight look listed.0, shown_children look listed.0, listed.1, view_is look listed.0 (any_from (rights look listed.0) right.List listed.2), children listed.0 listed.1 listed.2, among listed.0 listed.1))
 ]
   where
     look : Look
@@ -85,6 +98,28 @@ rows_are_shown log loaded user pattern path node row is there h = elim (met_seen
         ∙ (ap (option_and_then (λ n. if is_parent dir path then Some (shown_node (look_now log loaded user) n) else None)) there
         ∙ (ap (λ b. if b then Some (shown (look_now log loaded user) node.entry) else None) (parent_passes dir path parent)
         ∙ ap Some (sym met.1))))
+
+-- the one row of a pattern that is all literal
+literal : (look : Look) (pattern : PatternName) (rows : List Row) → is_whole pattern ≡ true → glob_reply look pattern ≡ reply.Ok (done.Rows rows) → (row : Row) × (rows ≡ row ∷ []) × IsSeenAt look (literal_path pattern) row.entry
+unfolding glob_reply whole_reply
+literal look pattern rows whole h = go (check look (ways path) path None) refl (sym (ap (λ b. if b then unwrap_or (check look (ways path) path None) (one_row look (entry_at look.tree path)) else unwrap_or (check look (ways path) path (Some right.List)) (rows_reply look pattern (entry_at look.tree path))) whole) ∙ h)
+  where
+    path : PathName
+    path = literal_path pattern
+
+    found : has_some look path ≡ true → (node : Option Node) → node_at look.tree path ≡ node → one_row look (option_map entry_of node) ≡ reply.Ok (done.Rows rows) → (row : Row) × (rows ≡ row ∷ []) × IsSeenAt look path row.entry
+    found some None there k = absurd (cc)
+    found some (Some node) there k =
+        let row : Row = record { entry = shown look node.entry; rest = 0 } in
+        let same : row ∷ [] ≡ rows = cc in
+        (row, sym same, (sight look path, view_is look path some, ap (option_map (shown_node look)) there))
+
+    go : (refusal : Option Reply) → check look (ways path) path None ≡ refusal → unwrap_or refusal (one_row look (entry_at look.tree path)) ≡ reply.Ok (done.Rows rows) → (row : Row) × (rows ≡ row ∷ []) × IsSeenAt look path row.entry
+    go None e k = found (passed_some look (ways path) path None e) (node_at look.tree path) refl k
+    go (Some refusal) e k = absurd (refused_not look (ways path) path None (done.Rows rows) (e ∙ ap Some k))
+
+pub rows_are_shown : RowsAreShown
+rows_are_shown = record { matched = matched; literal = literal }
 
 -- ---- items
 

@@ -1,5 +1,5 @@
 -- Laws of answers: nothing stands below a link, and what a user is answered depends on what the user sees alone.
-use Rattle.std.specs.Prelude.{◌≡◌, ◌≢◌, ℕ, ◌<◌, ◌≤◌, ◌⊎◌, ◌↔◌, true, false, List, [], ◌∷◌, ◌++◌, length, ⊤, if◌then◌else◌, ◌&&◌, is_some, Contains, IsTrue, Option, Some, None}
+use Rattle.std.specs.Prelude.{◌≡◌, ◌≢◌, ℕ, ◌<◌, ◌≤◌, ◌⊎◌, ◌↔◌, true, false, List, [], ◌∷◌, ◌++◌, length, take, ⊤, if◌then◌else◌, ◌&&◌, is_some, Contains, IsTrue, Option, Some, None}
 use Rattle.std.specs.Str.{bytes_eq}
 use Rattle.up_names.specs.Texts.{UserName}
 use Rattle.up_names.specs.PathNames.{PathName, control_of, cut, ends_in_access, is_under, parent_of}
@@ -19,7 +19,8 @@ use Rattle.up_policy.specs.declared.load_answer.LoadAnswer.{LoadAnswer}
 use Rattle.up_policy.specs.Trees.{TreeFacts, owns_snapshots}
 use Rattle.up_policy.specs.Verdicts.{HasRight}
 use Rattle.up_wire.specs.declared.replies.Reply.{Reply}
-use Rattle.up_wire.specs.declared.replies.Reply.TheVariants.{Private}
+use Rattle.up_wire.specs.declared.replies.Done.TheVariants.{Rows}
+use Rattle.up_wire.specs.declared.replies.Reply.TheVariants.{Ok, Private}
 use Rattle.up_wire.specs.declared.requests.Request.{Request}
 use Rattle.up_replay.specs.Trees.{made_of, node_at, tree_of}
 use Rattle.up_replay.specs.declared.node.Node.{Node}
@@ -29,7 +30,7 @@ use Rattle.up_replay.specs.Logs.{Log}
 use Rattle.up_replay.specs.Sizes.{size_of}
 use Rattle.up_list.specs.Looks.{Look, rights, has_some, look_now, shown}
 use Rattle.up_list.specs.Checks.{check, link_at, ways}
-use Rattle.up_list.specs.Globs.{is_met, row_of}
+use Rattle.up_list.specs.Globs.{ends_literal, glob_reply, is_met, is_whole, literal_path, row_of}
 use Rattle.up_answers.specs.Agreement.{Agree, SeesTheSame, used}
 use Rattle.up_answers.specs.Answers.{added, answer}
 use Rattle.up_answers.specs.Fetching.{Fetched}
@@ -61,18 +62,32 @@ abbrev pub ChecksAreAlike : Type 0
 ChecksAreAlike = (user : UserName) (loaded : Loading) (one two : Log) → IsWhole one → IsWhole two → one.owner ≡ two.owner → user ≢ one.owner → SeesTheSame user loaded one two →
     (path : PathName) (needed : Option Right) → check (look_now one loaded user) (ways path) path needed ≡ check (look_now two loaded user) (ways path) path needed
 
+-- the last of the elements of a pattern that a path matches is not literal
+abbrev pub EndsUnlike : PatternName → PathName → Type 0
+EndsUnlike pattern path = ends_literal (take (length path.elements) pattern.elements) ≡ false
+
 -- an item that a row of Glob shows is seen at its path, or, where the last element that it matches is not literal, is listed in its parent
 abbrev pub RowsAreSeen : Type 0
 RowsAreSeen = (look : Look) (pattern : PatternName) (path : PathName) → is_met look pattern path ≡ true →
-    (has_some look path ≡ true) ⊎ ((dir : PathName) × (parent_of path ≡ Some dir) × ((rights look dir).list ≡ true))
+    (has_some look path ≡ true) ⊎ (EndsUnlike pattern path × ((dir : PathName) × (parent_of path ≡ Some dir) × ((rights look dir).list ≡ true)))
 
--- The entry of a row of Glob is seen at its path, or among the children in what is seen of its parent.
-abbrev pub RowsAreShown : Type 0
-RowsAreShown = (log : Log) (loaded : Loading) (user : UserName) (pattern : PatternName) (path : PathName) (node : Node) (row : Row) → IsWhole log →
-    node_at (tree_of log.records) path ≡ Some node → row_of (look_now log loaded user) pattern path node ≡ Some row →
-    ((seen : View) × (view (look_now log loaded user) path ≡ Some seen) × (seen.entry ≡ Some row.entry))
-    ⊎ ((dir : PathName) × (seen : View) × (listed : List (PathName × Entry)) × (parent_of path ≡ Some dir) × (view (look_now log loaded user) dir ≡ Some seen)
-    × (seen.children ≡ Some listed) × Contains listed (path, row.entry))
+-- an entry is what is seen at a path
+abbrev pub IsSeenAt : Look → PathName → Entry → Type 0
+IsSeenAt look path entry = (seen : View) × (view look path ≡ Some seen) × (seen.entry ≡ Some entry)
+
+-- an entry is among the children in what is seen of the parent of a path
+abbrev pub IsListedAt : Look → PathName → Entry → Type 0
+IsListedAt look path entry = (dir : PathName) × (seen : View) × (listed : List (PathName × Entry)) × (parent_of path ≡ Some dir) × (view look dir ≡ Some seen)
+    × (seen.children ≡ Some listed) × Contains listed (path, entry)
+
+-- The entry of a row of Glob is seen at its path, or, where the last element that it matches is not literal, among the children in
+-- what is seen of its parent. A pattern that is all literal has one row, whose entry is seen at the pattern's path.
+pub record RowsAreShown : Type 0 where
+  pub matched : (log : Log) (loaded : Loading) (user : UserName) (pattern : PatternName) (path : PathName) (node : Node) (row : Row) → IsWhole log →
+      node_at (tree_of log.records) path ≡ Some node → row_of (look_now log loaded user) pattern path node ≡ Some row →
+      IsSeenAt (look_now log loaded user) path row.entry ⊎ (EndsUnlike pattern path × IsListedAt (look_now log loaded user) path row.entry)
+  pub literal : (look : Look) (pattern : PatternName) (rows : List Row) → is_whole pattern ≡ true → glob_reply look pattern ≡ Ok (Rows rows) →
+      (row : Row) × (rows ≡ row ∷ []) × IsSeenAt look (literal_path pattern) row.entry
 
 -- the items of Watch are those under the watched path of which something is seen
 abbrev pub ItemsAreSeen : Type 0

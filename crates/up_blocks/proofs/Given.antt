@@ -15,13 +15,13 @@ use Rattle.up_blocks.specs.declared.fault.BlockWhy.TheVariants as why
 use Rattle.up_blocks.proofs.Indexed.{index_holds, payload_at, size_untold}
 use Rattle.up_blocks.proofs.Stored.{count_is, resolved_at, safe_at, sizes_seen}
 use Rattle.up_disk.proofs.Moments.{started}
-use Rattle.up_faults.specs.Counts.{HasCause}
-use Rattle.up_faults.proofs.Causes.{HasCause-same, HasCause-weaker}
+use Rattle.up_lists.specs.Counts.{HasCause}
+use Rattle.up_lists.proofs.Causes.{HasCause-same, HasCause-weaker}
 use Rattle.up_journal.specs.declared.fault.ReadWhy.{ReadWhy}
 use Rattle.up_journal.specs.declared.fault.ReadWhy.TheVariants as read
 use Rattle.std.proofs.lemmas.Option.{slice_get-map, slice_get_within}
 use Rattle.up_disk.specs.declared.disk.Disk.{Ghosts}
-use Rattle.up_journal.specs.Crashes.{Leaves, LeavesNow}
+use Rattle.up_disk.specs.Leaving.{Leaves, LeavesNow}
 use Rattle.up_journal.specs.Journal.{HasLog, IsSettled, StandsFor, State}
 use Rattle.up_journal.specs.Logs.{EachFits, OpensLog, ResolvesLog, StandsForLog, log_step}
 use Rattle.up_journal.specs.Opened.{IsLogOf}

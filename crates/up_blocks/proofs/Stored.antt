@@ -12,9 +12,9 @@ use Rattle.up_blocks.specs.declared.record.Kept.{Kept}
 use Rattle.up_blocks.proofs.Indexed.{delete_is, index_length, index_more, kept_untold, fits_untold, put_is, reads, size_untold, sizes_more}
 use Rattle.up_disk.specs.declared.disk.Disk.{Ghosts}
 use Rattle.up_disk.proofs.Moments.{started, weaker}
-use Rattle.up_faults.specs.Counts.{HasCause}
-use Rattle.up_faults.proofs.Causes.{HasCause-same, HasCause-weaker}
-use Rattle.up_journal.specs.Crashes.{Leaves, LeavesNow}
+use Rattle.up_lists.specs.Counts.{HasCause}
+use Rattle.up_lists.proofs.Causes.{HasCause-same, HasCause-weaker}
+use Rattle.up_disk.specs.Leaving.{Leaves, LeavesNow}
 use Rattle.up_journal.specs.Journal.{IsSettled, MayHave, StandsFor, State, is_full, with_further}
 use Rattle.up_journal.specs.Logs.{AddsRecord, EachFits, IsSettledLog, KeepsLog, MayHaveLog, ResolvesLog, StandsForLog, log_state}
 use Rattle.up_journal.specs.declared.fault.AppendWhy.{AppendWhy}

@@ -7,8 +7,8 @@ use Rattle.up_blocks.specs.declared.fault.BlockWhy.TheVariants as why
 use Rattle.up_blocks.specs.declared.record.BlockRecord.{BlockRecord}
 use Rattle.up_blocks.specs.declared.record.BlockRecord.TheVariants.{Delete}
 use Rattle.up_disk.specs.declared.disk.Disk.{Ghosts}
-use Rattle.up_faults.specs.Counts.{HasCause}
-use Rattle.up_journal.specs.Crashes.{Leaves}
+use Rattle.up_lists.specs.Counts.{HasCause}
+use Rattle.up_disk.specs.Leaving.{Leaves}
 use Rattle.up_journal.specs.Journal.{is_full}
 use Rattle.up_journal.specs.Logs.{AddsRecord, LogState, StandsForLog}
 use Rattle.up_journal.specs.declared.fault.AppendWhy.{AppendWhy}

@@ -8,7 +8,7 @@ use Rattle.up_blocks.specs.declared.record.BlockRecord.TheVariants.{Put, Delete}
 use Rattle.up_blocks.specs.declared.record.Kept.{Kept}
 use Rattle.up_blocks.specs.declared.record.Kept.TheVariants as kept
 use Rattle.up_disk.specs.declared.disk.Disk.{Ghosts}
-use Rattle.up_journal.specs.Crashes.{LeavesNow}
+use Rattle.up_disk.specs.Leaving.{LeavesNow}
 use Rattle.up_journal.specs.Journal.{State}
 use Rattle.up_journal.specs.Logs.{EachFits, KeepsLog, LogState, further_record, log_step}
 use Rattle.up_maps.specs.Numbers.{AreNumbers}

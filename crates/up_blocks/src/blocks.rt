@@ -9,8 +9,9 @@ ghost use Rattle.up_blocks.specs.Records.{IsTold, blocks_in, blocks_of, decoded,
 ghost use Rattle.up_blocks.specs.declared.record.BlockRecord.TheVariants.{Delete};
 ghost use Rattle.up_ends.specs.Growing.{OnlyGrows};
 ghost use Rattle.up_refs.specs.Sha256.{sha256};
-ghost use Rattle.up_faults.specs.Counts.{HasCause};
-ghost use Rattle.up_journal.specs.Crashes.{IsOpened, LeavesNow};
+ghost use Rattle.up_lists.specs.Counts.{HasCause};
+ghost use Rattle.up_disk.specs.Leaving.{LeavesNow};
+ghost use Rattle.up_journal.specs.Crashes.{IsOpened};
 ghost use Rattle.up_journal.specs.Journal.{AreLimits};
 ghost use Rattle.up_journal.specs.Opened.{IsRefusedFor};
 ghost use Rattle.up_journal.specs.Logs.{EachFits, OpensLog, RefusesLog, ResolvesLog, StandsForLog};
@@ -117,6 +118,13 @@ impl<D: Disk> Blocks<D> {
         ensures { option_copied result ≡ slice_get (keys_of (blocks_of self.now.log)) i }
     {
         self.index.numbers.key_at(i)
+    }
+
+    /// The limits.
+    pub fn limits(&self) -> Limits
+        ensures { result ≡ self.now.limits }
+    {
+        self.journal.limits()
     }
 
     /// The bytes of a block: one read at their place. `NotExist` comes exactly where none with this reference is held, and then,

@@ -3,7 +3,7 @@ ghost use Rattle.std.specs.Prelude.{◌≡◌, ◌++◌, ◌∷◌, [], ℕ, Lis
 ghost use Rattle.up_blocks.specs.Kept.{IsIndex, IsTaken, log_seen, record_of, size_kept};
 ghost use Rattle.up_blocks.specs.Records.{decoded, fits};
 ghost use Rattle.up_blocks.specs.declared.record.BlockRecord.{BlockRecord as OneRecord};
-ghost use Rattle.up_faults.specs.Counts.{HasCause};
+ghost use Rattle.up_lists.specs.Counts.{HasCause};
 ghost use Rattle.up_journal.specs.Logs.{EachFits, log_step};
 ghost use Rattle.up_journal.specs.Opened.{IsDamageOf};
 ghost use Rattle.up_journal.specs.Records.{OnlyPayloads, replay};

@@ -1,15 +1,14 @@
 //! What comes of a script. Each object that it runs over is made in a function of its own.
 ghost use Rattle.std.specs.Prelude.{◌≡◌, length};
 ghost use Rattle.std.specs.List.{AllByRecursion};
-ghost use Rattle.up_sessions.specs.Opening.{IsBlank};
+ghost use Rattle.up_disk.specs.Leaving.{IsBlank};
 
 use crate::around::ToldPeer;
 use crate::by_proof::ByProof;
 use crate::script::{Command, Script};
 use std::alloc::{AllocError, Global};
-use up_blank::blank_disks;
 use up_case_lines::Fault;
-use up_disk::{Disk, Disks, MemDisk};
+use up_disk::{Disk, Disks, MemDisk, blank_disks};
 use up_ends::{FixedClock, ListNonces, MemSink, MemSource};
 use up_lists::Items;
 use up_peer::{Peer, Peers};

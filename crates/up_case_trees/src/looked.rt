@@ -72,7 +72,7 @@ pub fn met_line(
     answer: &mut Answer,
 ) -> Result<(), Fault> {
     let path = path_of(alloc, words.one()?)?;
-    let found = first_link(tree, &path, keyword == "met")?;
+    let found = first_link(alloc, tree, &path, keyword == "met")?;
     add_link(&found, answer);
     drop(found);
     Ok(())

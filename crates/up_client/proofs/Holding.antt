@@ -1,7 +1,7 @@
 -- Conversations, one after the other.
 use Rattle.std.proofs.Common.{◌≡◌, ◌≢◌, Option, Result, Ok, Err, sym, subst}
 use Rattle.std.specs.Prelude.{IsErrOf}
-use Rattle.up_faults.proofs.Causes.{HasCause-then, HasCause-same, HasCause-weaker}
+use Rattle.up_lists.proofs.Causes.{HasCause-then, HasCause-same, HasCause-weaker, StaysUnless-more, StaysUnless-same, StaysUnless-then}
 use Rattle.up_wire.specs.declared.requests.Request.{Request}
 use Rattle.up_wire.specs.declared.replies.Reply.{Reply}
 use Rattle.up_wire.specs.declared.replies.Reply.TheVariants as replies
@@ -61,6 +61,7 @@ module _ {S : Type 0} (asked : Ghosts S) (same : (a : S) → asked.tied a a) (jo
   still talk result a none held = record {
     held = held;
     cause = HasCause-same (asked.faults a) (IsErrOf result Failed) (λ failed. absurd (none failed));
+    quiet = StaysUnless-same (asked.faults a) (IsErrOf result Failed);
     tie = same a;
   }
 
@@ -79,9 +80,10 @@ module _ {S : Type 0} (asked : Ghosts S) (same : (a : S) → asked.tied a a) (jo
   -- the one ended well, and then the other was held
   pub talks_then : {X Y : Type 0} (talk : Talking X) (more : X → Talking Y) (a b c : S) (x : X) (result : Result Y ClientFault)
       → Talks asked talk a (Ok x) b → Talks asked (more x) b result c → Talks asked (and_then talk more) a result c
-  talks_then talk more a b c x result first after = record {
+  talks_then {X} {Y} talk more a b c x result first after = record {
     held = held_then asked.answers talk more a b c x result first.held after.held;
     cause = HasCause-then (asked.faults a) (asked.faults b) (asked.faults c) _ _ first.cause after.cause;
+    quiet = StaysUnless-then (asked.faults a) (asked.faults b) (asked.faults c) (IsErrOf {T = X} (Ok x) Failed) (IsErrOf result Failed) (IsErrOf result Failed) first.quiet (λ failed. absurd (cc)) after.quiet (λ failed. failed);
     tie = joined a b c first.tie after.tie;
   }
 
@@ -91,6 +93,7 @@ module _ {S : Type 0} (asked : Ghosts S) (same : (a : S) → asked.tied a a) (jo
   talks_stop {X} {Y} talk more a b fault first = record {
     held = held_stop asked.answers talk more a b fault first.held;
     cause = HasCause-weaker (asked.faults a) (asked.faults b) (IsErrOf {T = X} (Err fault) Failed) (IsErrOf {T = Y} (Err fault) Failed) first.cause (λ failed. cc);
+    quiet = StaysUnless-more (asked.faults a) (asked.faults b) (IsErrOf {T = X} (Err fault) Failed) (IsErrOf {T = Y} (Err fault) Failed) first.quiet (λ failed. cc);
     tie = first.tie;
   }
 

@@ -2,7 +2,7 @@
 use Rattle.std.specs.Prelude.{◌≡◌, ◌≢◌, ◌⊎◌, ℕ, suc, List, [], ◌∷◌, length, Option, Some, is_none, IfSome, Ok}
 use Rattle.std.specs.List.{AllZip, concat}
 use Rattle.sha2.specs.Sha256.{sha256}
-use Rattle.up_faults.specs.Calls.{CallPlan, after_call, fails_next}
+use Rattle.up_lists.specs.Calls.{CallPlan, after_call, fails_next}
 use Rattle.up_refs.specs.References.{text_of}
 use Rattle.up_names.specs.PathNames.{PathName}
 use Rattle.up_entry.specs.declared.entries.Block.{Block}

@@ -1,6 +1,6 @@
 -- What a client and those it asks say to one another. This project's own.
 use Rattle.std.specs.Prelude.{◌≡◌, ◌≢◌, Option, Some, None, Result, Ok, Err, IsErrOf}
-use Rattle.up_faults.specs.Counts.{HasCause}
+use Rattle.up_lists.specs.Counts.{HasCause, StaysUnless}
 use Rattle.up_wire.specs.declared.requests.Request.{Request}
 use Rattle.up_wire.specs.declared.replies.Reply.{Reply}
 use Rattle.up_client.specs.declared.ask.Ask.{Ghosts}
@@ -39,8 +39,9 @@ abbrev pub Meant : {X : Type 0} → Result X ClientFault → Result X ClientFaul
 Meant (Ok x) meant = meant ≡ Ok x
 Meant (Err fault) meant = fault ≢ OutOfMemory → meant ≡ Err fault
 
--- a conversation was held with an object that is asked, its count rose where it gave no answer, and it is tied to what it was
+-- a conversation was held with an object that is asked, its count rose exactly where it gave no answer, and it is tied to what it was
 pub record Talks {S X : Type 0} (asked : Ghosts S) (talk : Talking X) (old : S) (result : Result X ClientFault) (new : S) : Type 0 where
   pub held : Held asked.answers talk old result new
   pub cause : HasCause (asked.faults old) (asked.faults new) (IsErrOf result Failed)
+  pub quiet : StaysUnless (asked.faults old) (asked.faults new) (IsErrOf result Failed)
   pub tie : asked.tied old new

@@ -2,7 +2,7 @@
 ghost use Rattle.std.specs.Prelude.{ℕ, IsErr};
 ghost use Rattle.std.specs.Result.{result_ok};
 ghost use Rattle.std.specs.declared.option.Option.{Option};
-ghost use Rattle.up_faults.specs.Counts.{HasCause};
+ghost use Rattle.up_lists.specs.Counts.{HasCause, StaysUnless};
 ghost use Rattle.up_wire.specs.declared.requests.Request.{Request as Requests};
 ghost use Rattle.up_wire.specs.declared.replies.Reply.{Reply as Replies};
 
@@ -31,6 +31,7 @@ pub trait Ask {
     fn ask(&mut self, alloc: Global, request: &Request) -> Result<Reply, Failed>
         ensures given { answers self.old request.now (result_ok result) self.new }
         ensures cause { HasCause (faults self.old) (faults self.new) (IsErr result) }
+        ensures quiet { StaysUnless (faults self.old) (faults self.new) (IsErr result) }
         ensures tie { tied self.old self.new };
 
     // No call at all leaves all as it is, and so do two calls, one after the other.

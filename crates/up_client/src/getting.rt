@@ -1,6 +1,6 @@
 //! To get a file.
 ghost use Rattle.std.specs.Prelude.{◌≡◌, IfSome, IsErrOf, Err, None, Ok};
-ghost use Rattle.up_faults.specs.Counts.{HasCause};
+ghost use Rattle.up_lists.specs.Counts.{HasCause, StaysUnless};
 ghost use Rattle.up_client.specs.declared.fault.ClientFault.TheVariants as client_fault;
 ghost use Rattle.up_client.specs.Getting.{blocks_in, file_blocks, get_talk, look_up_at, reading};
 ghost use Rattle.up_client.specs.Talks.{Held, Talks};
@@ -21,6 +21,8 @@ use up_wire::{Done, Request};
 pub fn get<A: Ask>(alloc: Global, ask: &mut A, path: &Path) -> Result<Bytes, ClientFault>
     ensures talk { Held A.answers (get_talk path.now) ask.old result ask.new }
     ensures cause { HasCause (A.faults ask.old) (A.faults ask.new)
+        (IsErrOf result client_fault.Failed) }
+    ensures quiet { StaysUnless (A.faults ask.old) (A.faults ask.new)
         (IsErrOf result client_fault.Failed) }
     ensures tie { A.tied ask.old ask.new }
 {

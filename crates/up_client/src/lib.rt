@@ -4,7 +4,7 @@
 //! reply says how it goes on, up to what comes of it. [`get`] and [`put`] hold exactly the conversations `get_talk` and
 //! `put_talk` (`talk`): which requests are asked in which order is part of them, and so is the reply that each fault comes of.
 //! The replies are those of this call, one after the other, by the relation of the [`Ask`] where it tells one. `Failed` comes
-//! only where its count rose (`cause`); want of memory may come anywhere. An object that holds a borrowed one stays tied to it
+//! only where its count rose (`cause`), and the count rises nowhere else (`quiet`); want of memory may come anywhere. An object that holds a borrowed one stays tied to it
 //! (`tie`).
 #![tactic(auto)]
 

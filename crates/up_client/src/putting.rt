@@ -1,6 +1,6 @@
 //! To put a file.
 ghost use Rattle.std.specs.Prelude.{◌≡◌, [], drop, take, IfOk, IsErrOf};
-ghost use Rattle.up_faults.specs.Counts.{HasCause};
+ghost use Rattle.up_lists.specs.Counts.{HasCause, StaysUnless};
 ghost use Rattle.up_client.specs.declared.fault.ClientFault.TheVariants as client_fault;
 ghost use Rattle.up_client.specs.Putting.{block_at, entering, pieces_of, put_file_at, put_talk, reference_from, stored, storing};
 ghost use Rattle.up_client.specs.Talks.{Held, Talks};
@@ -37,6 +37,8 @@ pub fn put<A: Ask>(
     ensures talk { Held A.answers (put_talk user.now path.now time sequence bytes.now)
         ask.old result ask.new }
     ensures cause { HasCause (A.faults ask.old) (A.faults ask.new)
+        (IsErrOf result client_fault.Failed) }
+    ensures quiet { StaysUnless (A.faults ask.old) (A.faults ask.new)
         (IsErrOf result client_fault.Failed) }
     ensures tie { A.tied ask.old ask.new }
 {

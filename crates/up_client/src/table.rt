@@ -1,13 +1,13 @@
 //! Who answers from a table.
 ghost use Rattle.std.specs.Prelude.{◌≡◌, IfOk};
-ghost use Rattle.up_faults.specs.Calls.{no_call_made};
+ghost use Rattle.up_lists.specs.Calls.{no_call_made};
 ghost use Rattle.up_client.specs.Tables.{AnswersFrom, IsReplyIn};
 
 use crate::ask::{Ask, Failed};
 use crate::copying::copied;
 use std::alloc::{AllocError, Global};
 use std::marker::Model;
-use up_faults::Calls;
+use up_lists::Calls;
 use up_lists::Items;
 use up_wire::{Reply, Request};
 

@@ -4,7 +4,7 @@ use Rattle.std.proofs.lemmas.List.{length-append}
 use Rattle.up_disk.proofs.Moments.{started, weaker}
 use Rattle.up_disk.specs.declared.disk.Disk.{Ghosts}
 use Rattle.up_entry.specs.declared.records.Rec.{Rec}
-use Rattle.up_journal.specs.Crashes.{LeavesNow}
+use Rattle.up_disk.specs.Leaving.{LeavesNow}
 use Rattle.up_journal.specs.Logs.{MayHaveLog, StandsForLog}
 use Rattle.up_journal.specs.declared.fault.AppendWhy.{AppendWhy}
 use Rattle.up_tree.specs.States.{Applies, State, records_in}

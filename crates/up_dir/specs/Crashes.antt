@@ -3,7 +3,7 @@ use Rattle.std.specs.Prelude.{◌≡◌, ◌⊎◌, ℕ, List, [], ◌∷◌, �
 use Rattle.up_disk.specs.Disk.{LeavesOnly}
 use Rattle.up_disk.specs.declared.disk.Disk.{Ghosts}
 use Rattle.up_entry.specs.declared.records.Rec.{Rec}
-use Rattle.up_journal.specs.Crashes.{LeavesNow}
+use Rattle.up_disk.specs.Leaving.{LeavesNow}
 use Rattle.up_journal.specs.Damages.{Damage}
 use Rattle.up_journal.specs.Logs.{StandsForLog}
 use Rattle.up_tree.specs.States.{State, records_in}

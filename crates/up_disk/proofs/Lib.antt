@@ -1,3 +1,5 @@
+mod AheadLemmas
+mod BlankLemmas
 mod Examples
 mod Images
 mod Kept

@@ -1,9 +1,12 @@
+pub mod Ahead
 pub mod Disk
 pub mod Hooked
 pub mod Image
+pub mod Leaving
 pub mod Memory
 pub mod MemoryCalls
 pub mod MemoryLaws
 pub mod Pending
 pub mod PendingLaws
+pub mod Planned
 pub mod Spare

@@ -1,6 +1,6 @@
 -- What contracts see of a disk in memory. This project's own.
-use Rattle.std.specs.Prelude.{◌≡◌, ◌≤◌, ℕ, List, length, take, Option, Some}
-use Rattle.up_faults.specs.Calls.{CallPlan}
+use Rattle.std.specs.Prelude.{◌≡◌, ◌≤◌, ◌-◌, ℕ, List, length, take, Option, Some, vec_len, vec_capacity}
+use Rattle.up_lists.specs.Calls.{CallPlan}
 use Rattle.up_disk.specs.Disk.{written}
 use Rattle.up_disk.specs.Pending.{MayLeave}
 use Rattle.up_disk.specs.Image.{image_after, landed_cut, landed_write, landing_of}
@@ -33,6 +33,10 @@ faults_of disk = (plan_of disk).faults
 -- the crash image by that number
 abbrev pub image_of : MemDisk → ℕ → List ℕ
 image_of disk choice = image_after (landing_of choice) disk.first disk.first disk.calls.items
+
+-- how many calls more it takes before its list of them has to grow
+abbrev pub room_of : MemDisk → ℕ
+room_of disk = vec_capacity disk.calls - vec_len disk.calls
 
 -- the number of bytes
 abbrev pub length_of : MemDisk → ℕ

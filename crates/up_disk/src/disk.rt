@@ -1,6 +1,6 @@
 //! A disk: what a read gives, and what a crash may leave.
 ghost use Rattle.std.specs.Prelude.{◌≡◌, ◌≤◌, ◌+◌, ◌^◌, ℕ, max, List, length, take, Option, option_map, IfSome, IsSome, IsErr, OnOk, OnErr};
-ghost use Rattle.up_faults.specs.Counts.{HasCause};
+ghost use Rattle.up_lists.specs.Counts.{HasCause, StaysUnless};
 ghost use Rattle.up_disk.specs.Disk.{CutShort, Follows, Only, Steps, TimePasses, Torn, part, written};
 
 use crate::fault::Failed;
@@ -33,7 +33,7 @@ pub trait Disk {
     fn size(&self) -> u64
         ensures { result ≡ size_of self.now };
 
-    /// Reads the bytes at `at`, as many as the buffer has. The range lies within the size.
+    /// Reads the bytes at `at`, as many as the buffer has. The range lies within the size. What a crash may leave stays.
     fn read(&mut self, at: u64, buf: &mut [u8]) -> Result<(), Failed>
         requires { at + length buf.old ≤ size_of self.old }
         ensures bytes { OnOk result (IfSome (content self.old)
@@ -41,8 +41,10 @@ pub trait Disk {
         ensures content { content self.new ≡ content self.old }
         ensures size { size_of self.new ≡ size_of self.old }
         ensures crash { (image : List ℕ) → may_leave self.new image → may_leave self.old image }
+        ensures keeps { (image : List ℕ) → may_leave self.old image → may_leave self.new image }
         ensures time { TimePasses moment left_since may_leave self.old self.new }
-        ensures cause { HasCause (faults self.old) (faults self.new) (IsErr result) };
+        ensures cause { HasCause (faults self.old) (faults self.new) (IsErr result) }
+        ensures quiet { StaysUnless (faults self.old) (faults self.new) (IsErr result) };
 
     /// Writes over what is there, and past the end. `at` is at most the size, and the end at most 2^62. A write
     /// that fails leaves any bytes in its range.
@@ -60,7 +62,8 @@ pub trait Disk {
         ensures crash { Follows (Torn at (length bytes.now))
             (may_leave self.old) (may_leave self.new) }
         ensures time { TimePasses moment left_since may_leave self.old self.new }
-        ensures cause { HasCause (faults self.old) (faults self.new) (IsErr result) };
+        ensures cause { HasCause (faults self.old) (faults self.new) (IsErr result) }
+        ensures quiet { StaysUnless (faults self.old) (faults self.new) (IsErr result) };
 
     /// Cuts the disk to a size, which is at most the one that it has. A cut that fails may have happened or not.
     fn cut(&mut self, size: u64) -> Result<(), Failed>
@@ -73,7 +76,8 @@ pub trait Disk {
         ensures no_longer { size_of self.new ≤ size_of self.old }
         ensures crash { Follows (CutShort size) (may_leave self.old) (may_leave self.new) }
         ensures time { TimePasses moment left_since may_leave self.old self.new }
-        ensures cause { HasCause (faults self.old) (faults self.new) (IsErr result) };
+        ensures cause { HasCause (faults self.old) (faults self.new) (IsErr result) }
+        ensures quiet { StaysUnless (faults self.old) (faults self.new) (IsErr result) };
 
     /// After it has succeeded, a crash leaves what a read gives.
     fn sync(&mut self) -> Result<(), Failed>
@@ -82,7 +86,8 @@ pub trait Disk {
         ensures size { size_of self.new ≡ size_of self.old }
         ensures crash { (image : List ℕ) → may_leave self.new image → may_leave self.old image }
         ensures time { TimePasses moment left_since may_leave self.old self.new }
-        ensures cause { HasCause (faults self.old) (faults self.new) (IsErr result) };
+        ensures cause { HasCause (faults self.old) (faults self.new) (IsErr result) }
+        ensures quiet { StaysUnless (faults self.old) (faults self.new) (IsErr result) };
 
     /// The size is that of the bytes.
     ghost sized: { (disk : Self) → IfSome (content disk) (λ bytes. length bytes ≡ size_of disk) };

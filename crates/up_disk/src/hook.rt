@@ -1,6 +1,6 @@
 //! A disk in memory that calls a hook before each sync.
-ghost use Rattle.std.specs.Prelude.{◌≡◌, ℕ};
-ghost use Rattle.up_faults.specs.Counts.{count_after};
+ghost use Rattle.std.specs.Prelude.{◌≡◌};
+ghost use Rattle.up_disk.specs.declared.memory.MemDisk.{MemDisk as Disks};
 
 use crate::disk::Disk;
 use crate::fault::Failed;
@@ -9,16 +9,16 @@ use std::alloc::AllocError;
 
 /// What is done before each sync.
 pub trait Hook {
-    /// How often it was done. At 2^64 - 1 the count stays.
-    ghost called: { Self → ℕ };
+    /// Whether being handed a disk leads from one state to the other. A hook that tells nothing allows all.
+    ghost handed: { Self → Disks → Self → Type 0 };
 
-    /// Does it once more.
-    fn before_sync(&mut self)
-        ensures { called self.new ≡ count_after (called self.old) 1 };
+    /// Is handed the disk as it stands before a sync.
+    fn before_sync(&mut self, disk: &MemDisk)
+        ensures { handed self.old disk.now self.new };
 }
 
-/// A disk in memory that calls its hook once in each sync, also in one that fails, and in no other call. In all else
-/// it is that disk. The hook is called before the disk is; of this order no clause speaks.
+/// A disk in memory that calls its hook once in each sync, also in one that fails, and in no other call: before the disk
+/// is synced, with the disk as it stands then. In all else it is that disk.
 #[derive(Drop)]
 pub struct HookDisk<H: Hook> {
     disk: MemDisk,
@@ -27,7 +27,7 @@ pub struct HookDisk<H: Hook> {
 
 impl<H: Hook> HookDisk<H> {
     ghost use Rattle.std.specs.Prelude.{Some, [], IfOk};
-    ghost use Rattle.up_faults.specs.Calls.{no_call_made};
+    ghost use Rattle.up_lists.specs.Calls.{no_call_made};
     ghost use Rattle.up_disk.specs.Disk.{Only};
     ghost use Rattle.up_disk.specs.Hooked.{disk_of, hook_of};
     ghost use Rattle.up_disk.specs.Memory.{content_of, image_of, may_leave_of, plan_of};
@@ -121,9 +121,10 @@ impl<H: Hook> Disk for HookDisk<H> {
 
     fn sync(&mut self) -> Result<(), Failed>
         ensures disk { IsSyncedTo result (disk_of self.old) (disk_of self.new) }
-        ensures hook { H.called (hook_of self.new) ≡ count_after (H.called (hook_of self.old)) 1 }
+        // The hook is called once, with the disk as it was before the sync.
+        ensures hook { H.handed (hook_of self.old) (disk_of self.old) (hook_of self.new) }
     {
-        self.hook.before_sync();
+        self.hook.before_sync(&self.disk);
         self.disk.sync()
     }
 }

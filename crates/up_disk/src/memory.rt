@@ -1,6 +1,6 @@
 //! A disk in memory. It keeps what it had at first and each call, so that it knows what a crash may leave.
-ghost use Rattle.std.specs.Prelude.{◌≡◌, ◌<◌, ◌≤◌, length, vec_len, vec_capacity, OnOk};
-ghost use Rattle.up_faults.specs.Calls.{IsCalled};
+ghost use Rattle.std.specs.Prelude.{◌≡◌, ◌<◌, ◌≤◌, ◌-◌, ◌⊎◌, true, length, vec_len, vec_capacity, OnOk, OnErr};
+ghost use Rattle.up_lists.specs.Calls.{IsCalled, fails_next};
 ghost use Rattle.up_disk.specs.Pending.{content_after, synced_calls};
 
 use crate::call::{Call, Written};
@@ -8,8 +8,7 @@ use crate::disk::Disk;
 use crate::fault::Failed;
 use crate::landing::{copy_of, land_all, landing, overwrite, redo_all};
 use std::alloc::{AllocError, Global};
-use up_faults::Calls;
-use up_lists::Items;
+use up_lists::{Calls, Items};
 
 /// A disk in memory, which tells its content. The calls whose numbers are listed fail, and so does one that finds no
 /// memory; a write that is listed leaves the front half of its bytes, and any other call that fails changes nothing.
@@ -28,7 +27,7 @@ pub struct MemDisk {
 
 impl MemDisk {
     ghost use Rattle.std.specs.Prelude.{◌≡◌, ◌≤◌, ◌+◌, ◌^◌, [], Some, IfOk, OnOk, OnErr, length, take};
-    ghost use Rattle.up_faults.specs.Calls.{no_call_made};
+    ghost use Rattle.up_lists.specs.Calls.{no_call_made};
     ghost use Rattle.up_disk.specs.Disk.{Follows, Only, TimePasses, Torn, written};
     ghost use Rattle.up_disk.specs.Memory.{content_of, image_of, left_since_of, may_leave_of, moment_of, plan_of, IsUntouched, IsWritten};
 
@@ -170,7 +169,8 @@ impl Disk for MemDisk {
         if failed { Err(Failed) } else { Ok(()) }
     }
 
-    /// Where its number is listed, or there is no memory, it fails and has not happened.
+    /// Where its number is listed, or there is no memory for a list of calls that has to grow, it fails and has not
+    /// happened.
     fn cut(&mut self, size: u64) -> Result<(), Failed>
         requires { size ≤ length_of self.old }
         ensures { IsCutTo size result self.old self.new }
@@ -181,7 +181,8 @@ impl Disk for MemDisk {
         Ok(())
     }
 
-    /// Where its number is listed, or there is no memory, it fails and has not happened.
+    /// Where its number is listed, or there is no memory for a list of calls that has to grow, it fails and has not
+    /// happened.
     fn sync(&mut self) -> Result<(), Failed>
         ensures { IsSyncedTo result self.old self.new }
     {
@@ -195,6 +196,8 @@ impl Disk for MemDisk {
 // Counts a call that is to be noted. It fails where it is listed, or where there is no memory for the note.
 fn begin(plan: &mut Calls, calls: &mut Vec<Call>) -> Result<(), Failed>
     ensures called { IsCalled plan.old plan.new result }
+    ensures only { OnErr result ((fails_next plan.old ≡ true)
+        ⊎ (vec_capacity calls.old - vec_len calls.old ≡ 0)) }
     ensures items { calls.new.items ≡ calls.old.items }
     ensures room { OnOk result (vec_len calls.new < vec_capacity calls.new) }
 {

@@ -1,8 +1,7 @@
 -- Worked examples of the definitions.
 use Rattle.std.proofs.Common.{◌≡◌, [], ◌∷◌, refl}
-use Rattle.up_faults.specs.Calls.{no_call_made}
+use Rattle.up_lists.specs.Calls.{no_call_made}
 use Rattle.up_ends.specs.Sources.{MemInput, piece_of, read_size, after_read, after_failed_read}
-use Rattle.up_ends.specs.Sinks.{MemOutput, after_write, after_failed_write}
 
 piece_within_the_room : piece_of (4 ∷ 1 ∷ []) 9 ≡ 4
 piece_within_the_room = refl
@@ -30,12 +29,3 @@ after_that_read = refl
 
 failed_read_uses_no_piece : after_failed_read five ≡ record five { plan = record { fails = 1 ∷ []; made = 1; faults = 1 } }
 failed_read_uses_no_piece = refl
-
-abbrev two : MemOutput
-two = record { held = 1 ∷ 2 ∷ []; plan = record { fails = []; made = 1; faults = 0 } }
-
-write_of_a_piece : after_write two (3 ∷ []) ≡ record { held = 1 ∷ 2 ∷ 3 ∷ []; plan = record { fails = []; made = 2; faults = 0 } }
-write_of_a_piece = refl
-
-failed_write_holds_the_same : after_failed_write two ≡ record two { plan = record { fails = []; made = 2; faults = 1 } }
-failed_write_holds_the_same = refl

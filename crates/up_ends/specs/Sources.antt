@@ -2,8 +2,8 @@
 use Rattle.std.specs.Prelude.{◌≡◌, ℕ, true, false, ◌+◌, List, [], ◌∷◌, length, drop, min, max, Result, MatchResult}
 use Rattle.std.specs.Io.KnownBytes.{Consumes}
 use Rattle.std.specs.declared.option.Option.{Option}
-use Rattle.up_faults.specs.Counts.{count_after}
-use Rattle.up_faults.specs.Calls.{CallPlan, after_call}
+use Rattle.up_lists.specs.Counts.{count_after}
+use Rattle.up_lists.specs.Calls.{CallPlan, after_call}
 
 -- the count of bytes given grew by what a read gave, and stayed where the read failed
 abbrev pub CountsGiven : {E : Type 0} → ℕ → ℕ → Result ℕ E → Type 0

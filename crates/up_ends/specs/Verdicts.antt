@@ -1,6 +1,6 @@
 -- What a verifier is asked, and how the one in memory is seen. This project's own.
 use Rattle.std.specs.Prelude.{◌≡◌, ℕ, List, [], ◌∷◌, ◌++◌, Option, is_some, Result, Ok, Err, if◌then◌else◌}
-use Rattle.up_faults.specs.Counts.{count_after}
+use Rattle.up_lists.specs.Counts.{count_after}
 use Rattle.up_ends.specs.Telling.{Coming, Grew, after_next, next_of}
 use Rattle.up_ends.specs.declared.verifier.Judged.{Judged}
 use Rattle.up_ends.specs.declared.verifier.Verdict.{Verdict}

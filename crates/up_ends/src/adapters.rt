@@ -2,7 +2,7 @@
 ghost use Rattle.std.specs.Prelude.{◌≡◌, ◌<◌, length, is_err, if◌then◌else◌, IfOk, IsErr};
 ghost use Rattle.std.specs.Io.{ReadsAtMost, WritesAtMost};
 ghost use Rattle.std.specs.Io.KnownBytes.{ReadConsumes, WriteAppends};
-ghost use Rattle.up_faults.specs.Counts.{count_after, HasCause};
+ghost use Rattle.up_lists.specs.Counts.{count_after, HasCause, StaysUnless};
 ghost use Rattle.up_ends.specs.Sources.{CountsGiven};
 
 use crate::ends::{Sink, Source};
@@ -62,6 +62,7 @@ impl<R: Read> Source for StdSource<R> {
         ensures faults { self.new.faults ≡
             (if is_err result then count_after self.old.faults 1 else self.old.faults) }
         ensures cause { HasCause self.old.faults self.new.faults (IsErr result) }
+        ensures quiet { StaysUnless self.old.faults self.new.faults (IsErr result) }
     {
         match self.reader.read(buf) {
             Ok(n) => {
@@ -122,6 +123,7 @@ impl<W: Write> Sink for StdSink<W> {
         ensures faults { self.new.faults ≡
             (if is_err result then count_after self.old.faults 1 else self.old.faults) }
         ensures cause { HasCause self.old.faults self.new.faults (IsErr result) }
+        ensures quiet { StaysUnless self.old.faults self.new.faults (IsErr result) }
     {
         match self.writer.write(piece) {
             Ok(n) if n > 0 || piece.is_empty() => return Ok(n),

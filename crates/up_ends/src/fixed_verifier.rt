@@ -1,6 +1,6 @@
 //! A verifier in memory.
 ghost use Rattle.std.specs.Prelude.{◌≡◌, [], ◌∷◌, ◌++◌, None, Some, is_ok, if◌then◌else◌, IfOk, IsErr, OnErr};
-ghost use Rattle.up_faults.specs.Counts.{count_after, HasCause};
+ghost use Rattle.up_lists.specs.Counts.{count_after, HasCause, StaysUnless};
 ghost use Rattle.up_ends.specs.Telling.{next_of};
 ghost use Rattle.up_ends.specs.Verdicts.{Judges, after_failure, after_verdict};
 
@@ -93,6 +93,7 @@ impl Verifier for FixedVerifier {
               verdict = verdict;
             }) result }
         ensures cause { HasCause self.old.faults self.new.faults (IsErr result) }
+        ensures quiet { StaysUnless self.old.faults self.new.faults (IsErr result) }
     {
         let Some(verdict) = self.coming.next() else {
             self.coming.pass();

@@ -1,22 +1,21 @@
 //! A sink in memory.
-ghost use Rattle.std.specs.Prelude.{◌≡◌, ◌<◌, [], length, true, is_ok, if◌then◌else◌, IfOk, IsErr, Err};
+ghost use Rattle.std.specs.Prelude.{◌≡◌, ◌<◌, ◌⊎◌, [], ◌++◌, length, true, is_ok, if◌then◌else◌, IfOk, IsErr, OnErr};
 ghost use Rattle.std.specs.Io.{WritesAtMost};
 ghost use Rattle.std.specs.Io.KnownBytes.{WriteAppends};
-ghost use Rattle.up_faults.specs.Counts.{HasCause};
-ghost use Rattle.up_faults.specs.Calls.{fails_next, no_call_made};
-ghost use Rattle.up_ends.specs.Sinks.{after_write, after_failed_write};
+ghost use Rattle.up_lists.specs.Counts.{HasCause, StaysUnless};
+ghost use Rattle.up_lists.specs.Calls.{IsCalled, fails_next, no_call_made};
 
 use crate::ends::Sink;
 use crate::fault::Failed;
 use std::alloc::Global;
 use std::marker::Model;
-use up_faults::Calls;
-use up_lists::Items;
+use up_lists::{Calls, Items};
 
 /// A sink in memory.
 ///
 /// Its calls are numbered from 0, those that fail and those of an empty piece too. A call whose number is one
-/// of `fails` fails. Any other takes the whole piece; where there is no memory for it, that is a fault.
+/// of `fails` fails. Any other takes the whole piece; where the sink has to grow for it and there is no memory, that is
+/// a fault.
 #[derive(Drop)]
 pub struct MemSink {
     bytes: Vec<u8>,
@@ -24,12 +23,14 @@ pub struct MemSink {
 }
 
 impl Model for MemSink {
+    ghost use Rattle.std.specs.Prelude.{◌-◌, vec_len, vec_capacity};
     ghost use Rattle.up_ends.specs.Sinks.{MemOutput};
 
     ghost Value = { MemOutput };
 
     ghost view = { λ s. record {
       held = s.bytes.items;
+      room = vec_capacity s.bytes - vec_len s.bytes;
       plan = s.calls;
     } };
 }
@@ -37,7 +38,8 @@ impl Model for MemSink {
 impl MemSink {
     /// A sink that holds nothing. It takes no memory.
     pub fn new(alloc: Global, fails: Items<u64>) -> Self
-        ensures { result ≡ record { held = []; plan = no_call_made fails } }
+        ensures held { result.held ≡ [] }
+        ensures plan { result.plan ≡ no_call_made fails }
     {
         MemSink {
             bytes: Vec::new(alloc),
@@ -61,16 +63,20 @@ impl Sink for MemSink {
     ghost faults = { λ s. s.plan.faults };
 
     fn write(&mut self, piece: &[u8]) -> Result<usize, Failed>
-        // Which calls fail, beside those that find no memory, and that each other one takes the whole piece.
-        ensures fails { fails_next self.old.plan ≡ true → result ≡ Err record {} }
+        // A listed call fails, and any other only where the sink has to grow. One that does not fail takes the
+        // whole piece.
+        ensures called { IsCalled self.old.plan self.new.plan result }
+        ensures only_listed { OnErr result ((fails_next self.old.plan ≡ true)
+            ⊎ (self.old.room < length piece.now)) }
         ensures whole { IfOk result (λ n. n ≡ length piece.now) }
-        ensures after { self.new ≡
-            (if is_ok result then after_write self.old piece.now else after_failed_write self.old) }
+        ensures after { self.new.held ≡
+            (if is_ok result then self.old.held ++ piece.now else self.old.held) }
 
         ensures bound { WritesAtMost result piece.now }
         ensures some { IfOk result (λ n. 0 < length piece.now → 0 < n) }
         ensures bytes { WriteAppends (Some self.old.held) (Some self.new.held) result piece.now }
         ensures cause { HasCause self.old.plan.faults self.new.plan.faults (IsErr result) }
+        ensures quiet { StaysUnless self.old.plan.faults self.new.plan.faults (IsErr result) }
     {
         let fails = self.calls.fails_next() || self.bytes.extend_from_slice(piece).is_err();
         self.calls.count(fails);

@@ -3,16 +3,15 @@ ghost use Rattle.std.specs.Prelude.{◌≡◌, ◌<◌, ◌≤◌, ◌++◌, len
 ghost use Rattle.std.specs.Vec.Iter.{into_iter_items};
 ghost use Rattle.std.specs.Io.{ReadsAtMost};
 ghost use Rattle.std.specs.Io.KnownBytes.{ReadConsumes};
-ghost use Rattle.up_faults.specs.Counts.{HasCause};
-ghost use Rattle.up_faults.specs.Calls.{fails_next, no_call_made};
+ghost use Rattle.up_lists.specs.Counts.{HasCause, StaysUnless};
+ghost use Rattle.up_lists.specs.Calls.{fails_next, no_call_made};
 ghost use Rattle.up_ends.specs.Sources.{CountsGiven, piece_of, read_size, after_read, after_failed_read};
 
 use crate::ends::Source;
 use crate::fault::Failed;
 use std::marker::Model;
 use std::vec::IntoIter;
-use up_faults::Calls;
-use up_lists::Items;
+use up_lists::{Calls, Items};
 
 /// A source over bytes in memory, whose reads are as large as its pieces and fail where it is told.
 ///
@@ -85,6 +84,7 @@ impl Source for MemSource {
         ensures bytes { ReadConsumes (Some self.old.left) (Some self.new.left) result buf.new }
         ensures counted { CountsGiven self.old.given self.new.given result }
         ensures cause { HasCause self.old.plan.faults self.new.plan.faults (IsErr result) }
+        ensures quiet { StaysUnless self.old.plan.faults self.new.plan.faults (IsErr result) }
     {
         if self.calls.next_fails() {
             return Err(Failed);

@@ -1,6 +1,6 @@
 //! What a verifier of signatures promises.
 ghost use Rattle.std.specs.Prelude.{ℕ, List, IsErr, Option};
-ghost use Rattle.up_faults.specs.Counts.{HasCause};
+ghost use Rattle.up_lists.specs.Counts.{HasCause, StaysUnless};
 ghost use Rattle.up_ends.specs.Verdicts.{Judges};
 ghost use Rattle.up_ends.specs.declared.verifier.Judged.{Judged};
 
@@ -40,5 +40,6 @@ pub trait Verifier {
               signature = signature.now;
               verdict = verdict;
             }) result }
-        ensures cause { HasCause (faults self.old) (faults self.new) (IsErr result) };
+        ensures cause { HasCause (faults self.old) (faults self.new) (IsErr result) }
+        ensures quiet { StaysUnless (faults self.old) (faults self.new) (IsErr result) };
 }

@@ -1,7 +1,7 @@
 //! Reading a source to its end, and writing a piece whole.
 ghost use Rattle.std.specs.Prelude.{◌≡◌, ◌+◌, ◌-◌, ◌^◌, ◌<◌, ◌≤◌, ◌↔◌, length, vec_len, IfOk, OnOk, IfSome, IsErr, IsErrOf};
 ghost use Rattle.std.specs.Io.KnownBytes.{Appends, IsAtEnd};
-ghost use Rattle.up_faults.specs.Counts.{count_after, HasCause};
+ghost use Rattle.up_lists.specs.Counts.{count_after, HasCause, StaysUnless};
 ghost use Rattle.up_ends.specs.Sources.{LosesFront};
 ghost use Rattle.up_ends.specs.Writing.{WritesPart};
 
@@ -58,7 +58,8 @@ fn room_for(alloc: Global, size: usize) -> Result<Vec<u8>, AllocError>
 
 /// All bytes that the source has left, where these are at most `limit`.
 ///
-/// It asks for no more once the limit is passed, and takes time linear in the bytes that it reads.
+/// It reads at most 64 KiB beyond the limit and asks for no more once the limit is passed. It takes time linear in the
+/// bytes that it reads.
 pub fn read_all<S: Source>(alloc: Global, source: &mut S, limit: u64) -> Result<Vec<u8>, ReadFault>
     // The bytes are all those that were left, and the source is at its end.
     ensures bytes { IfOk result (λ bytes. IfSome (S.left source.old) (λ left. bytes.items ≡ left)) }
@@ -74,7 +75,11 @@ pub fn read_all<S: Source>(alloc: Global, source: &mut S, limit: u64) -> Result<
     ensures exact { S.given source.old + limit < 2 ^ 64 - 1 →
         (IsErrOf result ReadFault.TooLong ↔ (S.given source.old + limit < S.given source.new)) }
 
+    ensures beyond { S.given source.new ≤ S.given source.old + limit + 65536 }
+
     ensures cause { HasCause (S.faults source.old) (S.faults source.new)
+        (IsErrOf result ReadFault.Failed) }
+    ensures quiet { StaysUnless (S.faults source.old) (S.faults source.new)
         (IsErrOf result ReadFault.Failed) }
 
     // Whatever the answer, the source lost what was read and nothing else.
@@ -101,6 +106,7 @@ pub fn write_all<K: Sink>(sink: &mut K, piece: &[u8]) -> Result<(), Failed>
     ensures whole { OnOk result (Appends (K.held sink.old) (K.held sink.new) piece.now) }
     ensures part { WritesPart (K.held sink.old) (K.held sink.new) piece.now }
     ensures cause { HasCause (K.faults sink.old) (K.faults sink.new) (IsErr result) }
+    ensures quiet { StaysUnless (K.faults sink.old) (K.faults sink.new) (IsErr result) }
 {
     let mut rest = piece;
     while !rest.is_empty() {

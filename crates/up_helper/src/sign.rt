@@ -1,7 +1,7 @@
 //! `upspin sign`.
 ghost use Rattle.std.specs.Prelude.{◌≡◌, ◌≤◌, [], ◌∷◌, None, map, IfOk, IfSome, string_bytes};
 ghost use Rattle.std.specs.Io.KnownBytes.{Appends};
-ghost use Rattle.up_faults.specs.Counts.{Rose};
+ghost use Rattle.up_lists.specs.Counts.{Rose};
 ghost use Rattle.up_ends.specs.Writing.{WritesPart};
 ghost use Rattle.std.specs.Result.{result_ok};
 ghost use Rattle.up_names.specs.UserNames.{user_of};

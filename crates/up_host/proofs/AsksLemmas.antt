@@ -4,7 +4,7 @@ use Rattle.std.specs.List.{AllByRecursion, flat_map, list_any}
 use Rattle.std.proofs.lemmas.Bool.Decides.{nat_tests}
 use Rattle.std.proofs.lemmas.Grind.{flat_map-append}
 use Rattle.std.proofs.lemmas.List.Folds.{list_any-append}
-use Rattle.up_faults.specs.Counts.{HasCause, Rose}
+use Rattle.up_lists.specs.Counts.{HasCause, Rose}
 use Rattle.up_host.specs.Asks.{Asks, EachAfter, Tries}
 use Rattle.up_lists.proofs.RunLemmas.{Run-append}
 use Rattle.up_lists.specs.Runs.{Run}

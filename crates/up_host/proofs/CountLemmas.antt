@@ -21,7 +21,7 @@ use Rattle.up_entry.specs.declared.fetch.Fetch.{Fetch}
 use Rattle.up_entry.specs.declared.fetch.Fetch.TheVariants as fetch
 use Rattle.up_entry.specs.declared.what.What.{What}
 use Rattle.up_entry.specs.declared.what.What.TheVariants as what
-use Rattle.up_faults.specs.Counts.{Rose}
+use Rattle.up_lists.specs.Counts.{Rose}
 use Rattle.up_host.proofs.QuietLemmas.{fault_quiet, has_failed, is_io, quiet_answer}
 use Rattle.up_host.proofs.TreeLemmas.{Kind, kind_of}
 use Rattle.up_host.specs.Alone.{Counts, HostState, disk_faults, io_of, views}

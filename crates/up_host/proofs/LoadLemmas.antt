@@ -8,7 +8,7 @@ use Rattle.std.proofs.Math.Seq.{take-length}
 use Rattle.std.proofs.lemmas.Bool.{false≢true}
 use Rattle.std.proofs.lemmas.Slice.Eq.{bytes_eq-Decides}
 use Rattle.up_disk.specs.declared.disk.Disk as disk
-use Rattle.up_faults.specs.Counts.{HasCause}
+use Rattle.up_lists.specs.Counts.{HasCause}
 use Rattle.up_host.proofs.AsksLemmas.{All-append, Asks-none, Asks-trans, EachAfter-append, HasCause-for, HasCause-same, Tries-none, Tries-one}
 use Rattle.up_host.specs.Alone.{HostState, tree_for, tree_view, views}
 use Rattle.up_host.specs.Asks.{EachAfter, Tries}

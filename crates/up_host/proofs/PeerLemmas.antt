@@ -1,7 +1,7 @@
 -- The count of failures of a whole host as a peer.
 use Rattle.std.proofs.Common.{◌≡◌, ℕ, subst, sym, Result, Ok, Err}
-use Rattle.up_faults.proofs.Causes.{HasCause-counted, HasCause-same}
-use Rattle.up_faults.specs.Counts.{HasCause}
+use Rattle.up_lists.proofs.Causes.{HasCause-counted, HasCause-same}
+use Rattle.up_lists.specs.Counts.{HasCause}
 use Rattle.up_host.specs.Peers.{failed_after}
 use Rattle.up_peer.specs.declared.answers.PeerAnswer.{PeerAnswer}
 use Rattle.up_peer.specs.declared.answers.PeerAnswer.TheVariants as peer

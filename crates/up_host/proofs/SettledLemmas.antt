@@ -10,7 +10,7 @@ use Rattle.up_blocks.specs.declared.record.BlockRecord.{BlockRecord}
 use Rattle.up_blocks.specs.declared.record.BlockRecord.TheVariants as block
 use Rattle.up_disk.specs.declared.disk.Disk.{Ghosts}
 use Rattle.up_entry.specs.declared.records.Rec.{Rec}
-use Rattle.up_faults.specs.Counts.{HasCause}
+use Rattle.up_lists.specs.Counts.{HasCause}
 use Rattle.up_host.proofs.AsksLemmas.{Rose-left, Rose-right}
 use Rattle.up_host.specs.Alone.{HostState}
 use Rattle.up_host.specs.Settled.{KeepsSettled, StaysSettled, owner_of}

@@ -20,7 +20,7 @@ use Rattle.up_entry.specs.declared.entries.Endpoint.{Endpoint}
 use Rattle.up_entry.specs.declared.entries.Endpoint.TheVariants as endpoint
 use Rattle.up_entry.specs.declared.fetch.Fetch.{Fetch}
 use Rattle.up_entry.specs.declared.records.Rec.{Rec}
-use Rattle.up_faults.specs.Counts.{Rose}
+use Rattle.up_lists.specs.Counts.{Rose}
 use Rattle.up_host.proofs.AloneLemmas.{AtMostOne, failed_at, later_same, replied_at}
 use Rattle.up_host.proofs.AsksLemmas.{All-map, EachAfter-at, Tries-Asks}
 use Rattle.up_host.proofs.LoadLemmas.{found_is}

@@ -10,7 +10,7 @@ use Rattle.up_entry.specs.declared.entries.Endpoint.{Endpoint}
 use Rattle.up_entry.specs.declared.entries.Endpoint.TheVariants as endpoint
 use Rattle.up_entry.specs.declared.fetch.Fetch.{Fetch}
 use Rattle.up_entry.specs.declared.fetch.Fetch.TheVariants as fetch
-use Rattle.up_faults.specs.Counts.{HasCause, Rose}
+use Rattle.up_lists.specs.Counts.{HasCause, Rose}
 use Rattle.up_host.specs.Asks.{Asks}
 use Rattle.up_host.specs.Blocks.{Got, GivenBy, block_answer, block_question}
 use Rattle.up_host.specs.Settled.{KeepsSettled}

@@ -4,12 +4,13 @@ use Rattle.std.specs.List.{AllByRecursion}
 use Rattle.up_blocks.specs.Records as blocks
 use Rattle.up_blocks.specs.declared.record.BlockRecord.{BlockRecord}
 use Rattle.up_disk.specs.declared.disk.Disk.{Ghosts}
-use Rattle.up_faults.specs.Counts.{HasCause}
+use Rattle.up_lists.specs.Counts.{HasCause}
 use Rattle.up_host.specs.Alone.{HostState}
 use Rattle.up_host.specs.Routes.{LogName}
 use Rattle.up_host.specs.declared.fault.HostFault.{HostFault}
 use Rattle.up_host.specs.declared.held.Held.{Held}
-use Rattle.up_journal.specs.Crashes.{IsOpened, LeavesNow}
+use Rattle.up_disk.specs.Leaving.{LeavesNow}
+use Rattle.up_journal.specs.Crashes.{IsOpened}
 use Rattle.up_journal.specs.Damages.{Damage}
 use Rattle.up_journal.specs.Logs.{LogState, OpensLog, RefusesLog, StandsForLog}
 use Rattle.up_journal.specs.declared.fault.OpenFault.{OpenFault}

@@ -1,7 +1,7 @@
 -- How the loading of group texts goes on, name by name. This project's own.
 use Rattle.std.specs.Prelude.{◌≡◌, ◌⊎◌, ℕ, true, List, [], ◌∷◌, ◌++◌, length, Contains, Option, Some, None, IfSome}
 use Rattle.up_answers.specs.Needs.{needs}
-use Rattle.up_faults.specs.Counts.{HasCause}
+use Rattle.up_lists.specs.Counts.{HasCause}
 use Rattle.up_host.specs.Asks.{Asks, EachAfter}
 use Rattle.up_host.specs.Loads.{OwnTexts, Pair, group_answer, group_question, group_text_answer, load_failed, load_of}
 use Rattle.up_host.specs.Views.{Views}

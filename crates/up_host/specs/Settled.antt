@@ -1,7 +1,7 @@
 -- That the logs of a host stay settled but for a fault, and that all stays in its place. This project's own.
 use Rattle.std.specs.Prelude.{◌≡◌, ◌≤◌, ◌⊎◌, ℕ, map, slice_get, is_some, Some}
 use Rattle.up_disk.specs.declared.disk.Disk.{Ghosts}
-use Rattle.up_faults.specs.Counts.{Rose}
+use Rattle.up_lists.specs.Counts.{Rose}
 use Rattle.up_host.specs.Alone.{HostState}
 use Rattle.up_host.specs.declared.held.Held.{Held}
 use Rattle.up_journal.specs.Logs.{IsSettledLog, LogState}

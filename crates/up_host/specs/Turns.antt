@@ -1,6 +1,6 @@
 -- One answer at one point of one log. This project's own.
 use Rattle.std.specs.Prelude.{◌≡◌, ◌≤◌, ◌+◌, ℕ, List, [], ◌∷◌, ◌++◌, length, take, slice_get, Some}
-use Rattle.up_faults.specs.Counts.{Rose}
+use Rattle.up_lists.specs.Counts.{Rose}
 use Rattle.up_host.specs.Views.{Seen}
 use Rattle.up_host.specs.declared.event.Event.{Event}
 use Rattle.up_wire.specs.declared.replies.Reply.{Reply}

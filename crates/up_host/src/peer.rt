@@ -1,7 +1,7 @@
 //! A whole host as a peer of another one.
 ghost use Rattle.std.specs.Prelude.{◌≡◌, ◌≢◌, [], ◌++◌, Ok, IfOk};
 ghost use Rattle.up_ends.specs.Telling.{Grew};
-ghost use Rattle.up_faults.specs.Counts.{HasCause};
+ghost use Rattle.up_lists.specs.Counts.{HasCause, StaysUnless};
 ghost use Rattle.up_host.specs.Peers.{AsksStore, IsBlockAnswer, ReadsBlock, failed_after, group_text_by, peer_answer, peer_done};
 ghost use Rattle.up_peer.specs.Asking.{call_of};
 ghost use Rattle.up_peer.specs.InMemory.{faults_after};
@@ -177,6 +177,7 @@ impl<D: Disk + Drop> Peer for TreePeer<D> {
         ensures told { Grew (Some self.old.calls) (Some self.new.calls)
             (call_of (questions.Group group.now) result) }
         ensures counts { HasCause self.old.faults self.new.faults (result ≡ Ok answers.Failed) }
+        ensures quiet { StaysUnless self.old.faults self.new.faults (result ≡ Ok answers.Failed) }
     {
         let question = PeerQuestion::Group(group.clone()?);
         let reply = self.host.group_text(alloc, &self.asker, group);
@@ -193,6 +194,7 @@ impl<D: Disk + Drop> Peer for TreePeer<D> {
         ensures told { Grew (Some self.old.calls) (Some self.new.calls)
             (call_of (questions.Block reference.now) result) }
         ensures counts { HasCause self.old.faults self.new.faults (result ≡ Ok answers.Failed) }
+        ensures quiet { StaysUnless self.old.faults self.new.faults (result ≡ Ok answers.Failed) }
     {
         let given = self.host.block(reference);
         let answer = block_answer(given)?;

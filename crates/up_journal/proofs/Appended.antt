@@ -8,7 +8,7 @@ use Rattle.sha2.proofs.Facts256.{length-sha256}
 use Rattle.up_disk.specs.Disk.{LeavesOnly, part}
 use Rattle.up_disk.specs.declared.disk.Disk.{Ghosts}
 use Rattle.up_journal.specs.Cells.{Closed, EachAsOne, EachWhole, RestsAsOne, Stands, Whole}
-use Rattle.up_journal.specs.Crashes.{Leaves}
+use Rattle.up_disk.specs.Leaving.{Leaves}
 use Rattle.up_journal.specs.Format2.{format2, head_size}
 use Rattle.up_journal.specs.Gates.{behind_gate, record_bytes}
 use Rattle.up_journal.specs.Journal.{MayHave, StandsFor, State, bytes_of, gate_behind, is_full, with_further}

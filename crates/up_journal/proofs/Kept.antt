@@ -9,7 +9,7 @@ use Rattle.sha2.proofs.Facts256.{length-sha256}
 use Rattle.up_disk.specs.declared.disk.Disk.{Ghosts}
 use Rattle.up_disk.proofs.Moments.{started, weaker}
 use Rattle.up_journal.specs.Cells.{Closed, OnlyRead, Ready, Shape, Whole}
-use Rattle.up_journal.specs.Crashes.{Leaves, LeavesNow}
+use Rattle.up_disk.specs.Leaving.{Leaves, LeavesNow}
 use Rattle.up_journal.specs.Format1.{format1}
 use Rattle.up_journal.specs.Format2.{format2, head_of, head_size, log_of}
 use Rattle.up_journal.specs.Gates.{Format, IsFormat, behind_gate, front_of, has_name, head_size_of, is_open, log_behind_name, record_bytes}

@@ -1,10 +1,11 @@
 -- Logs of records over a journal, whatever the records are.
 use Rattle.std.proofs.Common.{◌≡◌, ◌≢◌, IfSome, ℕ, zero, suc, Bool, true, false, cond, List, [], ◌∷◌, ◌++◌, length, map, take, slice_get, Option, Some, None, is_some, IsSome, Result, Ok, Err, OnOk, OnErr, refl, sym, ap, ◌∙◌, subst, ◌⊎◌, inl, inr, ⊎_elim}
+use Rattle.std.proofs.lemmas.Bool.{false≢true}
 use Rattle.std.proofs.lemmas.List.{length-map, map-append}
 use Rattle.std.specs.Option.{option_and_then}
 use Rattle.up_disk.specs.declared.disk.Disk.{Ghosts}
 use Rattle.up_disk.proofs.Moments.{started, weaker}
-use Rattle.up_journal.specs.Crashes.{Leaves, LeavesNow}
+use Rattle.up_disk.specs.Leaving.{Leaves, LeavesNow}
 use Rattle.up_journal.specs.Damages.{Damage}
 use Rattle.up_journal.specs.Format2.{log_of}
 use Rattle.up_journal.specs.Journal.{HasLog, IsReadAs, IsSettled, MayHave, StandsFor, State, is_full, with_further}
@@ -217,6 +218,19 @@ module _ {D R : Type 0} (disks : Ghosts D) (decode : List ℕ → Option R) (fit
         (λ image stands. stands_for_log decode fits old.limits.largest log old.further image
         (stands_for_state (log_step decode fits) [] old.limits.largest old.log old.further log image keeps.replays stands));
   }
+
+  -- where the disk tells, a record may stand further exactly where one is doubtful
+  pub keeps_doubtful : (journal : State D) (log : List R) → KeepsLog disks decode fits spelling journal log → (IsSome journal.log → is_some journal.further ≡ journal.doubtful) → is_some journal.log ≡ is_some (disks.content journal.disk)
+      → IsSome (disks.content journal.disk) → is_some (further_record decode journal.further) ≡ journal.doubtful
+  keeps_doubtful journal log keeps doubtful told tells = decoded journal.further keeps.replays.fits ∙ doubtful (told ∙ tells)
+    where
+      decoded : (further : Option (List ℕ)) → ((payload : List ℕ) → further ≡ Some payload → IsSome (log_step decode fits log payload)) → is_some (further_record decode further) ≡ is_some further
+      decoded None step = refl
+      decoded (Some payload) step = by_record (decode payload) refl
+        where
+          by_record : (found : Option R) → decode payload ≡ found → is_some (decode payload) ≡ true
+          by_record None none = absurd (let e = sym (ap is_some (not_decoded decode fits log payload none)) ∙ step payload refl in false≢true e)
+          by_record (Some rec) some = ap is_some some
 
   -- ---- the limits, by the log
 

@@ -3,8 +3,8 @@ use Rattle.std.proofs.Common.{◌≡◌, ◌≤◌, ℕ, false, List, Option, So
 use Rattle.up_disk.specs.Disk.{LeavesOnly, Only}
 use Rattle.up_disk.specs.declared.disk.Disk.{Ghosts}
 use Rattle.up_disk.proofs.Moments.{joined, weaker}
-use Rattle.up_faults.specs.Counts.{HasCause}
-use Rattle.up_faults.proofs.Causes.{Rose-after}
+use Rattle.up_lists.specs.Counts.{HasCause}
+use Rattle.up_lists.proofs.Causes.{Rose-after}
 use Rattle.up_journal.specs.Cells.{OnlyRead}
 use Rattle.up_journal.specs.Format2.{format2}
 use Rattle.up_journal.specs.Gates.{has_name}

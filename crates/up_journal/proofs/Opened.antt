@@ -8,8 +8,8 @@ use Rattle.up_refs.specs.Sha256.{sha256}
 use Rattle.up_disk.specs.Disk.{Elapses, LeavesOnly, Only, Torn, part, written}
 use Rattle.up_disk.proofs.Moments.{goes_on, joined, started, weaker}
 use Rattle.up_disk.specs.declared.disk.Disk.{Ghosts}
-use Rattle.up_journal.specs.Cells.{Closed}
-use Rattle.up_journal.specs.Crashes.{IsOpened}
+use Rattle.up_journal.specs.Cells.{Closed, OnlyRead}
+use Rattle.up_journal.specs.Crashes.{FailsFirst, IsOpened, SyncsFirst}
 use Rattle.up_journal.specs.Damages.{Damage, Damaged, Chain, OldFormat}
 use Rattle.up_journal.specs.Format1.{format1}
 use Rattle.up_journal.specs.Format2.{format2, log_of}
@@ -281,16 +281,39 @@ pub if_ok_both : {T E : Type 0} (result : Result T E) (P Q R : T → Type 0) →
 if_ok_both (Ok x) P Q R both p q = both x p q
 if_ok_both (Err e) P Q R both p q = tt
 
--- a new device, whether it was begun or not
-pub begun_opened : {D : Type 0} (disks : Ghosts D) (only_now : (disk : D) (image : List ℕ) → disks.left_since disk (disks.moment disk) image → disks.may_leave disk image) (largest : ℕ) (disk mid new : D) → disks.size_of disk ≤ 9
-    → disks.content mid ≡ disks.content disk → ((image : List ℕ) → disks.may_leave mid image → disks.may_leave disk image) → Elapses (disks.moment disk) (disks.moment mid) (disks.left_since disk) (disks.left_since mid) (disks.may_leave mid)
-    → is_some (disks.content new) ≡ is_some (disks.content mid) → LeavesOnly disks.moment disks.left_since mid new (IsReadAs largest (disks.content mid)) → IsOpened disks largest disk new
-begun_opened disks only_now largest disk mid new short same fewer time told run = record {
-  told = told ∙ ap is_some same;
-  unchanged = λ long. absurd (omega (arith, long, short));
-  any_moment = joined disks.moment disks.left_since disk mid new (λ image. disks.may_leave disk image ⊎ IsReadAs largest (disks.content disk) image)
-      (goes_on disks.moment disks.left_since disk disk mid (λ image. disks.may_leave disk image ⊎ IsReadAs largest (disks.content disk) image) (disks.may_leave mid)
-      (started disks.moment disks.left_since disk (λ image. disks.may_leave disk image ⊎ IsReadAs largest (disks.content disk) image) (λ image left. inl (only_now disk image left))) time (λ image left. inl (fewer image left)))
-      (weaker disks.moment disks.left_since mid new (IsReadAs largest (disks.content mid)) (λ image. disks.may_leave disk image ⊎ IsReadAs largest (disks.content disk) image) run
-      (λ image read. inr (read_as largest (disks.content disk) (disks.content mid) image same read)));
-}
+-- what becomes of a disk that is synced, and then read or begun
+module _ {D : Type 0} (disks : Ghosts D) (only_now : (disk : D) (image : List ℕ) → disks.left_since disk (disks.moment disk) image → disks.may_leave disk image) (largest : ℕ) (disk mid : D)
+    (same : disks.content mid ≡ disks.content disk) (fewer : (image : List ℕ) → disks.may_leave mid image → disks.may_leave disk image)
+    (time : Elapses (disks.moment disk) (disks.moment mid) (disks.left_since disk) (disks.left_since mid) (disks.may_leave mid)) where
+  until_sync : LeavesOnly disks.moment disks.left_since disk mid (disks.may_leave disk)
+  until_sync = goes_on disks.moment disks.left_since disk disk mid (disks.may_leave disk) (disks.may_leave mid) (started disks.moment disks.left_since disk (disks.may_leave disk) (only_now disk)) time fewer
+
+  -- the sync failed
+  pub not_synced : (fault : Type 0) → fault → IsOpened disks largest disk mid fault
+  not_synced fault failed = record { told = ap is_some same; unchanged = λ long. same; any_moment = inl (record { failed = failed; until = until_sync }) }
+
+  -- behind it, what a crash leaves is read as the content
+  synced_first : (new : D) → Only (disks.content mid) (disks.may_leave mid) → LeavesOnly disks.moment disks.left_since mid new (IsReadAs largest (disks.content mid)) → SyncsFirst disks disk new (IsReadAs largest (disks.content disk))
+  synced_first new only run = record {
+    synced = mid;
+    until = until_sync;
+    settled = λ image left. sym same ∙ only image left;
+    behind = weaker disks.moment disks.left_since mid new (IsReadAs largest (disks.content mid)) (IsReadAs largest (disks.content disk)) run (λ image read. read_as largest (disks.content disk) (disks.content mid) image same read);
+  }
+
+  -- a device that is only read
+  pub read_opened : (new : D) (fault : Type 0) → Only (disks.content mid) (disks.may_leave mid) → OnlyRead disks mid new → IsOpened disks largest disk new fault
+  read_opened new fault only read = record {
+    told = ap is_some (read.same ∙ same);
+    unchanged = λ long. read.same ∙ same;
+    any_moment = inr (synced_first new only (weaker disks.moment disks.left_since mid new (disks.may_leave mid) (IsReadAs largest (disks.content mid)) read.run (λ image left. new_same largest (disks.content mid) image (only image left))));
+  }
+
+  -- a new device, whether it was begun or not
+  pub begun_opened : (new : D) (fault : Type 0) → disks.size_of disk ≤ 9 → is_some (disks.content new) ≡ is_some (disks.content mid) → Only (disks.content mid) (disks.may_leave mid)
+      → LeavesOnly disks.moment disks.left_since mid new (IsReadAs largest (disks.content mid)) → IsOpened disks largest disk new fault
+  begun_opened new fault short told only run = record {
+    told = told ∙ ap is_some same;
+    unchanged = λ long. absurd (omega (arith, long, short));
+    any_moment = inr (synced_first new only run);
+  }

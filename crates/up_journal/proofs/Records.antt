@@ -9,7 +9,8 @@ use Rattle.std.specs.List.{slice_get}
 use Rattle.std.specs.Option.{option_and_then}
 use Rattle.up_disk.proofs.Moments.{joined, started, weaker}
 use Rattle.up_disk.specs.declared.disk.Disk.{Ghosts}
-use Rattle.up_journal.specs.Crashes.{IsOpened, Leaves, LeavesNow}
+use Rattle.up_disk.specs.Leaving.{Leaves, LeavesNow}
+use Rattle.up_journal.specs.Crashes.{IsOpened, SyncsFirst}
 use Rattle.up_journal.specs.Damages.{Damage, Damaged}
 use Rattle.up_journal.specs.Format2.{head_size, log_of}
 use Rattle.up_journal.specs.Gates.{first_gate}
@@ -487,16 +488,26 @@ settled_log largest log further image none stands = by_log log (subst (λ (f : O
 
 module _ {D : Type 0} (disks : Ghosts D) where
   -- opening a journal, and then reading payloads
-  pub opened_and_read : (disk : D) (opened read : State D) (limits : Limits) → IsLogOf limits.largest (disks.content disk) opened.log → opened.further ≡ None → opened.limits ≡ limits
-      → IsOpened disks limits.largest disk opened.disk → OnlyPayloads disks opened read → IsOpened disks limits.largest disk read.disk
-  opened_and_read disk opened read limits log none same is_opened reads = record {
+  pub opened_and_read : (disk : D) (opened read : State D) (limits : Limits) (fault : Type 0) → IsLogOf limits.largest (disks.content disk) opened.log → opened.further ≡ None → opened.limits ≡ limits
+      → IsOpened disks limits.largest disk opened.disk ⊥ → OnlyPayloads disks opened read → IsOpened disks limits.largest disk read.disk fault
+  opened_and_read disk opened read limits fault log none same is_opened reads = record {
     told = ap is_some reads.same ∙ is_opened.told;
     unchanged = λ long. reads.same ∙ is_opened.unchanged long;
-    any_moment = joined disks.moment disks.left_since disk opened.disk read.disk (λ image. disks.may_leave disk image ⊎ IsReadAs limits.largest (disks.content disk) image) is_opened.any_moment
-        (weaker disks.moment disks.left_since opened.disk read.disk (StandsFor opened.limits.largest opened.log opened.further) (λ image. disks.may_leave disk image ⊎ IsReadAs limits.largest (disks.content disk) image) reads.run
-        (λ image stands. inr (read_as_content limits.largest (disks.content disk) opened.log image log
-        (settled_log limits.largest opened.log opened.further image none (subst (λ (l : Limits). StandsFor l.largest opened.log opened.further image) same stands)))));
+    any_moment = inr (⊎_elim (λ fails. absurd fails.failed) goes_on is_opened.any_moment);
   }
+    where
+      stands : (image : List ℕ) → StandsFor opened.limits.largest opened.log opened.further image → IsReadAs limits.largest (disks.content disk) image
+      stands image has = read_as_content limits.largest (disks.content disk) opened.log image log
+          (settled_log limits.largest opened.log opened.further image none (subst (λ (l : Limits). StandsFor l.largest opened.log opened.further image) same has))
+
+      goes_on : SyncsFirst disks disk opened.disk (IsReadAs limits.largest (disks.content disk)) → SyncsFirst disks disk read.disk (IsReadAs limits.largest (disks.content disk))
+      goes_on first = record {
+        synced = first.synced;
+        until = first.until;
+        settled = first.settled;
+        behind = joined disks.moment disks.left_since first.synced opened.disk read.disk (IsReadAs limits.largest (disks.content disk)) first.behind
+            (weaker disks.moment disks.left_since opened.disk read.disk (StandsFor opened.limits.largest opened.log opened.further) (IsReadAs limits.largest (disks.content disk)) reads.run stands);
+      }
 
   -- a refusal of the reader of the records leaves the disk synced
   pub refused_synced : (disk : D) (opened read : State D) (limits : Limits) → IsLogOf limits.largest (disks.content disk) opened.log → LeavesNow disks opened.disk (HasLog limits.largest opened.log)

@@ -4,7 +4,7 @@ use Rattle.up_disk.specs.Disk.{LeavesOnly, written}
 use Rattle.up_disk.specs.declared.disk.Disk.{Ghosts}
 use Rattle.up_disk.proofs.Moments.{weaker}
 use Rattle.up_journal.specs.Cells.{EachShape, IsOneOf, IsSized, Rests, RestsAsOne, Stands}
-use Rattle.up_journal.specs.Crashes.{Leaves}
+use Rattle.up_disk.specs.Leaving.{Leaves}
 use Rattle.up_journal.specs.Format2.{head_size}
 use Rattle.up_journal.specs.Gates.{behind_gate}
 use Rattle.up_journal.specs.Journal.{HasLog, MayHave, StandsFor, with_further}

@@ -2,7 +2,7 @@
 -- which record a payload decodes to, and which record fits behind others. This project's own.
 use Rattle.std.specs.Prelude.{◌≡◌, ◌≢◌, ◌⊎◌, ℕ, Bool, true, false, if◌then◌else◌, List, [], ◌∷◌, ◌++◌, length, map, take, slice_get, is_ok, is_some, Option, Some, None, option_and_then, Result, Ok, IfOk, IfSome, OnErr, OnOk}
 use Rattle.up_disk.specs.declared.disk.Disk.{Ghosts}
-use Rattle.up_journal.specs.Crashes.{Leaves, LeavesNow}
+use Rattle.up_disk.specs.Leaving.{Leaves, LeavesNow}
 use Rattle.up_journal.specs.Damages.{Damage}
 use Rattle.up_journal.specs.Journal.{IsReadAs, State, StandsFor}
 use Rattle.up_journal.specs.Opened.{IsDamageOf}

@@ -2,9 +2,9 @@
 use Rattle.std.specs.Prelude.{◌≡◌, ◌⊎◌, ◌<◌, ◌≤◌, ℕ, Bool, true, false, List, length, map, take, Option, Some, option_map, Result, Ok, Err, IfSome}
 use Rattle.std.specs.List.{slice_get}
 use Rattle.up_disk.specs.declared.disk.Disk.{Ghosts}
-use Rattle.up_faults.specs.Counts.{Rose}
+use Rattle.up_lists.specs.Counts.{Rose}
 use Rattle.up_journal.specs.Cells.{OnlyRead}
-use Rattle.up_journal.specs.Crashes.{LeavesNow}
+use Rattle.up_disk.specs.Leaving.{LeavesNow}
 use Rattle.up_journal.specs.Format1.{old_log_of}
 use Rattle.up_journal.specs.Format2.{format2, log_of}
 use Rattle.up_journal.specs.Gates.{has_name}

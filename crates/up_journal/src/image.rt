@@ -3,7 +3,7 @@ ghost use Rattle.std.specs.Prelude.{◌≡◌, ◌≤◌, ◌<◌, ◌+◌, ◌^
 ghost use Rattle.std.specs.List.{AllByRecursion};
 ghost use Rattle.up_refs.specs.Sha256.{sha256};
 ghost use Rattle.up_disk.specs.Disk.{part};
-ghost use Rattle.up_faults.specs.Counts.{HasCause};
+ghost use Rattle.up_lists.specs.Counts.{HasCause, StaysUnless};
 ghost use Rattle.up_journal.specs.Cells.{OnlyRead};
 ghost use Rattle.up_journal.specs.Format2.{format2, head_size};
 ghost use Rattle.up_journal.specs.Gates.{first_gate, record_bytes};
@@ -63,6 +63,8 @@ pub fn gathered<D: Disk>(
     ensures read { OnlyRead D.Disk disk.old disk.new }
     ensures counts { HasCause (D.faults disk.old) (D.faults disk.new)
         (IsErrOf result ReadWhy.Fault) }
+    ensures quiet { StaysUnless (D.faults disk.old) (D.faults disk.new)
+        (IsErrOf result ReadWhy.Fault) }
 {
     let mut so_far = begun(alloc, size)?;
     for span in spans {
@@ -108,6 +110,8 @@ fn gather<D: Disk>(disk: &mut D, so_far: &mut Gathering, span: Span) -> Result<(
         ≡ length so_far.old.image.items + (span.size + head_size)) }
     ensures read { OnlyRead D.Disk disk.old disk.new }
     ensures counts { HasCause (D.faults disk.old) (D.faults disk.new)
+        (IsErrOf result ReadWhy.Fault) }
+    ensures quiet { StaysUnless (D.faults disk.old) (D.faults disk.new)
         (IsErrOf result ReadWhy.Fault) }
 {
     read_record(disk, &mut so_far.payload, span.at, span.size as usize)?;

@@ -3,12 +3,13 @@ ghost use Rattle.std.specs.Prelude.{◌≡◌, ◌≢◌, ◌⊎◌, ◌<◌, �
 ghost use Rattle.std.specs.List.{AllByRecursion};
 ghost use Rattle.up_refs.specs.Sha256.{sha256};
 ghost use Rattle.up_disk.specs.Disk.{written};
-ghost use Rattle.up_journal.specs.Crashes.{IsOpened, Leaves, LeavesNow};
+ghost use Rattle.up_disk.specs.Leaving.{Leaves, LeavesNow};
+ghost use Rattle.up_journal.specs.Crashes.{IsOpened};
 ghost use Rattle.up_journal.specs.Format2.{format2, head_of, log_of};
 ghost use Rattle.up_journal.specs.Gates.{behind_gate, new_size, record_bytes};
 ghost use Rattle.up_journal.specs.Journal.{AreLimits, HasLog, IsReadAs, IsSettled, MayHave, StandsFor, bytes_of, gate_behind, is_full, with_further};
 ghost use Rattle.up_journal.specs.Opened.{IsDamageOf, IsLogOf, IsRefusedFor};
-ghost use Rattle.up_faults.specs.Counts.{HasCause};
+ghost use Rattle.up_lists.specs.Counts.{HasCause, StaysUnless};
 
 use crate::fault::{AppendWhy, OpenFault, OpenWhy, ReadWhy};
 use crate::format::{HEAD, framed};
@@ -99,8 +100,11 @@ impl<D: Disk> Journal<D> {
             → LeavesNow D.Disk fault.disk (IsReadAs limits.largest (D.content disk))) }
 
         // What becomes of the disk, whatever the answer. A crash now leaves the log.
-        ensures opened { IsOpened D.Disk limits.largest disk (disk_after result) }
+        ensures opened { IsOpened D.Disk limits.largest disk (disk_after result)
+            (IsRefusedFor result OpenWhy.Fault) }
         ensures counts { HasCause (D.faults disk) (D.faults (disk_after result))
+            (IsRefusedFor result OpenWhy.Fault) }
+        ensures quiet { StaysUnless (D.faults disk) (D.faults (disk_after result))
             (IsRefusedFor result OpenWhy.Fault) }
         ensures safe { IfOk result (λ journal.
             LeavesNow D.Disk journal.disk (HasLog limits.largest journal.log)) }
@@ -133,6 +137,13 @@ impl<D: Disk> Journal<D> {
             (StandsFor self.now.limits.largest self.now.log self.now.further) }
     {
         self.spans.len() as u64
+    }
+
+    /// The limits.
+    pub fn limits(&self) -> Limits
+        ensures { result ≡ self.now.limits }
+    {
+        self.limits
     }
 
     /// Whether there is no record.
@@ -186,7 +197,10 @@ impl<D: Disk> Journal<D> {
         ensures unchanged { self.new ≡ record self.old { disk = self.new.disk } }
         ensures content { D.content self.new.disk ≡ D.content self.old.disk }
         ensures fewer { LeavesNow D.Disk self.new.disk (D.may_leave self.old.disk) }
+        ensures no_fewer { LeavesNow D.Disk self.old.disk (D.may_leave self.new.disk) }
         ensures counts { HasCause (D.faults self.old.disk) (D.faults self.new.disk)
+            (IsErrOf result ReadWhy.Fault) }
+        ensures quiet { StaysUnless (D.faults self.old.disk) (D.faults self.new.disk)
             (IsErrOf result ReadWhy.Fault) }
         ensures memory { IsErrOf result ReadWhy.OutOfMemory → self.new ≡ self.old }
         ensures crash { Leaves D.Disk self.old.disk self.new.disk
@@ -210,7 +224,10 @@ impl<D: Disk> Journal<D> {
         ensures unchanged { self.new ≡ record self.old { disk = self.new.disk } }
         ensures content { D.content self.new.disk ≡ D.content self.old.disk }
         ensures fewer { LeavesNow D.Disk self.new.disk (D.may_leave self.old.disk) }
+        ensures no_fewer { LeavesNow D.Disk self.old.disk (D.may_leave self.new.disk) }
         ensures counts { HasCause (D.faults self.old.disk) (D.faults self.new.disk)
+            (IsErrOf result ReadWhy.Fault) }
+        ensures quiet { StaysUnless (D.faults self.old.disk) (D.faults self.new.disk)
             (IsErrOf result ReadWhy.Fault) }
         ensures memory { IsErrOf result ReadWhy.OutOfMemory → self.new ≡ self.old }
         ensures crash { Leaves D.Disk self.old.disk self.new.disk
@@ -268,6 +285,8 @@ impl<D: Disk> Journal<D> {
         ensures told { is_some (D.content self.new.disk) ≡ is_some (D.content self.old.disk) }
         ensures counts { HasCause (D.faults self.old.disk) (D.faults self.new.disk)
             (IsErrOf result AppendWhy.Fault) }
+        ensures quiet { StaysUnless (D.faults self.old.disk) (D.faults self.new.disk)
+            (IsErrOf result AppendWhy.Fault) }
 
         // What a crash leaves now, and what it might have left since the call began.
         ensures crash { Leaves D.Disk self.old.disk self.new.disk
@@ -305,6 +324,7 @@ impl<D: Disk> Journal<D> {
         ensures limits { self.new.limits ≡ self.old.limits }
         ensures told { is_some (D.content self.new.disk) ≡ is_some (D.content self.old.disk) }
         ensures counts { HasCause (D.faults self.old.disk) (D.faults self.new.disk) (IsErr result) }
+        ensures quiet { StaysUnless (D.faults self.old.disk) (D.faults self.new.disk) (IsErr result) }
         ensures crash { Leaves D.Disk self.old.disk self.new.disk
             (StandsFor self.new.limits.largest self.new.log self.new.further)
             (StandsFor self.old.limits.largest self.old.log self.old.further) }

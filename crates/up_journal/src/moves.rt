@@ -1,7 +1,7 @@
 //! A log is moved from a device of the first format to one of the second.
 ghost use Rattle.std.specs.Prelude.{◌≡◌, ◌≢◌, ◌<◌, ℕ, Ok, Err, false, is_some, IfOk, IfSome, IsErr, IsErrOf};
 ghost use Rattle.up_disk.specs.Disk.{LeavesOnly, Only};
-ghost use Rattle.up_faults.specs.Counts.{HasCause};
+ghost use Rattle.up_lists.specs.Counts.{HasCause, StaysUnless};
 ghost use Rattle.up_journal.specs.Cells.{OnlyRead};
 ghost use Rattle.up_journal.specs.Damages.{Damaged};
 ghost use Rattle.up_journal.specs.Format1.{old_log_of};
@@ -54,6 +54,10 @@ pub fn migrate<D: Disk>(
         → IfSome (D.content old.old) (IsOver limits n) }
     ensures counts { HaveCause (D.faults old.old) (D.faults old.new)
         (D.faults new.old) (D.faults new.new) (IsErrOf result MoveWhy.Fault) }
+    ensures old_quiet { StaysUnless (D.faults old.old) (D.faults old.new)
+        (IsErrOf result MoveWhy.Fault) }
+    ensures new_quiet { StaysUnless (D.faults new.old) (D.faults new.new)
+        (IsErrOf result MoveWhy.Fault) }
 
     // The old device stays as it is, and the new one where nothing was copied and no disk failed.
     ensures old_stays { OnlyRead D.Disk old.old old.new }
@@ -82,6 +86,7 @@ fn is_begun<D: Disk>(disk: &mut D) -> Result<bool, Failed>
         (λ bytes. begun ≡ has_name format2 bytes)) }
     ensures read { OnlyRead D.Disk disk.old disk.new }
     ensures counts { HasCause (D.faults disk.old) (D.faults disk.new) (IsErr result) }
+    ensures quiet { StaysUnless (D.faults disk.old) (D.faults disk.new) (IsErr result) }
 {
     if disk.size() < FIRST_GATE {
         return Ok(false);
@@ -103,6 +108,10 @@ fn copy<D: Disk>(alloc: Global, old: &mut D, new: &mut D, limits: Limits) -> Res
         → IfSome (D.content old.old) (IsOver limits n) }
     ensures counts { HaveCause (D.faults old.old) (D.faults old.new)
         (D.faults new.old) (D.faults new.new) (IsErrOf result MoveWhy.Fault) }
+    ensures old_quiet { StaysUnless (D.faults old.old) (D.faults old.new)
+        (IsErrOf result MoveWhy.Fault) }
+    ensures new_quiet { StaysUnless (D.faults new.old) (D.faults new.new)
+        (IsErrOf result MoveWhy.Fault) }
     ensures old_stays { OnlyRead D.Disk old.old old.new }
     ensures new_stays { ((n : ℕ) → result ≢ Ok (Moved.Copied n)) → result ≢ Err MoveWhy.Fault
         → new.new ≡ new.old }

@@ -1,7 +1,7 @@
 //! What stands on a device of the first format.
 ghost use Rattle.std.specs.Prelude.{◌≡◌, ◌<◌, ◌≤◌, ◌^◌, ◌+◌, ℕ, [], Err, Ok, true, false, drop, IfOk, IfSome, IsErrOf, OnOk};
 ghost use Rattle.std.specs.List.{AllByRecursion};
-ghost use Rattle.up_faults.specs.Counts.{HasCause};
+ghost use Rattle.up_lists.specs.Counts.{HasCause, StaysUnless};
 ghost use Rattle.up_journal.specs.Cells.{OnlyRead};
 ghost use Rattle.up_journal.specs.Damages.{Damaged};
 ghost use Rattle.up_journal.specs.Format1.{format1, old_log_of};
@@ -38,6 +38,8 @@ pub fn old_spans<D: Disk>(alloc: Global, disk: &mut D, largest: u64) -> Result<V
     ensures read { OnlyRead D.Disk disk.old disk.new }
     ensures counts { HasCause (D.faults disk.old) (D.faults disk.new)
         (IsErrOf result MoveWhy.Fault) }
+    ensures quiet { StaysUnless (D.faults disk.old) (D.faults disk.new)
+        (IsErrOf result MoveWhy.Fault) }
 {
     let device = disk.size();
     if device <= NEW.len() as u64 {
@@ -73,6 +75,8 @@ fn read_old_gates<D: Disk>(
     ensures read { OnlyRead D.Disk disk.old disk.new }
     ensures counts { HasCause (D.faults disk.old) (D.faults disk.new)
         (IsErrOf result MoveWhy.Fault) }
+    ensures quiet { StaysUnless (D.faults disk.old) (D.faults disk.new)
+        (IsErrOf result MoveWhy.Fault) }
 {
     let mut found = OldFound {
         spans: Vec::new(alloc),
@@ -104,6 +108,8 @@ fn next_old<D: Disk>(
     ensures not_full { (n : ℕ) → result ≡ Err (MoveWhy.Full n) → ⊥ }
     ensures read { OnlyRead D.Disk disk.old disk.new }
     ensures counts { HasCause (D.faults disk.old) (D.faults disk.new)
+        (IsErrOf result MoveWhy.Fault) }
+    ensures quiet { StaysUnless (D.faults disk.old) (D.faults disk.new)
         (IsErrOf result MoveWhy.Fault) }
 {
     let size = match read_gate(disk, found.gate, device, OLD_HEAD, largest)? {

@@ -9,7 +9,7 @@ ghost use Rattle.up_journal.specs.Gates.{first_gate, has_name, is_open, new_size
 ghost use Rattle.up_journal.specs.Journal.{AreLimits, IsReadAs};
 ghost use Rattle.up_journal.specs.Kept.{AreGates, IsKept, log_seen};
 ghost use Rattle.up_journal.specs.Opened.{IsDamageOf, IsLogOf};
-ghost use Rattle.up_faults.specs.Counts.{HasCause};
+ghost use Rattle.up_lists.specs.Counts.{HasCause, StaysUnless};
 
 use crate::fault::OpenWhy;
 use crate::format::{FIRST_GATE, FIRST_LINK, HEAD, NAME, NEW, OLD_NAME};
@@ -40,8 +40,11 @@ pub fn find<D: Disk>(alloc: Global, disk: &mut D, limits: Limits) -> Result<Foun
     ensures damaged { IfErr result (IsDamageOf (log_of limits.largest) (D.content disk.old)) }
     ensures synced { IfErr result (λ why. why ≢ OpenWhy.Fault → (image : List ℕ)
         → D.may_leave disk.new image → IsReadAs limits.largest (D.content disk.old) image) }
-    ensures opened { IsOpened D.Disk limits.largest disk.old disk.new }
+    ensures opened { IsOpened D.Disk limits.largest disk.old disk.new
+        (IsErrOf result OpenWhy.Fault) }
     ensures counts { HasCause (D.faults disk.old) (D.faults disk.new)
+        (IsErrOf result OpenWhy.Fault) }
+    ensures quiet { StaysUnless (D.faults disk.old) (D.faults disk.new)
         (IsErrOf result OpenWhy.Fault) }
 {
     disk.sync()?;
@@ -64,6 +67,7 @@ fn start<D: Disk>(disk: &mut D) -> Result<(), Failed>
     ensures size { OnOk result (first_gate < D.size_of disk.new) }
     ensures told { is_some (D.content disk.new) ≡ is_some (D.content disk.old) }
     ensures cause { HasCause (D.faults disk.old) (D.faults disk.new) (IsErr result) }
+    ensures quiet { StaysUnless (D.faults disk.old) (D.faults disk.new) (IsErr result) }
     ensures begun { OnOk result
         (IfSome (D.content disk.new) (λ bytes. bytes ≡ format2.name ++ 0 ∷ [])) }
     ensures durable { OnOk result (Only (D.content disk.new) (D.may_leave disk.new)) }
@@ -84,6 +88,8 @@ fn check_name<D: Disk>(disk: &mut D) -> Result<(), OpenWhy>
         → IfErr result (IsDamageOf (log_of largest) (D.content disk.old)) }
     ensures read { OnlyRead D.Disk disk.old disk.new }
     ensures counts { HasCause (D.faults disk.old) (D.faults disk.new)
+        (IsErrOf result OpenWhy.Fault) }
+    ensures quiet { StaysUnless (D.faults disk.old) (D.faults disk.new)
         (IsErrOf result OpenWhy.Fault) }
 {
     let name = read_name(disk)?;
@@ -114,6 +120,8 @@ fn read_gates<D: Disk>(
     ensures damaged { IfErr result (IsDamageOf (log_of largest) (D.content disk.old)) }
     ensures read { OnlyRead D.Disk disk.old disk.new }
     ensures counts { HasCause (D.faults disk.old) (D.faults disk.new)
+        (IsErrOf result OpenWhy.Fault) }
+    ensures quiet { StaysUnless (D.faults disk.old) (D.faults disk.new)
         (IsErrOf result OpenWhy.Fault) }
 {
     let mut buffer = Vec::new(alloc);
@@ -148,6 +156,8 @@ fn next_record<D: Disk>(
     ensures damaged { IfErr result (IsDamageOf (log_of largest) (D.content disk.old)) }
     ensures read { OnlyRead D.Disk disk.old disk.new }
     ensures counts { HasCause (D.faults disk.old) (D.faults disk.new)
+        (IsErrOf result OpenWhy.Fault) }
+    ensures quiet { StaysUnless (D.faults disk.old) (D.faults disk.new)
         (IsErrOf result OpenWhy.Fault) }
 {
     let size = match read_gate(disk, found.gate, device, HEAD, largest)? {

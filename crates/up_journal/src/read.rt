@@ -1,10 +1,11 @@
 //! Reads of a disk.
 ghost use Rattle.std.specs.Prelude.{◌≡◌, ◌<◌, ◌≤◌, ◌+◌, ◌^◌, ℕ, length, take, drop, vec_len, IfOk, IfSome, IsErr, IsErrOf, Ok, OnOk};
 ghost use Rattle.up_disk.specs.Disk.{part};
+ghost use Rattle.up_disk.specs.Leaving.{LeavesNow};
 ghost use Rattle.up_journal.specs.Cells.{OnlyRead};
 ghost use Rattle.up_journal.specs.Gates.{first_gate, length_bytes};
 ghost use Rattle.up_journal.specs.Reading.{IsWithin, gate_at};
-ghost use Rattle.up_faults.specs.Counts.{HasCause};
+ghost use Rattle.up_lists.specs.Counts.{HasCause, StaysUnless};
 
 use crate::fault::ReadWhy;
 use crate::format::{OPEN, length_of};
@@ -20,7 +21,10 @@ pub fn read_span<D: Disk>(alloc: Global, disk: &mut D, span: Span) -> Result<Byt
     ensures bytes { IfOk result (λ found. IfSome (D.content disk.old)
         (λ bytes. found ≡ part span.at span.size bytes)) }
     ensures read { OnlyRead D.Disk disk.old disk.new }
+    ensures no_fewer { LeavesNow D.Disk disk.old (D.may_leave disk.new) }
     ensures counts { HasCause (D.faults disk.old) (D.faults disk.new)
+        (IsErrOf result ReadWhy.Fault) }
+    ensures quiet { StaysUnless (D.faults disk.old) (D.faults disk.new)
         (IsErrOf result ReadWhy.Fault) }
     ensures memory { IsErrOf result ReadWhy.OutOfMemory → disk.new ≡ disk.old }
 {
@@ -43,6 +47,8 @@ pub fn read_record<D: Disk>(
     ensures read { OnlyRead D.Disk disk.old disk.new }
     ensures counts { HasCause (D.faults disk.old) (D.faults disk.new)
         (IsErrOf result ReadWhy.Fault) }
+    ensures quiet { StaysUnless (D.faults disk.old) (D.faults disk.new)
+        (IsErrOf result ReadWhy.Fault) }
 {
     buffer.resize(length, 0)?;
     disk.read(at, buffer.as_mut_slice())?;
@@ -56,6 +62,7 @@ pub fn read_name<D: Disk>(disk: &mut D) -> Result<[u8; 8], Failed>
         (λ bytes. name ≡ take first_gate bytes)) }
     ensures read { OnlyRead D.Disk disk.old disk.new }
     ensures counts { HasCause (D.faults disk.old) (D.faults disk.new) (IsErr result) }
+    ensures quiet { StaysUnless (D.faults disk.old) (D.faults disk.new) (IsErr result) }
 {
     let mut name = [0u8; 8];
     disk.read(0, &mut name)?;
@@ -92,6 +99,7 @@ pub fn read_gate<D: Disk>(
     ensures within { (n : ℕ) → result ≡ Ok (Gate.Open n) → IsWithin head largest device place n }
     ensures read { OnlyRead D.Disk disk.old disk.new }
     ensures counts { HasCause (D.faults disk.old) (D.faults disk.new) (IsErr result) }
+    ensures quiet { StaysUnless (D.faults disk.old) (D.faults disk.new) (IsErr result) }
 {
     let left = device - place;
     if left < 5 {
@@ -119,6 +127,7 @@ fn read_last<D: Disk>(disk: &mut D, place: u64) -> Result<Gate, Failed>
     ensures small { (n : ℕ) → result ≡ Ok (Gate.Open n) → ⊥ }
     ensures read { OnlyRead D.Disk disk.old disk.new }
     ensures counts { HasCause (D.faults disk.old) (D.faults disk.new) (IsErr result) }
+    ensures quiet { StaysUnless (D.faults disk.old) (D.faults disk.new) (IsErr result) }
 {
     let mut last = [0u8; 1];
     disk.read(place, &mut last)?;

@@ -3,7 +3,7 @@ ghost use Rattle.std.specs.Prelude.{◌≡◌, ◌⊎◌, ◌<◌, ◌≤◌, �
 ghost use Rattle.up_disk.specs.Disk.{LeavesOnly, written};
 ghost use Rattle.up_journal.specs.Cells.{EachAsOne, EachShape, EachWhole, Rests, RestsAsOne, Stands};
 ghost use Rattle.up_journal.specs.Format2.{head_size};
-ghost use Rattle.up_faults.specs.Counts.{HasCause};
+ghost use Rattle.up_lists.specs.Counts.{HasCause, StaysUnless};
 
 use crate::format::{CLOSED, OPEN};
 use up_disk::{Disk, Failed};
@@ -17,6 +17,7 @@ fn set_gate<D: Disk>(disk: &mut D, gate: u64, byte: u8) -> Result<(), Failed>
     ensures content { OnOk result
         (D.content disk.new ≡ option_map (written gate (byte ∷ [])) (D.content disk.old)) }
     ensures cause { HasCause (D.faults disk.old) (D.faults disk.new) (IsErr result) }
+    ensures quiet { StaysUnless (D.faults disk.old) (D.faults disk.new) (IsErr result) }
     ensures any_moment { (behind front : List ℕ) → length front ≡ gate
         → EachShape (Some behind) front (D.may_leave disk.old)
         → LeavesOnly D.moment D.left_since disk.old disk.new
@@ -39,6 +40,7 @@ fn write_behind<D: Disk>(disk: &mut D, gate: u64, behind: &[u8]) -> Result<(), F
     ensures content { OnOk result
         (D.content disk.new ≡ option_map (written (gate + 1) behind.now) (D.content disk.old)) }
     ensures cause { HasCause (D.faults disk.old) (D.faults disk.new) (IsErr result) }
+    ensures quiet { StaysUnless (D.faults disk.old) (D.faults disk.new) (IsErr result) }
     ensures any_moment { (front : List ℕ) → length front ≡ gate
         → EachShape None front (D.may_leave disk.old)
         → LeavesOnly D.moment D.left_since disk.old disk.new
@@ -60,6 +62,7 @@ pub fn settle<D: Disk>(disk: &mut D, gate: u64, doubtful: &mut Option<u64>) -> R
     ensures content { OnOk result (IsSome doubtful.old
         → D.content disk.new ≡ option_map (written gate (0 ∷ [])) (D.content disk.old)) }
     ensures counts { HasCause (D.faults disk.old) (D.faults disk.new) (IsErr result) }
+    ensures quiet { StaysUnless (D.faults disk.old) (D.faults disk.new) (IsErr result) }
     ensures settled { OnOk result (doubtful.new ≡ None) }
     ensures doubtful { OnErr result ((doubtful.new ≡ doubtful.old) × IsSome doubtful.old) }
     ensures untouched { IsNone doubtful.old → disk.new ≡ disk.old }
@@ -96,6 +99,7 @@ pub fn write_record<D: Disk>(
     ensures content { OnOk result (D.content disk.new
         ≡ option_map (written gate (1 ∷ behind.now)) (D.content disk.old)) }
     ensures counts { HasCause (D.faults disk.old) (D.faults disk.new) (IsErr result) }
+    ensures quiet { StaysUnless (D.faults disk.old) (D.faults disk.new) (IsErr result) }
     ensures settled { OnOk result (doubtful.new ≡ None) }
     ensures doubtful { OnErr result ((doubtful.new ≡ None) ⊎ ((doubtful.new ≡ doubtful.old)
         ⊎ ((doubtful.new ≡ Some size) × (gate + 1 + length behind.now ≤ D.size_of disk.new)))) }

@@ -1,7 +1,7 @@
 //! The writes of a whole image, of which the first byte is the switch.
 ghost use Rattle.std.specs.Prelude.{◌≡◌, ◌≤◌, ◌+◌, ◌^◌, false, is_some, length, max, take, option_map, IfSome, IsErr, OnOk};
 ghost use Rattle.up_disk.specs.Disk.{CutShort, LeavesOnly, Only, Torn, written};
-ghost use Rattle.up_faults.specs.Counts.{HasCause};
+ghost use Rattle.up_lists.specs.Counts.{HasCause, StaysUnless};
 ghost use Rattle.up_journal.specs.Format2.{format2};
 ghost use Rattle.up_journal.specs.Gates.{first_gate, has_name};
 ghost use Rattle.up_journal.specs.Moving.{IsSwitched, MayStep};
@@ -18,6 +18,7 @@ pub fn write_image<D: Disk>(disk: &mut D, image: &[u8]) -> Result<(), Failed>
     ensures durable { OnOk result (Only (D.content disk.new) (D.may_leave disk.new)) }
     ensures told { is_some (D.content disk.new) ≡ is_some (D.content disk.old) }
     ensures counts { HasCause (D.faults disk.old) (D.faults disk.new) (IsErr result) }
+    ensures quiet { StaysUnless (D.faults disk.old) (D.faults disk.new) (IsErr result) }
     ensures any_moment { Only (D.content disk.old) (D.may_leave disk.old)
         → IfSome (D.content disk.old) (λ bytes. has_name format2 bytes ≡ false)
         → LeavesOnly D.moment D.left_since disk.old disk.new (IsSwitched image.now) }
@@ -35,6 +36,7 @@ fn empty<D: Disk>(disk: &mut D) -> Result<(), Failed>
     ensures durable { OnOk result (Only (D.content disk.new) (D.may_leave disk.new)) }
     ensures told { is_some (D.content disk.new) ≡ is_some (D.content disk.old) }
     ensures counts { HasCause (D.faults disk.old) (D.faults disk.new) (IsErr result) }
+    ensures quiet { StaysUnless (D.faults disk.old) (D.faults disk.new) (IsErr result) }
     ensures any_moment { LeavesOnly D.moment D.left_since disk.old disk.new
         (MayStep (CutShort 0) (D.may_leave disk.old)) }
 {
@@ -53,6 +55,7 @@ fn write<D: Disk>(disk: &mut D, at: u64, bytes: &[u8]) -> Result<(), Failed>
     ensures durable { OnOk result (Only (D.content disk.new) (D.may_leave disk.new)) }
     ensures told { is_some (D.content disk.new) ≡ is_some (D.content disk.old) }
     ensures counts { HasCause (D.faults disk.old) (D.faults disk.new) (IsErr result) }
+    ensures quiet { StaysUnless (D.faults disk.old) (D.faults disk.new) (IsErr result) }
     ensures any_moment { LeavesOnly D.moment D.left_since disk.old disk.new
         (MayStep (Torn at (length bytes.now)) (D.may_leave disk.old)) }
 {

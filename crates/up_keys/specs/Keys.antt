@@ -1,7 +1,7 @@
 -- What contracts see of a key server's log, and what it keeps. This project's own.
 use Rattle.std.specs.Prelude.{◌≡◌, ◌≢◌, ◌≤◌, ℕ, true, List, length, map, Some, Result, Ok, Err, IfErr, IsErrOf}
 use Rattle.up_disk.specs.declared.disk.Disk.{Ghosts}
-use Rattle.up_faults.specs.Counts.{HasCause}
+use Rattle.up_lists.specs.Counts.{HasCause}
 use Rattle.up_journal.specs.Journal.{State, is_full}
 use Rattle.up_journal.specs.Logs.{AddsRecord, EachFits, KeepsLog, LogState}
 use Rattle.up_journal.specs.declared.fault.AppendWhy.{AppendWhy}

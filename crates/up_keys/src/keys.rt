@@ -2,8 +2,9 @@
 ghost use Rattle.std.specs.Prelude.{◌≡◌, ◌≤◌, ◌<◌, Some, true, false, length, IfErr, IfOk, IsErr, IsOk, OnOk, slice_get, vec_capacity, vec_len};
 ghost use Rattle.std.specs.Option.{option_copied};
 ghost use Rattle.up_ends.specs.Growing.{OnlyGrows};
-ghost use Rattle.up_faults.specs.Counts.{HasCause};
-ghost use Rattle.up_journal.specs.Crashes.{IsOpened, LeavesNow};
+ghost use Rattle.up_lists.specs.Counts.{HasCause};
+ghost use Rattle.up_disk.specs.Leaving.{LeavesNow};
+ghost use Rattle.up_journal.specs.Crashes.{IsOpened};
 ghost use Rattle.up_journal.specs.Journal.{AreLimits};
 ghost use Rattle.up_journal.specs.Opened.{IsRefusedFor};
 ghost use Rattle.up_journal.specs.Logs.{EachFits, OpensLog, RefusesLog, ResolvesLog, StandsForLog};
@@ -112,6 +113,13 @@ impl<D: Disk> Keys<D> {
                 why,
             }),
         }
+    }
+
+    /// The limits.
+    pub fn limits(&self) -> Limits
+        ensures { result ≡ self.now.limits }
+    {
+        self.journal.limits()
     }
 
     /// The number of records. What it says besides holds of every key server's log at every moment.

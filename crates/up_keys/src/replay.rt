@@ -1,7 +1,7 @@
 //! The records of a journal's log.
 ghost use Rattle.std.specs.Prelude.{◌≡◌, ◌<◌, ◌++◌, ◌∷◌, [], ℕ, List, Ok, Some, None, true, false, length, IfErr, IfOk, IfSome, IsErrOf, OnOk, vec_capacity, vec_len};
 ghost use Rattle.std.specs.FinMap.Entries.{put};
-ghost use Rattle.up_faults.specs.Counts.{HasCause};
+ghost use Rattle.up_lists.specs.Counts.{HasCause};
 ghost use Rattle.up_journal.specs.Logs.{EachFits, log_step};
 ghost use Rattle.up_journal.specs.Opened.{IsDamageOf};
 ghost use Rattle.up_journal.specs.Records.{OnlyPayloads, replay};

@@ -1,7 +1,7 @@
 //! What a key server answers to a request.
 ghost use Rattle.std.specs.Prelude.{◌≡◌, ◌≢◌, IfOk};
 ghost use Rattle.up_ends.specs.Growing.{OnlyGrows};
-ghost use Rattle.up_faults.specs.Counts.{HasCause};
+ghost use Rattle.up_lists.specs.Counts.{HasCause};
 ghost use Rattle.up_keys.specs.Answers.{IsAsked, KeySteps, PutsAsked, ToPut, looked_up, may_put, put_reply, to_put};
 ghost use Rattle.up_keys.specs.Keys.{limits_of, log_of};
 

@@ -2,10 +2,10 @@
 use Rattle.std.proofs.Common.{◌≡◌, ◌≢◌, ◌≤◌, ◌+◌, ◌-◌, ◌^◌, ℕ, Bool, true, false, cond, ltb, List, [], ◌∷◌, ◌++◌, length, Some, None, is_some, Result, Ok, Err, IsErrAnd, refl, sym, ◌∙◌, ap, subst, ◌⊎◌, arith}
 use Rattle.std.proofs.lemmas.Bool.{ltb-false}
 use Rattle.std.proofs.lemmas.List.Sums.{sum_by-append, sum_by-cons}
-use Rattle.up_faults.specs.Counts.{HasCause}
-use Rattle.up_faults.proofs.Causes.{HasCause-same, HasCause-weaker}
+use Rattle.up_lists.specs.Counts.{HasCause}
+use Rattle.up_lists.proofs.Causes.{HasCause-same, HasCause-weaker}
 use Rattle.up_disk.specs.declared.disk.Disk.{Ghosts}
-use Rattle.up_journal.specs.Crashes.{Leaves}
+use Rattle.up_disk.specs.Leaving.{Leaves}
 use Rattle.up_journal.specs.Journal.{IsSettled, MayHave, StandsFor, State, is_full, with_further}
 use Rattle.up_journal.specs.Logs.{log_state}
 use Rattle.up_journal.specs.declared.fault.AppendWhy.{AppendWhy}

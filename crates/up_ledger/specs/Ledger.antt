@@ -1,6 +1,6 @@
 -- What contracts see of a ledger, and what it keeps. This project's own.
 use Rattle.std.specs.Prelude.{◌≡◌, ◌≢◌, ◌≤◌, ℕ, true, false, List, length, map, sum_by, Result, Ok, Err, IfErr, IsErrOf}
-use Rattle.up_faults.specs.Counts.{HasCause}
+use Rattle.up_lists.specs.Counts.{HasCause}
 use Rattle.up_disk.specs.declared.disk.Disk.{Ghosts}
 use Rattle.up_journal.specs.Journal.{State, is_full}
 use Rattle.up_journal.specs.Logs.{AddsRecord, KeepsLog, LogState}

@@ -2,8 +2,9 @@
 ghost use Rattle.std.specs.Prelude.{◌≡◌, ◌≤◌, ◌+◌, ◌-◌, ◌↔◌, Some, false, length, is_ok, if◌then◌else◌, IfErr, IfOk, IsErr, IsOk, IsTrue, OnOk, slice_get};
 ghost use Rattle.std.specs.Option.{option_copied};
 ghost use Rattle.up_ends.specs.Growing.{OnlyGrows};
-ghost use Rattle.up_faults.specs.Counts.{HasCause};
-ghost use Rattle.up_journal.specs.Crashes.{IsOpened, LeavesNow};
+ghost use Rattle.up_lists.specs.Counts.{HasCause};
+ghost use Rattle.up_disk.specs.Leaving.{LeavesNow};
+ghost use Rattle.up_journal.specs.Crashes.{IsOpened};
 ghost use Rattle.up_journal.specs.Journal.{AreLimits};
 ghost use Rattle.up_journal.specs.Opened.{IsRefusedFor};
 ghost use Rattle.up_journal.specs.Logs.{OpensLog, RefusesLog, ResolvesLog, StandsForLog};

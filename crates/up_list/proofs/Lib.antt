@@ -7,6 +7,7 @@ pub mod MeetLemmas
 pub mod SortedLemmas
 pub mod PickLemmas
 pub mod ChildLemmas
+pub mod FewLemmas
 pub mod LiteralLemmas
 pub mod DownLemmas
 pub mod RowLemmas

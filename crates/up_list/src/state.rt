@@ -26,6 +26,7 @@ use up_wire::{Reply, bounded};
 /// the path itself is not looked at.
 #[tactic(auto, unfolding(crate::specs::Checks::ways_before))]
 pub fn first_link<D: Disk>(
+    _alloc: Global,
     state: &TreeState<D>,
     path: &Path,
     itself: bool,

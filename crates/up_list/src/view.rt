@@ -1,8 +1,9 @@
 //! The tree of a log, as it is or as it was, and a user before it.
-ghost use Rattle.std.specs.Prelude.{◌≡◌, ◌≤◌, ◌<◌, None, IfOk, length, map, take};
+ghost use Rattle.std.specs.Prelude.{◌≡◌, ◌≤◌, ◌<◌, None, Err, IfOk, IsErr, alloc_error, length, map, take};
 ghost use Rattle.std.specs.Option.{option_and_then, option_copied, option_map};
-ghost use Rattle.up_names.specs.PathNames.{cut, extended};
-ghost use Rattle.up_list.specs.Entries.{entries_in, entry_at, entry_of, entry_on_way};
+ghost use Rattle.up_names.specs.Faults.{Gives};
+ghost use Rattle.up_names.specs.PathNames.{cut, extended, joined};
+ghost use Rattle.up_list.specs.Entries.{entries_in, entry_at, entry_of, entry_on_way, path_made};
 ghost use Rattle.up_list.specs.Founds.{entry_found};
 ghost use Rattle.up_list.specs.Reads.{file_text};
 ghost use Rattle.up_list.specs.Rooted.{IsRooted};
@@ -157,18 +158,13 @@ impl Onlooker for TreeLook<'_> {
         Ok(kept(standing(self.tree, path)?))
     }
 
-    #[tactic(auto, using(crate::proofs::GlobLemmas::joined_is))]
     fn item_in(
         &self,
         _alloc: Global,
         dir: &Path,
         name: &str,
     ) -> Result<Option<Found<'_>>, AllocError> {
-        match dir.join(name) {
-            Ok(path) => Ok(kept(self.tree.node(&path))),
-            Err(NameFault::OutOfMemory) => Err(AllocError),
-            Err(_) => Ok(kept(child_named(self.tree, dir, name)?)),
-        }
+        named_in(self.tree, dir, name, dir.join(name))
     }
 
     fn items_in(&self, alloc: Global, dir: &Path) -> Result<Vec<Found<'_>>, AllocError> {
@@ -266,30 +262,55 @@ fn items_of<'a>(alloc: Global, tree: &'a MemTree, dir: &Path) -> Result<Vec<Foun
     Err(AllocError)
 }
 
-/// The item of this name in a directory, found by looking at each.
-fn child_named<'a>(
+/// The path that was made of a directory and a name, or `None` where the two make none. Memory is wanting only where it was for
+/// the path.
+pub fn path_made(joined: Result<Path, NameFault>) -> Result<Option<Path>, AllocError>
+    ensures { result ≡ path_made joined }
+{
+    match joined {
+        Ok(path) => Ok(Some(path)),
+        Err(NameFault::OutOfMemory) => Err(AllocError),
+        Err(_) => Ok(None),
+    }
+}
+
+/// The item of this name in a directory, once its path was made. Memory is wanting only where it was for the path.
+#[tactic(auto, using(crate::proofs::GlobLemmas::joined_is))]
+fn named_in<'a>(
     tree: &'a MemTree,
     dir: &Path,
     name: &str,
-) -> Result<Option<&'a Node>, AllocError>
-    ensures { IfOk result (λ found. option_map entry_of (option_copied found)
+    joined: Result<Path, NameFault>,
+) -> Result<Option<Found<'a>>, AllocError>
+    requires { Gives (λ path. path) joined (joined dir.now name.now) }
+    ensures found { IfOk result (λ found. option_map entry_found found
         ≡ entry_at (tree_of tree.now.log) (extended dir.now name.now)) }
+    ensures memory { IsErr result → path_made joined ≡ Err alloc_error }
 {
-    let _records = tree.position();
+    match path_made(joined)? {
+        Some(path) => Ok(kept(tree.node(&path))),
+        None => Ok(kept(child_named(tree, dir, name))),
+    }
+}
+
+/// The item of this name in a directory, found by looking at each. It takes no memory.
+fn child_named<'a>(tree: &'a MemTree, dir: &Path, name: &str) -> Option<&'a Node>
+    ensures { option_map entry_of (option_copied result)
+        ≡ entry_at (tree_of tree.now.log) (extended dir.now name.now) }
+{
     let at = dir.len();
-    for i in 0..u64::MAX {
+    for i in 0..tree.position() {
         let Some(path) = tree.child(dir, i) else {
-            return Ok(None);
+            return None;
         };
         let Some(node) = tree.node(path) else {
             unreachable!()
         };
         if has_name(at, name, &node.entry) {
-            return Ok(Some(node));
+            return Some(node);
         }
     }
-    // No memory holds so many.
-    Err(AllocError)
+    None
 }
 
 /// Whether the element of an item's path at a place is this name.

@@ -1,2 +1,4 @@
 pub mod BeginsLemmas
+pub mod Causes
+pub mod CountExamples
 pub mod RunLemmas

@@ -1,2 +1,4 @@
 pub mod Begins
+pub mod Calls
+pub mod Counts
 pub mod Runs

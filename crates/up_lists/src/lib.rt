@@ -1,11 +1,20 @@
 //! One list for every "list of X" of this repository: a `Vec` whose contracts see the list of its items. Beside it stand
-//! two words on lists that every crate with a history shares.
+//! two words on lists that every crate with a history shares, and counts of faults.
 //!
 //! [`Items`] holds exactly its items, in order, and hands an item back that it could not take (`Items::push`: `items`,
 //! `returned`). What is made of a `Vec` and given back as one takes no memory.
 //!
 //! `specs/Begins.antt` says when a list begins with another, `specs/Runs.antt` what calls one after the other do; their
 //! lemmas are in `proofs/BeginsLemmas.antt` and `proofs/RunLemmas.antt`.
+//!
+//! Every object of this repository that can fail has a count of faults, and each of its calls promises `HasCause`
+//! (`specs/Counts.antt`): the count never falls, one of at most 2^64 - 1 stays so, and it rose where there was a fault.
+//! A count that stands at 2^64 - 1 stays there; "rose" then says nothing. `proofs/Causes.antt` has the lemmas.
+//!
+//! [`Calls`] keeps the counts of an object in memory, whose calls are numbered from 0. It answers whether the next call
+//! is listed (`fails_next`), counts each call once and each failure once (`count`), or both (`next_fails`: `answer`,
+//! `counted`). What such an object promises is `IsCalled` (`specs/Calls.antt`): a listed call fails, the count of calls
+//! is one more, and the count of faults is as before, or one more where the call failed.
 #![tactic(auto)]
 
 ghost use Rattle.std.specs.Prelude.{◌≡◌, ◌==◌, [], ◌∷◌, ◌++◌, length, is_ok, if◌then◌else◌, IfErr, slice_get};
@@ -14,6 +23,9 @@ ghost use Rattle.std.specs.List.{AllZip};
 ghost use Rattle.std.specs.Cmp.Lexicographic.{lists_per, lists_equiv};
 ghost use lib.Pointwise.{pointwise};
 
+mod calls;
+
+pub use calls::Calls;
 use std::alloc::{AllocError, AllocFailed, Global};
 use std::marker::Model;
 

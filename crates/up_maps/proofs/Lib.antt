@@ -1,2 +1,6 @@
+pub mod Finds
+pub mod Flats
+pub mod Lists
+pub mod Moves
 pub mod Numbered
-pub mod Places
+pub mod PlaceLemmas

@@ -9,7 +9,8 @@ ghost use Rattle.up_maps.specs.Maps.{IsPlaceOf, value_at};
 use std::alloc::{AllocError, Global};
 use std::cmp::Ordering;
 use std::marker::Model;
-use up_pieces::{Below, Pieces};
+use crate::below::Below;
+use crate::pieces::Pieces;
 
 /// A finite map, seen as its entries in the order of their keys and whether the next one takes no memory.
 #[derive(Debug, Drop)]

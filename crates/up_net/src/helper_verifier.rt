@@ -1,14 +1,14 @@
 //! A verifier that asks another program.
-ghost use Rattle.std.specs.Prelude.{◌≡◌, ◌++◌, ◌∷◌, [], IfOk, OnOk, None, Some, IsErr, is_err, if◌then◌else◌, string_bytes};
-ghost use Rattle.std.specs.Process.{command_args, command_program, exit_code};
-ghost use Rattle.up_faults.specs.Counts.{count_after, HasCause};
+ghost use Rattle.std.specs.Prelude.{◌≡◌, [], ◌∷◌, ◌++◌, codes, map, IfOk, OnOk, None, IsErr, is_err, if◌then◌else◌, string_bytes};
+ghost use Rattle.std.specs.Result.{result_ok};
+ghost use Rattle.up_lists.specs.Counts.{count_after, HasCause, StaysUnless};
 ghost use Rattle.up_ends.specs.Verdicts.{Judges};
 ghost use Rattle.up_helper.specs.HelperWords.{hex_word};
-ghost use Rattle.up_net.specs.Questions.{question_of, verdict_of_code};
+ghost use Rattle.up_net.specs.Questions.{AsksOnce, question_of, verdict_of_code};
 
+use crate::programs::Programs;
 use std::alloc::{AllocError, Global};
 use std::marker::Model;
-use std::process::{Command, ExitStatus, Processes, Stdio};
 use up_ends::{Failed, Verdict, Verifier};
 use up_helper::hex_word;
 
@@ -16,33 +16,38 @@ use up_helper::hex_word;
 /// and `-` for empty. The helper's status 0 is Yes and 1 is No. All else, a helper that cannot be started, and want of memory, is a
 /// fault. What it reads is empty, and what it prints is dropped; what it says on standard error is shown.
 #[derive(Drop)]
-pub struct HelperVerifier<P: Processes> {
+pub struct HelperVerifier<P: Programs> {
     alloc: Global,
-    processes: P,
+    programs: P,
     helper: String,
     faults: u64,
 }
 
-impl<P: Processes> Model for HelperVerifier<P> {
+impl<P: Programs> Model for HelperVerifier<P> {
     ghost use Rattle.std.specs.String.{string_bytes};
     ghost use Rattle.up_net.specs.Questions.{AskedHelper};
 
-    ghost Value = { AskedHelper };
+    ghost Value = { AskedHelper P };
 
     ghost view = { λ verifier. record {
+      programs = verifier.programs;
       helper = string_bytes verifier.helper;
       faults = verifier.faults;
     } };
 }
 
-impl<P: Processes> HelperVerifier<P> {
+impl<P: Programs> HelperVerifier<P> {
     /// A verifier that asks the helper at this path, or with this name. Nothing is started yet.
-    pub fn new(alloc: Global, processes: P, helper: String) -> Self
-        ensures { result ≡ record { helper = string_bytes helper; faults = 0 } }
+    pub fn new(alloc: Global, programs: P, helper: String) -> Self
+        ensures { result ≡ record {
+          programs = programs;
+          helper = string_bytes helper;
+          faults = 0;
+        } }
     {
         HelperVerifier {
             alloc,
-            processes,
+            programs,
             helper,
             faults: 0,
         }
@@ -55,16 +60,15 @@ impl<P: Processes> HelperVerifier<P> {
         self.faults
     }
 
-    /// Runs the helper for one question. `None` where it gave no verdict.
-    fn ask(&self, key: &[u8], message: &[u8], signature: &[u8]) -> Option<Verdict> {
-        let helper = self.helper.as_str();
-        let mut command = question(self.alloc, helper, key, message, signature).ok()?;
-        command.stdin(Stdio::null()).stdout(Stdio::null());
-        verdict_of(command.status(&self.processes).ok()?)
+    /// Who runs the helper.
+    pub fn programs(&self) -> &P
+        ensures { result.now ≡ self.now.programs }
+    {
+        &self.programs
     }
 }
 
-impl<P: Processes> Verifier for HelperVerifier<P> {
+impl<P: Programs> Verifier for HelperVerifier<P> {
     ghost use Rattle.std.specs.Prelude.{None};
 
     ghost judged = { λ _. None };
@@ -72,6 +76,15 @@ impl<P: Processes> Verifier for HelperVerifier<P> {
     ghost faults = { λ verifier. verifier.faults };
 
     fn verdict(&mut self, key: &[u8], message: &[u8], signature: &[u8]) -> Result<Verdict, Failed>
+        // The helper runs once for each question, and its status is the verdict.
+        ensures asked { AsksOnce P.runs self.old.helper
+            (question_of key.now message.now signature.now)
+            self.old.programs (result_ok result) self.new.programs }
+        ensures helper { self.new.helper ≡ self.old.helper }
+        // A fault is one question that got no verdict.
+        ensures faults { self.new.faults ≡
+            (if is_err result then count_after self.old.faults 1 else self.old.faults) }
+
         ensures judged { Judges None None
             (λ verdict. record {
               key = key.now;
@@ -79,13 +92,18 @@ impl<P: Processes> Verifier for HelperVerifier<P> {
               signature = signature.now;
               verdict = verdict;
             }) result }
-        // A fault is one question that got no verdict.
-        ensures faults { self.new ≡
-            (if is_err result then record self.old { faults = count_after self.old.faults 1 }
-            else self.old) }
         ensures cause { HasCause self.old.faults self.new.faults (IsErr result) }
+        ensures quiet { StaysUnless self.old.faults self.new.faults (IsErr result) }
     {
-        match self.ask(key, message, signature) {
+        let helper = self.helper.as_str();
+        match ask(
+            self.alloc,
+            &mut self.programs,
+            helper,
+            key,
+            message,
+            signature,
+        ) {
             Some(verdict) => Ok(verdict),
             None => {
                 self.faults = self.faults.saturating_add(1);
@@ -95,61 +113,75 @@ impl<P: Processes> Verifier for HelperVerifier<P> {
     }
 }
 
-/// The command that asks a helper.
-fn question(
+/// Runs a helper once for one question. `None` where it gave no verdict, or did not run for want of memory.
+fn ask<P: Programs>(
     alloc: Global,
+    programs: &mut P,
     helper: &str,
     key: &[u8],
     message: &[u8],
     signature: &[u8],
-) -> Result<Command, AllocError>
-    ensures program { IfOk result (λ command. command_program command ≡ helper.now) }
-    ensures words { IfOk result (λ command.
-        command_args command ≡ question_of key.now message.now signature.now) }
+) -> Option<Verdict>
+    ensures { AsksOnce P.runs helper.now (question_of key.now message.now signature.now)
+        programs.old result programs.new }
 {
-    let mut command = Command::new(alloc, helper)?;
-    match give_words(alloc, &mut command, key, message, signature) {
-        Ok(()) => Ok(command),
-        Err(fault) => {
-            drop(command);
-            Err(fault)
-        }
-    }
+    let Ok(words) = question(alloc, key, message, signature) else {
+        return None;
+    };
+    let status = programs.status(helper, words.as_slice());
+    verdict_of(status)
 }
 
-/// Gives a command the words of a question, behind those that it has. For want of memory it may have a part of them.
-fn give_words(
+/// The words of a question.
+fn question(
     alloc: Global,
-    command: &mut Command,
+    key: &[u8],
+    message: &[u8],
+    signature: &[u8],
+) -> Result<Vec<String>, AllocError>
+    ensures { IfOk result (λ words.
+        map string_bytes words.items ≡ question_of key.now message.now signature.now) }
+{
+    let mut words = Vec::new(alloc);
+    give_question(alloc, &mut words, key, message, signature)?;
+    Ok(words)
+}
+
+/// Puts the words of a question behind others. For want of memory a part of them may stand there.
+fn give_question(
+    alloc: Global,
+    words: &mut Vec<String>,
     key: &[u8],
     message: &[u8],
     signature: &[u8],
 ) -> Result<(), AllocError>
-    ensures program { OnOk result (command_program command.new ≡ command_program command.old) }
-    ensures words { OnOk result (command_args command.new
-        ≡ command_args command.old ++ question_of key.now message.now signature.now) }
+    ensures { OnOk result (map string_bytes words.new.items
+        ≡ map string_bytes words.old.items ++ question_of key.now message.now signature.now) }
 {
-    command.arg("verify")?;
-    give_bytes(alloc, command, key)?;
-    give_bytes(alloc, command, message)?;
-    give_bytes(alloc, command, signature)
+    words.push(String::from_str(alloc, "verify")?)?;
+    give_bytes(alloc, words, key)?;
+    give_bytes(alloc, words, message)?;
+    give_bytes(alloc, words, signature)
 }
 
-/// Gives a command one word more: bytes, as a helper takes them.
-fn give_bytes(alloc: Global, command: &mut Command, bytes: &[u8]) -> Result<(), AllocError>
-    ensures program { OnOk result (command_program command.new ≡ command_program command.old) }
-    ensures words { OnOk result (command_args command.new
-        ≡ command_args command.old ++ hex_word bytes.now ∷ []) }
+/// Puts one word more behind others: bytes, as a helper takes them.
+pub(crate) fn give_bytes(
+    alloc: Global,
+    words: &mut Vec<String>,
+    bytes: &[u8],
+) -> Result<(), AllocError>
+    ensures { OnOk result (map string_bytes words.new.items
+        ≡ map string_bytes words.old.items ++ hex_word bytes.now ∷ []) }
 {
-    command.arg(hex_word(alloc, bytes)?)?;
+    words.push(hex_word(alloc, bytes)?)?;
     Ok(())
 }
 
-/// The verdict of a helper's status. `None` where it is neither 0 nor 1, or where a signal ended the helper.
-fn verdict_of(status: ExitStatus) -> Option<Verdict>
-    ensures { result ≡ verdict_of_code (exit_code status) }
+/// The verdict of a helper's status. `None` where it is neither 0 nor 1, or where no status came.
+fn verdict_of(status: Option<i32>) -> Option<Verdict>
+    ensures { result ≡ verdict_of_code status }
 {
-    match status.code() {
+    match status {
         Some(0) => Some(Verdict::Yes),
         Some(1) => Some(Verdict::No),
         _ => None,

@@ -1,12 +1,12 @@
 //! Nonces from a seed.
-ghost use Rattle.std.specs.Prelude.{◌≡◌, None, IfOk};
+ghost use Rattle.std.specs.Prelude.{◌≡◌, None};
 ghost use Rattle.up_ends.specs.Telling.{Gives};
-ghost use Rattle.up_net.specs.Seeds.{after_nonce, nonce_of};
+ghost use Rattle.up_net.specs.Seeds.{SeededBy, after_nonce, nonce_of};
 
+use crate::random_bytes::RandomBytes;
 use sha2::{Digest, Sha256};
 use std::io;
 use std::marker::Model;
-use std::random::RandomSource;
 use up_ends::Nonces;
 
 /// Nonces that are hashes of a seed and of how many were drawn from it. Who does not know the seed cannot foretell them, as far as
@@ -33,12 +33,12 @@ impl SeedNonces {
         SeedNonces { seed, drawn: 0 }
     }
 
-    /// The nonces of a seed that is read now. An `Err` is that of reading it.
-    pub fn from_random(random: &impl RandomSource) -> io::Result<Self>
-        ensures { IfOk result (λ nonces. nonces.drawn ≡ 0) }
+    /// The nonces of a seed that is read now, by one call of the source. An `Err` is that of reading it.
+    pub fn from_random<B: RandomBytes>(random: &mut B) -> io::Result<Self>
+        ensures { SeededBy B.gives random.old result random.new }
     {
         let mut seed = [0; 32];
-        random.fill_bytes(&mut seed)?;
+        random.fill(&mut seed)?;
         Ok(SeedNonces::new(seed))
     }
 }

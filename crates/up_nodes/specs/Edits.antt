@@ -2,7 +2,7 @@
 use Rattle.std.specs.Prelude.{◌≡◌, ◌<◌, ◌≤◌, ℕ, zero, suc, true, List, [], ◌∷◌, ◌++◌, length, Option, Some, None, ⊤, Vec}
 use Rattle.std.specs.List.{insert, remove}
 use Rattle.std.specs.Vec.{vec_capacity, vec_len}
-use Rattle.up_pieces.specs.Joined.{ReadyList}
+use Rattle.up_maps.specs.Joined.{ReadyList}
 use Rattle.up_names.specs.declared.items.Item.{Item}
 use Rattle.up_access.specs.declared.Rule.{Rule}
 use Rattle.up_nodes.specs.declared.edits.Edit.{Edit}

@@ -7,7 +7,7 @@ use crate::history::Change;
 use crate::slots::Slot;
 use up_access::AccessText;
 use up_group::GroupText;
-use up_pieces::Pieces;
+use up_maps::Pieces;
 use up_replay::Node;
 
 /// What becomes of a list of siblings.

@@ -23,7 +23,7 @@ use up_bytes::{Bytes, copy_of};
 use up_entry::{Entry, Rec};
 use up_group::GroupText;
 use up_names::Path;
-use up_pieces::Pieces;
+use up_maps::Pieces;
 use up_replay::Node;
 
 /// A path becomes one of its siblings, or stays one.

@@ -10,7 +10,7 @@ use crate::slots::Slot;
 use crate::steps::{Own, ParentStep, Step};
 use std::alloc::AllocError;
 use up_group::GroupText;
-use up_pieces::Pieces;
+use up_maps::Pieces;
 
 /// Makes room for an edit of siblings.
 fn reserve_siblings(ids: &mut Pieces<usize>, edit: Edit) -> Result<(), AllocError>

@@ -1,7 +1,7 @@
 -- Counts of failures: what a call without an answer leaves, and what an answer adds.
-use Rattle.std.proofs.Common.{◌≡◌, ℕ, Result, Ok, Err, IsErr}
-use Rattle.up_faults.specs.Counts.{HasCause}
-use Rattle.up_faults.proofs.Causes.{HasCause-same, HasCause-weaker}
+use Rattle.std.proofs.Common.{◌≡◌, ℕ, Result, Ok, Err, IsErr, ap}
+use Rattle.up_lists.specs.Counts.{HasCause, StaysUnless}
+use Rattle.up_lists.proofs.Causes.{HasCause-same, HasCause-weaker, StaysUnless-more}
 
 -- an error is no answer
 pub no_answer : {A E : Type 0} (result : Result A E) (answer : A) → IsErr result → result ≡ Ok answer → ⊥
@@ -18,3 +18,7 @@ counts_of {A} {E} before now given answer counts = HasCause-weaker before now (g
   where
     same : ◌≡◌ {A = Result A E} (Ok given) (Ok answer) → given ≡ answer
     same is = cc
+
+-- and so it is where the count is as before
+pub quiet_of : {A E : Type 0} (before now : ℕ) (given answer : A) → StaysUnless before now (given ≡ answer) → StaysUnless before now (◌≡◌ {A = Result A E} (Ok given) (Ok answer))
+quiet_of {A} {E} before now given answer quiet = StaysUnless-more before now (given ≡ answer) (◌≡◌ {A = Result A E} (Ok given) (Ok answer)) quiet (ap Ok)

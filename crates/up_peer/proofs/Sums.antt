@@ -5,7 +5,7 @@ use Rattle.std.proofs.lemmas.List.Sums.{sum_by-set, sum_by_more_le}
 use Rattle.std.proofs.lemmas.Option.{get_or_from_slice_get, slice_get_within}
 use Rattle.std.specs.Result.{result_ok}
 use Rattle.std.specs.declared.alloc.AllocError.{AllocError}
-use Rattle.up_faults.specs.Counts.{Rose}
+use Rattle.up_lists.specs.Counts.{Rose}
 use Rattle.up_entry.specs.declared.fetch.Fetch.TheVariants as fetches
 use Rattle.up_group.specs.GroupTexts.{group_of}
 use Rattle.up_names.specs.declared.fault.TextFault.{TextFault}
@@ -13,7 +13,7 @@ use Rattle.up_names.specs.declared.fault.TextFault.TheVariants as text
 use Rattle.up_names.specs.declared.items.Item.{Item}
 use Rattle.up_policy.specs.declared.load_answer.LoadAnswer.{LoadAnswer}
 use Rattle.up_policy.specs.declared.load_answer.LoadAnswer.TheVariants as loads
-use Rattle.up_faults.specs.Counts.{HasCause}
+use Rattle.up_lists.specs.Counts.{HasCause, StaysUnless}
 use Rattle.up_peer.specs.declared.answers.PeerAnswer.{PeerAnswer}
 use Rattle.up_peer.specs.declared.answers.PeerAnswer.TheVariants as answers
 use Rattle.up_peer.specs.declared.answers.PeerCall.{PeerCall}
@@ -64,6 +64,16 @@ module _ {P : Type 0} (asked : P → Option (List PeerCall)) (faults : P → ℕ
       by_rise : (old new before after : ℕ) → new + before ≡ old + after → before ≤ old → Rose before after → min old (2 ^ 64 - 1) < 2 ^ 64 - 1 → min old (2 ^ 64 - 1) < min new (2 ^ 64 - 1)
       by_rise old new before after sums below rose small = let up : before < after = rose (omega arith) in omega (arith, up)
 
+  -- The sum of the counts is as before where the peer that was asked did not fail.
+  pub asked_quiet : {E : Type 0} (found : Option ℕ) (old new : List (KeptPeer P)) (question : PeerQuestion) (given : Result PeerAnswer E) (F : Type 0)
+      → Asks asked faults found old new question given → (given ≡ Ok answers.Failed → F) → StaysUnless (fault_sum faults old) (fault_sum faults new) F
+  asked_quiet None old new question given F asks told = record { stays = λ none. ap (fault_sum faults) asks.0 }
+  asked_quiet (Some i) old new question given F asks told =
+      let f : KeptPeer P → ℕ = λ k. faults k.peer in
+      let sums : sum_by f new + f asks.before ≡ sum_by f old + f asks.after = ap (λ ps. sum_by f ps + f asks.before) asks.others ∙ sum_set f old i asks.before asks.after asks.there in
+      let as_before : (F → ⊥) → f asks.after ≡ f asks.before = λ none. asks.answered.quiet.stays (λ failed. none (told failed)) in
+      record { stays = λ none. let same : f asks.after ≡ f asks.before = as_before none in let sum : sum_by f new ≡ sum_by f old = omega (arith, sums, same) in ap (λ n. min n (2 ^ 64 - 1)) sum }
+
 -- a text is no failure
 no_failure : (meant : Result (List Item) TextFault) → loads.Failed ≡ text_answer meant → ⊥
 no_failure (Ok items) e = cc
@@ -85,3 +95,16 @@ pub fetch_cause : (given : PeerAnswer) → fetch_of given ≡ fetches.Failed →
 fetch_cause (answers.Got bytes) e = absurd (cc)
 fetch_cause answers.Nothing e = absurd (cc)
 fetch_cause answers.Failed e = refl
+
+-- a peer's failure is loaded as one
+pub load_told : (owner : List ℕ) (given : PeerAnswer) (result : Result LoadAnswer AllocError) → LoadsAs owner given (result_ok result) → ◌≡◌ {A = Result PeerAnswer AllocError} (Ok given) (Ok answers.Failed) → result ≡ Ok loads.Failed
+load_told owner (answers.Got bytes) result h is = absurd (cc)
+load_told owner answers.Nothing result h is = absurd (cc)
+load_told owner answers.Failed (Ok answer) h is = cc
+load_told owner answers.Failed (Err e) h is = absurd (cc)
+
+-- a peer's failure is fetched as one
+pub fetch_told : (given : PeerAnswer) → ◌≡◌ {A = Result PeerAnswer AllocError} (Ok given) (Ok answers.Failed) → fetch_of given ≡ fetches.Failed
+fetch_told (answers.Got bytes) e = absurd (cc)
+fetch_told answers.Nothing e = absurd (cc)
+fetch_told answers.Failed e = refl

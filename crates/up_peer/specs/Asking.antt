@@ -3,7 +3,7 @@ use Rattle.std.specs.Prelude.{◌≡◌, ℕ, Bool, List, [], ◌∷◌, Option,
 use Rattle.std.specs.List.{list_any}
 use Rattle.std.specs.Str.{bytes_eq}
 use Rattle.up_ends.specs.Telling.{Grew}
-use Rattle.up_faults.specs.Counts.{HasCause}
+use Rattle.up_lists.specs.Counts.{HasCause, StaysUnless}
 use Rattle.up_peer.specs.declared.answers.PeerAnswer.{PeerAnswer}
 use Rattle.up_peer.specs.declared.answers.PeerAnswer.TheVariants.{Nothing, Failed}
 use Rattle.up_peer.specs.declared.answers.PeerCall.{PeerCall}
@@ -32,6 +32,7 @@ has_address address kept = bytes_eq kept.address address
 pub record WasAsked {P E : Type 0} (asked : P → Option (List PeerCall)) (faults : P → ℕ) (old new : KeptPeer P) (question : PeerQuestion) (result : Result PeerAnswer E) : Type 0 where
   pub told : Grew (asked old.peer) (asked new.peer) (call_of question result)
   pub counts : HasCause (faults old.peer) (faults new.peer) (result ≡ Ok Failed)
+  pub quiet : StaysUnless (faults old.peer) (faults new.peer) (result ≡ Ok Failed)
   pub owners : new.owners ≡ old.owners
   pub address : new.address ≡ old.address
 

@@ -1,6 +1,6 @@
 -- A peer in memory that gives answers of a list. This project's own.
 use Rattle.std.specs.Prelude.{ℕ, List, [], ◌∷◌, ◌++◌, drop}
-use Rattle.up_faults.specs.Counts.{count_after}
+use Rattle.up_lists.specs.Counts.{count_after}
 use Rattle.up_peer.specs.declared.answers.PeerAnswer.{PeerAnswer}
 use Rattle.up_peer.specs.declared.answers.PeerAnswer.TheVariants.{Got, Nothing, Failed}
 use Rattle.up_peer.specs.declared.answers.PeerCall.{PeerCall}

@@ -1,10 +1,11 @@
 //! Peers: the other hosts that are asked for the group texts of other owners and for blocks with an address.
 //!
 //! A [`Peer`] is asked for the text of a group or for a block. What it was asked, where it tells it, grows by exactly this
-//! question with its answer, and by nothing on want of memory (`told`); it answers `Failed` only where its count rose (`counts`).
+//! question with its answer, and by nothing on want of memory (`told`); it answers `Failed` only where its count rose (`counts`),
+//! and where it answers anything else the count is as before (`quiet`).
 //!
 //! A [`Loader`] is what a host asks. What it gives is a relation between its state before, a question, the answer or want of
-//! memory, and its state after (`given`); an object that holds a borrowed loader is tied to it (`tie`, with the laws `same` and
+//! memory, and its state after (`given`); its count is a peer's (`counts`, `quiet`); an object that holds a borrowed loader is tied to it (`tie`, with the laws `same` and
 //! `joined`).
 //!
 //! [`Peers`] is a list of boxed peers, each with the owners whose trees it has and the address whose blocks it has. As a loader

@@ -1,7 +1,7 @@
 //! A peer in memory that gives answers of a list.
 ghost use Rattle.std.specs.Prelude.{◌≡◌, [], Ok, OnErr, IfOk, OnOk};
 ghost use Rattle.up_ends.specs.Telling.{Grew};
-ghost use Rattle.up_faults.specs.Counts.{HasCause};
+ghost use Rattle.up_lists.specs.Counts.{HasCause, StaysUnless};
 ghost use Rattle.up_peer.specs.Asking.{call_of};
 ghost use Rattle.up_peer.specs.InMemory.{after_call, faults_after, next_answer};
 ghost use Rattle.up_peer.specs.declared.answers.PeerAnswer.TheVariants as answers;
@@ -62,6 +62,7 @@ impl ListPeer {
         ensures after { OnOk result (self.new ≡ after_call self.old question) }
         ensures untouched { OnErr result (self.new ≡ self.old) }
         ensures counts { HasCause self.old.faults self.new.faults (result ≡ Ok answers.Failed) }
+        ensures quiet { StaysUnless self.old.faults self.new.faults (result ≡ Ok answers.Failed) }
     {
         let answer = self.next_answer(alloc)?;
         self.calls.push(PeerCall { question, answer })?;
@@ -85,6 +86,7 @@ impl ListPeer {
 fn counted(faults: u64, answer: &PeerAnswer) -> u64
     ensures after { result ≡ faults_after faults answer.now }
     ensures counts { HasCause faults result (answer.now ≡ answers.Failed) }
+    ensures quiet { StaysUnless faults result (answer.now ≡ answers.Failed) }
 {
     match answer {
         PeerAnswer::Failed => faults.saturating_add(1),
@@ -108,6 +110,7 @@ impl Peer for ListPeer {
         ensures told { Grew (Some self.old.calls) (Some self.new.calls)
             (call_of (questions.Group group.now) result) }
         ensures counts { HasCause self.old.faults self.new.faults (result ≡ Ok answers.Failed) }
+        ensures quiet { StaysUnless self.old.faults self.new.faults (result ≡ Ok answers.Failed) }
     {
         let question = PeerQuestion::Group(group.clone()?);
         self.answer(alloc, question)
@@ -122,6 +125,7 @@ impl Peer for ListPeer {
         ensures told { Grew (Some self.old.calls) (Some self.new.calls)
             (call_of (questions.Block reference.now) result) }
         ensures counts { HasCause self.old.faults self.new.faults (result ≡ Ok answers.Failed) }
+        ensures quiet { StaysUnless self.old.faults self.new.faults (result ≡ Ok answers.Failed) }
     {
         self.answer(alloc, PeerQuestion::Block(*reference))
     }

@@ -2,7 +2,7 @@
 ghost use Rattle.std.specs.Prelude.{◌≡◌, ℕ, Ok};
 ghost use Rattle.std.specs.Result.{result_ok};
 ghost use Rattle.std.specs.declared.option.Option.{Option};
-ghost use Rattle.up_faults.specs.Counts.{HasCause};
+ghost use Rattle.up_lists.specs.Counts.{HasCause, StaysUnless};
 ghost use Rattle.up_peer.specs.Loading.{GroupQuestion, BlockQuestion};
 ghost use Rattle.up_policy.specs.declared.load_answer.LoadAnswer.{LoadAnswer as Loads};
 ghost use Rattle.up_policy.specs.declared.load_answer.LoadAnswer.TheVariants as loaded;
@@ -39,6 +39,8 @@ pub trait Loader {
             (result_ok result) self.new }
         ensures counts { HasCause (faults self.old) (faults self.new)
             (result ≡ Ok loaded.Failed) }
+        ensures quiet { StaysUnless (faults self.old) (faults self.new)
+            (result ≡ Ok loaded.Failed) }
         ensures tie { tied self.old self.new };
 
     /// Asks for a block at an address. That the bytes have the reference is not said.
@@ -52,6 +54,8 @@ pub trait Loader {
             (record { address = address.now; reference = reference.now })
             (result_ok result) self.new }
         ensures counts { HasCause (faults self.old) (faults self.new)
+            (result ≡ Ok fetched.Failed) }
+        ensures quiet { StaysUnless (faults self.old) (faults self.new)
             (result ≡ Ok fetched.Failed) }
         ensures tie { tied self.old self.new };
 

@@ -2,7 +2,7 @@
 ghost use Rattle.std.specs.Prelude.{◌≡◌, ℕ, List, Ok};
 ghost use Rattle.std.specs.declared.option.Option.{Option};
 ghost use Rattle.up_ends.specs.Telling.{Grew};
-ghost use Rattle.up_faults.specs.Counts.{HasCause};
+ghost use Rattle.up_lists.specs.Counts.{HasCause, StaysUnless};
 ghost use Rattle.up_peer.specs.Asking.{call_of};
 ghost use Rattle.up_peer.specs.declared.answers.PeerCall.{PeerCall};
 ghost use Rattle.up_peer.specs.declared.answers.PeerQuestion.TheVariants as questions;
@@ -26,6 +26,8 @@ pub trait Peer: Drop {
         ensures told { Grew (asked self.old) (asked self.new)
             (call_of (questions.Group group.now) result) }
         ensures counts { HasCause (fault_count self.old) (fault_count self.new)
+            (result ≡ Ok answers.Failed) }
+        ensures quiet { StaysUnless (fault_count self.old) (fault_count self.new)
             (result ≡ Ok answers.Failed) };
 
     /// Asks for the block with a reference. That the bytes have the reference is not said.
@@ -33,6 +35,8 @@ pub trait Peer: Drop {
         ensures told { Grew (asked self.old) (asked self.new)
             (call_of (questions.Block reference.now) result) }
         ensures counts { HasCause (fault_count self.old) (fault_count self.new)
+            (result ≡ Ok answers.Failed) }
+        ensures quiet { StaysUnless (fault_count self.old) (fault_count self.new)
             (result ≡ Ok answers.Failed) };
 
     /// How many of its calls failed so far.

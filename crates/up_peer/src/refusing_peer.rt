@@ -1,7 +1,7 @@
 //! A peer in memory that has nothing.
 ghost use Rattle.std.specs.Prelude.{◌≡◌, [], ◌++◌, Ok, IfOk};
 ghost use Rattle.up_ends.specs.Telling.{Grew};
-ghost use Rattle.up_faults.specs.Counts.{HasCause};
+ghost use Rattle.up_lists.specs.Counts.{HasCause, StaysUnless};
 ghost use Rattle.up_peer.specs.Asking.{call_of};
 ghost use Rattle.up_peer.specs.declared.answers.PeerAnswer.TheVariants as answers;
 ghost use Rattle.up_peer.specs.declared.answers.PeerQuestion.TheVariants as questions;
@@ -72,6 +72,7 @@ impl Peer for RefusingPeer {
         ensures told { Grew (Some self.old) (Some self.new)
             (call_of (questions.Group group.now) result) }
         ensures counts { HasCause 0 0 (result ≡ Ok answers.Failed) }
+        ensures quiet { StaysUnless 0 0 (result ≡ Ok answers.Failed) }
     {
         let question = PeerQuestion::Group(group.clone()?);
         self.refuse(question)
@@ -83,6 +84,7 @@ impl Peer for RefusingPeer {
         ensures told { Grew (Some self.old) (Some self.new)
             (call_of (questions.Block reference.now) result) }
         ensures counts { HasCause 0 0 (result ≡ Ok answers.Failed) }
+        ensures quiet { StaysUnless 0 0 (result ≡ Ok answers.Failed) }
     {
         self.refuse(PeerQuestion::Block(*reference))
     }

@@ -6,6 +6,7 @@ use Rattle.up_client.specs.declared.fault.ClientFault.TheVariants as client
 use Rattle.up_host.specs.Alone.{io_of}
 use Rattle.up_journal.specs.declared.fault.AppendWhy.{AppendWhy}
 use Rattle.up_journal.specs.declared.fault.AppendWhy.TheVariants as append
+use Rattle.up_journal.specs.declared.limits.Limits.{Limits}
 use Rattle.up_ends.specs.Telling.{Gives}
 use Rattle.up_names.specs.PathNames.{PathName}
 use Rattle.up_names.specs.Texts.{Text}
@@ -28,7 +29,7 @@ use Rattle.up_wire.specs.declared.replies.Reply.TheVariants as reply
 use Rattle.up_script.specs.Facts.{Facts, io_came}
 use Rattle.up_script.proofs.LineLemmas.{Kept, kept_of}
 use Rattle.up_script.specs.ScriptAnswers.{among}
-use Rattle.up_script.specs.Scripts.{AskCame, CallCame, CallDone, Came, Did, EnrolCame, HostCame, LineCame, OpenCame, SaysCame, got_said, put_said, replied, script_limits, signed}
+use Rattle.up_script.specs.Scripts.{AskCame, CallCame, CallDone, Came, Did, EnrolCame, HostCame, LineCame, OpenCame, SaysCame, got_said, put_said, replied, signed}
 use Rattle.up_script.specs.Standing.{world}
 use Rattle.up_script.specs.declared.script_lines.NewHost.{NewHost}
 use Rattle.up_script.specs.declared.script_lines.NewSession.{NewSession}
@@ -75,7 +76,7 @@ got_no_helper : (number : ℕ) (result : Result (List ℕ) ClientFault) → got_
 got_no_helper number (Err client.OutOfMemory) h = cc
 got_no_helper number result h = cc
 
-module _ {D P V C N : Type 0} (who : Parties D P V C N) where
+module _ {D P V C N : Type 0} (who : Parties D P V C N) (limits : Limits) where
   -- nothing was done
   pub none_facts : (a : World D P V C N) (came : Came) → io_came came ≡ 0 → came ≢ Err stop.DiskFault → came ≢ Err stop.HelperFault → Facts who a came a
   none_facts a came none disk helper = record {
@@ -88,39 +89,39 @@ module _ {D P V C N : Type 0} (who : Parties D P V C N) where
     fits = λ done fit. fit;
   }
 
-  pub host_facts : (host : NewHost) (around : Around P V C N) (x y : Hosts D) (came : Came) → length host.owners ≤ 8 → HostCame who.disks host x came y → Facts who (among x around) came (among y around)
+  pub host_facts : (host : NewHost) (around : Around P V C N) (x y : Hosts D) (came : Came) → length host.owners ≤ 8 → HostCame who.disks limits host x came y → Facts who (among x around) came (among y around)
   host_facts host around x y came few (HostCame.opened new opens) =
-      let line : HostLine who script_limits host.name host.operator host.owners (among x around) (Ok tt) (among y around) = record { opens = opens; around = refl } in
+      let line : HostLine who limits host.name host.operator host.owners (among x around) (Ok tt) (among y around) = record { opens = opens; around = refl } in
       record {
-        io = host_line who script_limits host.name host.operator host.owners (among x around) (among y around) (Ok tt) line;
-        disks = next_later who.disks script_limits host.name host.operator host.owners x y (Ok tt) opens;
+        io = host_line who limits host.name host.operator host.owners (among x around) (among y around) (Ok tt) line;
+        disks = next_later who.disks limits host.name host.operator host.owners x y (Ok tt) opens;
         helper = omega arith;
         disk_rose = λ h. absurd (cc);
         helper_rose = λ h. absurd (cc);
-        stays = host_keeps who script_limits host.name host.operator host.owners (among x around) (among y around) (Ok tt) line;
-        fits = λ done fit. host_fits who script_limits host.name host.operator host.owners (among x around) (among y around) few line fit;
+        stays = host_keeps who limits host.name host.operator host.owners (among x around) (among y around) (Ok tt) line;
+        fits = λ done fit. host_fits who limits host.name host.operator host.owners (among x around) (among y around) few line fit;
       }
   host_facts host around x y came few (HostCame.not_new old) = none_facts (among x around) came refl (λ h. cc) (λ h. cc)
   host_facts host around x y came few (HostCame.failed new opens) =
-      let line : HostLine who script_limits host.name host.operator host.owners (among x around) (Err fault.Fault) (among y around) = record { opens = opens; around = refl } in
+      let line : HostLine who limits host.name host.operator host.owners (among x around) (Err fault.Fault) (among y around) = record { opens = opens; around = refl } in
       record {
-        io = host_line who script_limits host.name host.operator host.owners (among x around) (among y around) (Err fault.Fault) line;
-        disks = next_later who.disks script_limits host.name host.operator host.owners x y (Err fault.Fault) opens;
+        io = host_line who limits host.name host.operator host.owners (among x around) (among y around) (Err fault.Fault) line;
+        disks = next_later who.disks limits host.name host.operator host.owners x y (Err fault.Fault) opens;
         helper = omega arith;
-        disk_rose = λ h. next_rose who.disks script_limits host.name host.operator host.owners x y opens;
+        disk_rose = λ h. next_rose who.disks limits host.name host.operator host.owners x y opens;
         helper_rose = λ h. absurd (cc);
-        stays = host_keeps who script_limits host.name host.operator host.owners (among x around) (among y around) (Err fault.Fault) line;
+        stays = host_keeps who limits host.name host.operator host.owners (among x around) (among y around) (Err fault.Fault) line;
         fits = λ done fit. absurd (false≢true done);
       }
   host_facts host around x y came few (HostCame.wanting new opens) =
-      let line : HostLine who script_limits host.name host.operator host.owners (among x around) (Err fault.OutOfMemory) (among y around) = record { opens = opens; around = refl } in
+      let line : HostLine who limits host.name host.operator host.owners (among x around) (Err fault.OutOfMemory) (among y around) = record { opens = opens; around = refl } in
       record {
-        io = host_line who script_limits host.name host.operator host.owners (among x around) (among y around) (Err fault.OutOfMemory) line;
-        disks = next_later who.disks script_limits host.name host.operator host.owners x y (Err fault.OutOfMemory) opens;
+        io = host_line who limits host.name host.operator host.owners (among x around) (among y around) (Err fault.OutOfMemory) line;
+        disks = next_later who.disks limits host.name host.operator host.owners x y (Err fault.OutOfMemory) opens;
         helper = omega arith;
         disk_rose = λ h. absurd (cc);
         helper_rose = λ h. absurd (cc);
-        stays = host_keeps who script_limits host.name host.operator host.owners (among x around) (among y around) (Err fault.OutOfMemory) line;
+        stays = host_keeps who limits host.name host.operator host.owners (among x around) (among y around) (Err fault.OutOfMemory) line;
         fits = λ done fit. absurd (false≢true done);
       }
 
@@ -246,7 +247,7 @@ module _ {D P V C N : Type 0} (who : Parties D P V C N) where
   call_facts number call x y p q v c d n came CallCame.wanting = none_facts (world x p v c n) came refl (λ h. cc) (λ h. cc)
 
   -- what a line says, among all that stands around
-  says_facts : (a b : World D P V C N) (what : ScriptLine) (came : Came) → Kept what → SaysCame who a what came b → Facts who a came b
+  says_facts : (a b : World D P V C N) (what : ScriptLine) (came : Came) → Kept what → SaysCame who limits a what came b → Facts who a came b
   says_facts a b lines.Silent came kept h =
       subst (λ w. Facts who a came w) (sym h.1) (none_facts a came (ap io_came h.0) (λ e. let k : Ok Did.Nothing ≡ Err stop.DiskFault = sym h.0 ∙ e in cc) (λ e. let k : Ok Did.Nothing ≡ Err stop.HelperFault = sym h.0 ∙ e in cc))
   says_facts a b (lines.Host host) came kept h =
@@ -267,7 +268,7 @@ module _ {D P V C N : Type 0} (who : Parties D P V C N) where
       (call_facts number call a.state b.state a.around.peers b.around.peers a.around.verifier a.around.clock b.around.clock a.around.nonces came h.0))
 
   -- what every line keeps
-  pub line_facts : (a b : World D P V C N) (line : Text) (came : Came) → LineCame who a line came b → Facts who a came b
+  pub line_facts : (a b : World D P V C N) (line : Text) (came : Came) → LineCame who limits a line came b → Facts who a came b
   line_facts a b line came (LineCame.malformed none) = none_facts a came refl (λ h. cc) (λ h. cc)
   line_facts a b line came (LineCame.says {what = what} is h) = says_facts a b what came (kept_of line what is) h
   line_facts a b line came LineCame.unread = none_facts a came refl (λ h. cc) (λ h. cc)

@@ -1,8 +1,5 @@
-pub mod CanFolds
-pub mod Answering
 pub mod UserListLemmas
 pub mod WordLemmas
-pub mod NameLemmas
 pub mod OwnerLemmas
 pub mod LineLemmas
 pub mod FactLemmas

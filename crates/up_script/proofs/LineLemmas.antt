@@ -12,8 +12,9 @@ use Rattle.up_text.specs.Numbers.{num_of}
 use Rattle.up_text.specs.Requests.{client_line_of, request_of}
 use Rattle.up_text.specs.Words.{decoded}
 use Rattle.up_text.specs.declared.requests.ClientLine.{ClientLine}
-use Rattle.up_script.specs.CanLines.{user_named}
-use Rattle.up_script.specs.ScriptLines.{are_owners, asked_line, enrol_line, host_line, host_named, if_owners, is_key, key_named, line_of, open_line, session_line, session_named, trees_named, users_named, words_line}
+use Rattle.up_command.specs.Words.{is_key, key_named, user_named}
+use Rattle.up_sign.specs.HostNames.{host_named}
+use Rattle.up_script.specs.ScriptLines.{are_owners, asked_line, enrol_line, host_line, if_owners, line_of, open_line, session_line, session_named, trees_named, users_named, words_line}
 use Rattle.up_script.specs.declared.script_lines.ScriptLine.{ScriptLine}
 use Rattle.up_script.specs.declared.script_lines.ScriptLine.TheVariants as lines
 

@@ -5,9 +5,10 @@ use Rattle.std.proofs.lemmas.List.Sums.{sum_by-append, sum_by-cons}
 use Rattle.std.specs.Io.KnownBytes.{Appends}
 use Rattle.up_ends.specs.Writing.{Going, WritesPart}
 use Rattle.up_ends.proofs.Going.{Going-all, Going-more, Going-none, WritesPart-all, WritesPart-none}
-use Rattle.up_faults.proofs.Causes.{Rose-after}
+use Rattle.up_lists.proofs.Causes.{Rose-after}
 use Rattle.up_lists.specs.Runs.{Run}
 use Rattle.up_lists.proofs.RunLemmas.{Run-snoc}
+use Rattle.up_journal.specs.declared.limits.Limits.{Limits}
 use Rattle.up_names.specs.Texts.{Text}
 use Rattle.up_sessions.proofs.KeepLemmas.{all_same, all_then}
 use Rattle.up_sessions.specs.Fitting.{IsFit}
@@ -18,20 +19,20 @@ use Rattle.up_script.specs.ScriptAnswers.{code_by}
 use Rattle.up_script.proofs.FactLemmas.{line_facts}
 use Rattle.up_script.specs.ScriptRuns.{Ends, LineDoes, Scripted, Turned, io_lines, is_cut, printed, stop_code, stop_text}
 use Rattle.up_script.specs.Scripts.{Came, Did, LineCame, io_in, said}
-use Rattle.up_script.specs.Statuses.{code_of}
-use Rattle.up_script.specs.declared.output.Stop.{Stop}
-use Rattle.up_script.specs.declared.output.Stop.TheVariants as out
-use Rattle.up_script.specs.declared.status.Status.{Status}
+use Rattle.up_command.specs.Statuses.{code_of}
+use Rattle.up_command.specs.declared.output.Stop.{Stop}
+use Rattle.up_command.specs.declared.output.Stop.TheVariants as out
+use Rattle.up_command.specs.declared.status.Status.{Status}
 use Rattle.up_script.specs.declared.stop.LineStop.{LineStop}
 use Rattle.up_script.specs.declared.stop.LineStop.TheVariants as stop
 
-module _ {D P V C N : Type 0} (who : Parties D P V C N) where
+module _ {D P V C N : Type 0} (who : Parties D P V C N) (limits : Limits) where
   -- Some first lines were done, and what they print was written, but for what is gathered.
   pub record Running (old now : Option Text) (gathered : Text) (a b : World D P V C N) (lines left : List Text) (number : ℕ) : Type 0 where
     pub done : List Text
     pub cut : done ++ left ≡ lines
     pub dids : List Did
-    pub run : Run (LineDoes who) a done dids b
+    pub run : Run (LineDoes who limits) a done dids b
     pub text : Going old now gathered (printed dids)
     pub count : number ≡ length done + 1
     pub later : faults_of who a ≤ faults_of who b
@@ -85,7 +86,7 @@ module _ {D P V C N : Type 0} (who : Parties D P V C N) where
 
   -- a line was done
   pub Running-more : (old mid now : Option Text) (gathered kept : Text) (a b c : World D P V C N) (lines : List Text) (line : Text) (more : List Text) (number : ℕ) (did : Did)
-      → Running old mid gathered a b lines (line ∷ more) number → LineCame who b line (Ok did) c → Facts who b (Ok did) c → Going mid now kept (gathered ++ said did) → Running old now kept a c lines more (number + 1)
+      → Running old mid gathered a b lines (line ∷ more) number → LineCame who limits b line (Ok did) c → Facts who b (Ok did) c → Going mid now kept (gathered ++ said did) → Running old now kept a c lines more (number + 1)
   Running-more old mid now gathered kept a b c lines line more number did h came facts text =
       let one = facts.io.later in
       let disks = facts.disks in
@@ -95,7 +96,7 @@ module _ {D P V C N : Type 0} (who : Parties D P V C N) where
         done = h.done ++ line ∷ [];
         cut = append_assoc h.done (line ∷ []) more ∙ h.cut;
         dids = h.dids ++ did ∷ [];
-        run = Run-snoc (LineDoes who) a b c h.done line h.dids did h.run came;
+        run = Run-snoc (LineDoes who limits) a b c h.done line h.dids did h.run came;
         text = subst (λ xs. Going old now kept xs) (sym (printed-more h.dids did)) (going-more old mid now gathered kept (said did) (printed h.dids) h.text text);
         count = let k : length (h.done ++ line ∷ []) ≡ length h.done + 1 = length-append h.done (line ∷ []) in omega (arith, h.count, k);
         later = omega (arith, l0, one);
@@ -111,7 +112,7 @@ module _ {D P V C N : Type 0} (who : Parties D P V C N) where
       }
 
   -- there is no line left
-  pub Scripted-end : (old mid now : Option Text) (gathered : Text) (a b : World D P V C N) (lines : List Text) (number : ℕ) → Running old mid gathered a b lines [] number → Appends mid now (gathered ++ []) → Scripted who old now a lines 0 b
+  pub Scripted-end : (old mid now : Option Text) (gathered : Text) (a b : World D P V C N) (lines : List Text) (number : ℕ) → Running old mid gathered a b lines [] number → Appends mid now (gathered ++ []) → Scripted who limits old now a lines 0 b
   Scripted-end old mid now gathered a b lines number h text =
       let all = all-more old mid now gathered [] (printed h.dids) h.text text in
       record {
@@ -134,7 +135,7 @@ module _ {D P V C N : Type 0} (who : Parties D P V C N) where
       }
 
   -- no more could be written, or gathered: behind any number of lines
-  pub Scripted-cut : (old mid now : Option Text) (gathered : Text) (a b : World D P V C N) (lines left : List Text) (number status : ℕ) → Running old mid gathered a b lines left number → is_cut status ≡ true → WritesPart mid now (gathered ++ []) → Scripted who old now a lines status b
+  pub Scripted-cut : (old mid now : Option Text) (gathered : Text) (a b : World D P V C N) (lines left : List Text) (number status : ℕ) → Running old mid gathered a b lines left number → is_cut status ≡ true → WritesPart mid now (gathered ++ []) → Scripted who limits old now a lines status b
   Scripted-cut old mid now gathered a b lines left number status h cut text = record {
     done = h.done;
     left = left;
@@ -171,11 +172,11 @@ module _ {D P V C N : Type 0} (who : Parties D P V C N) where
 
   -- the next line was not done
   pub Scripted-stop : (old mid now : Option Text) (gathered : Text) (a b c : World D P V C N) (lines : List Text) (line : Text) (more : List Text) (number status : ℕ) (why : LineStop)
-      → Running old mid gathered a b lines (line ∷ more) number → LineCame who b line (Err why) c → Facts who b (Err why) c
+      → Running old mid gathered a b lines (line ∷ more) number → LineCame who limits b line (Err why) c → Facts who b (Err why) c
       → (is_cut status ≡ false → status ≡ stop_code why) → (is_cut status ≡ false → Appends mid now (gathered ++ stop_text number why)) → WritesPart mid now (gathered ++ stop_text number why)
-      → Scripted who old now a lines status c
+      → Scripted who limits old now a lines status c
   Scripted-stop old mid now gathered a b c lines line more number status why h came facts code whole part =
-      let ends : Ends who b number (line ∷ more) (stop_text number why) (stop_code why) c = Ends.stopped why came in
+      let ends : Ends who limits b number (line ∷ more) (stop_text number why) (stop_code why) c = Ends.stopped why came in
       let one = facts.io.later in
       record {
         done = h.done;
@@ -186,7 +187,7 @@ module _ {D P V C N : Type 0} (who : Parties D P V C N) where
         run = h.run;
         tail = stop_text number why;
         code = stop_code why;
-        ends = subst (λ n. Ends who b n (line ∷ more) (stop_text number why) (stop_code why) c) h.count ends;
+        ends = subst (λ n. Ends who limits b n (line ∷ more) (stop_text number why) (stop_code why) c) h.count ends;
         status_is = code;
         whole = λ is. all-more old mid now gathered (stop_text number why) (printed h.dids) h.text (whole is);
         part = part-more old mid now gathered (stop_text number why) (printed h.dids) h.text part;
@@ -206,9 +207,9 @@ module _ {D P V C N : Type 0} (who : Parties D P V C N) where
 
   -- a line was done, and perhaps all that is gathered was written
   pub Running-turned : (old mid now : Option Text) (gathered next kept : Text) (a b c : World D P V C N) (lines : List Text) (line : Text) (more : List Text) (number : ℕ) (result : Result (Unit {0}) LineStop)
-      → Running old mid gathered a b lines (line ∷ more) number → Turned (λ came. LineCame who b line came c) gathered result next → result ≡ Ok tt → Going mid now kept next → Running old now kept a c lines more (number + 1)
+      → Running old mid gathered a b lines (line ∷ more) number → Turned (λ came. LineCame who limits b line came c) gathered result next → result ≡ Ok tt → Going mid now kept next → Running old now kept a c lines more (number + 1)
   Running-turned old mid now gathered next kept a b c lines line more number (Ok done) h turned is text =
-      Running-more old mid now gathered kept a b c lines line more number turned.0 h turned.1.0 (line_facts who b c line (Ok turned.0) turned.1.0) (subst (λ xs. Going mid now kept xs) turned.1.1 text)
+      Running-more old mid now gathered kept a b c lines line more number turned.0 h turned.1.0 (line_facts who limits b c line (Ok turned.0) turned.1.0) (subst (λ xs. Going mid now kept xs) turned.1.1 text)
   Running-turned old mid now gathered next kept a b c lines line more number (Err why) h turned is text = absurd (cc)
 
   -- a write fault, or want of memory
@@ -218,13 +219,13 @@ module _ {D P V C N : Type 0} (who : Parties D P V C N) where
 
   -- what was gathered could not be written
   pub Scripted-fault : (old mid now : Option Text) (gathered : Text) (a b : World D P V C N) (lines left : List Text) (number : ℕ) (why : Stop) (ended : Result Status Stop) → ended ≡ Err why → Running old mid gathered a b lines left number → WritesPart mid now (gathered ++ [])
-      → Scripted who old now a lines (code_by ended) b
+      → Scripted who limits old now a lines (code_by ended) b
   Scripted-fault old mid now gathered a b lines left number why ended is h part =
       Scripted-cut old mid now gathered a b lines left number (code_by ended) h (ap (λ r. is_cut (code_by r)) is ∙ cut_by why) part
 
   -- what a line printed is gathered, and could not be written
   pub Scripted-unwritten : (old mid now : Option Text) (gathered next : Text) (a b c : World D P V C N) (lines : List Text) (line : Text) (more : List Text) (number : ℕ) (result : Result (Unit {0}) LineStop) (why : Stop) (ended : Result Status Stop)
-      → Running old mid gathered a b lines (line ∷ more) number → Turned (λ came. LineCame who b line came c) gathered result next → result ≡ Ok tt → ended ≡ Err why → WritesPart mid now next → Scripted who old now a lines (code_by ended) c
+      → Running old mid gathered a b lines (line ∷ more) number → Turned (λ came. LineCame who limits b line came c) gathered result next → result ≡ Ok tt → ended ≡ Err why → WritesPart mid now next → Scripted who limits old now a lines (code_by ended) c
   Scripted-unwritten old mid now gathered next a b c lines line more number result why ended h turned done is part =
       Scripted-fault old mid now next a c lines more (number + 1) why ended is (Running-turned old mid mid gathered next next a b c lines line more number result h turned done (Going-none mid next)) (subst (WritesPart mid now) (sym (append-nil next)) part)
 
@@ -238,28 +239,28 @@ module _ {D P V C N : Type 0} (who : Parties D P V C N) where
 
   -- a line was not done, or there was no memory for its text
   pub Scripted-turned : (old mid now : Option Text) (gathered next : Text) (a b c : World D P V C N) (lines : List Text) (line : Text) (more : List Text) (number : ℕ) (why : LineStop) (ended : Result Status Stop)
-      → Running old mid gathered a b lines (line ∷ more) number → Turned (λ came. LineCame who b line came c) gathered (Err why) next
+      → Running old mid gathered a b lines (line ∷ more) number → Turned (λ came. LineCame who limits b line came c) gathered (Err why) next
       → IfOk ended (λ status. code_of status ≡ stop_code why) → OnOk ended (Appends mid now (next ++ stop_text number why)) → WritesPart mid now (next ++ stop_text number why) → (why ≡ stop.OutOfMemory → now ≡ mid) → (why ≡ stop.OutOfMemory → ended ≡ Err out.OutOfMemory)
-      → Scripted who old now a lines (code_by ended) c
+      → Scripted who limits old now a lines (code_by ended) c
   Scripted-turned old mid now gathered next a b c lines line more number stop.Malformed ended h turned code whole part same kind =
       let g : next ≡ gathered = turned.1 in
-      Scripted-stop old mid now gathered a b c lines line more number (code_by ended) stop.Malformed h turned.0 (line_facts who b c line (Err stop.Malformed) turned.0) (code_stop ended stop.Malformed code)
+      Scripted-stop old mid now gathered a b c lines line more number (code_by ended) stop.Malformed h turned.0 (line_facts who limits b c line (Err stop.Malformed) turned.0) (code_stop ended stop.Malformed code)
       (whole_stop ended _ (subst (λ xs. OnOk ended (Appends mid now (xs ++ stop_text number stop.Malformed))) g whole)) (subst (λ xs. WritesPart mid now (xs ++ stop_text number stop.Malformed)) g part)
   Scripted-turned old mid now gathered next a b c lines line more number stop.HelperFault ended h turned code whole part same kind =
       let g : next ≡ gathered = turned.1 in
-      Scripted-stop old mid now gathered a b c lines line more number (code_by ended) stop.HelperFault h turned.0 (line_facts who b c line (Err stop.HelperFault) turned.0) (code_stop ended stop.HelperFault code)
+      Scripted-stop old mid now gathered a b c lines line more number (code_by ended) stop.HelperFault h turned.0 (line_facts who limits b c line (Err stop.HelperFault) turned.0) (code_stop ended stop.HelperFault code)
       (whole_stop ended _ (subst (λ xs. OnOk ended (Appends mid now (xs ++ stop_text number stop.HelperFault))) g whole)) (subst (λ xs. WritesPart mid now (xs ++ stop_text number stop.HelperFault)) g part)
   Scripted-turned old mid now gathered next a b c lines line more number stop.DiskFault ended h turned code whole part same kind =
       let g : next ≡ gathered = turned.1 in
-      Scripted-stop old mid now gathered a b c lines line more number (code_by ended) stop.DiskFault h turned.0 (line_facts who b c line (Err stop.DiskFault) turned.0) (code_stop ended stop.DiskFault code)
+      Scripted-stop old mid now gathered a b c lines line more number (code_by ended) stop.DiskFault h turned.0 (line_facts who limits b c line (Err stop.DiskFault) turned.0) (code_stop ended stop.DiskFault code)
       (whole_stop ended _ (subst (λ xs. OnOk ended (Appends mid now (xs ++ stop_text number stop.DiskFault))) g whole)) (subst (λ xs. WritesPart mid now (xs ++ stop_text number stop.DiskFault)) g part)
   Scripted-turned old mid now gathered next a b c lines line more number stop.OutOfMemory ended h (inl came) code whole part same kind =
-      Scripted-stop old mid now gathered a b c lines line more number (code_by ended) stop.OutOfMemory h came (line_facts who b c line (Err stop.OutOfMemory) came)
+      Scripted-stop old mid now gathered a b c lines line more number (code_by ended) stop.OutOfMemory h came (line_facts who limits b c line (Err stop.OutOfMemory) came)
       (λ uncut. absurd (let e : is_cut (code_by ended) ≡ true = ap (λ r. is_cut (code_by r)) (kind refl) in let k : true ≡ false = sym e ∙ uncut in cc))
       (λ uncut. absurd (let e : is_cut (code_by ended) ≡ true = ap (λ r. is_cut (code_by r)) (kind refl) in let k : true ≡ false = sym e ∙ uncut in cc))
       (subst (λ to. WritesPart mid to (gathered ++ [])) (sym (same refl)) (WritesPart-none mid (gathered ++ [])))
   Scripted-turned old mid now gathered next a b c lines line more number stop.OutOfMemory ended h (inr made) code whole part same kind =
       let go : Going mid mid (gathered ++ said made.0) (gathered ++ said made.0) = Going-none mid (gathered ++ said made.0) in
-      let after = Running-more old mid mid gathered (gathered ++ said made.0) a b c lines line more number made.0 h made.1 (line_facts who b c line (Ok made.0) made.1) go in
+      let after = Running-more old mid mid gathered (gathered ++ said made.0) a b c lines line more number made.0 h made.1 (line_facts who limits b c line (Ok made.0) made.1) go in
       Scripted-cut old mid now (gathered ++ said made.0) a c lines more (number + 1) (code_by ended) after (ap (λ r. is_cut (code_by r)) (kind refl))
       (subst (λ to. WritesPart mid to ((gathered ++ said made.0) ++ [])) (sym (same refl)) (WritesPart-none mid ((gathered ++ said made.0) ++ [])))

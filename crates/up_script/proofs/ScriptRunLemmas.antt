@@ -4,19 +4,20 @@ use Rattle.std.specs.List.{AllByRecursion, flat_map, sum_by}
 use Rattle.std.proofs.lemmas.List.Sums.{sum_by-append, sum_by-cons}
 use Rattle.up_disk.specs.declared.disk.Disk.{Ghosts}
 use Rattle.up_ends.proofs.Going.{WritesPart-none}
-use Rattle.up_faults.specs.Counts.{Rose}
+use Rattle.up_lists.specs.Counts.{Rose}
 use Rattle.up_host.specs.Alone.{HostState, disk_faults}
 use Rattle.up_host.specs.Opens.{disk_of, disks_of}
+use Rattle.up_journal.specs.declared.limits.Limits.{Limits}
 use Rattle.up_names.specs.Texts.{Text}
 use Rattle.up_sessions.proofs.FitLemmas.{fit_start}
 use Rattle.up_sessions.specs.Handing.{all_disks}
-use Rattle.up_sessions.specs.Opening.{IsBlank}
+use Rattle.up_disk.specs.Leaving.{IsBlank}
 use Rattle.up_sessions.specs.Worlds.{Around, Hosts, Parties, World, faults_in}
 use Rattle.up_text.specs.Lines.{script_lines}
 use Rattle.up_script.specs.ScriptAnswers.{Means, among}
 use Rattle.up_script.specs.ScriptRuns.{is_cut}
 use Rattle.up_script.specs.Standing.{at_first}
-use Rattle.up_script.specs.Statuses.{IsOneOf}
+use Rattle.up_command.specs.Statuses.{IsOneOf}
 use Rattle.up_script.proofs.RunningLemmas.{Running-none, Scripted-cut}
 
 -- a sum over what is made of each item
@@ -72,28 +73,28 @@ told_by : (input read : Text) (left : Option Text) → input ≡ read → IfSome
 told_by input read None same told = tt
 told_by input read (Some bytes) same told = same ∙ told
 
-module _ {D P V C N : Type 0} (who : Parties D P V C N) where
+module _ {D P V C N : Type 0} (who : Parties D P V C N) (limits : Limits) where
   -- no line was done, for want of memory
   pub means_none : (left held : Option Text) (given back : List D) (before : Around P V C N) (input : Text) (status : ℕ) → IfSome left (λ bytes. input ≡ bytes) → status ≡ 4 → back ≡ given → length given ≡ 80 → AllByRecursion (IsBlank who.disks) given
-      → Means who left held held given back before before status
+      → Means who limits left held held given back before before status
   means_none left held given back before input status told is same eighty blank = record {
     input = input;
     told = told;
     state = at_first given;
     scripted =
         let start : World D P V C N = among (at_first given) before in
-        Scripted-cut who held held held [] start start (script_lines input) (script_lines input) 1 status (Running-none who held [] start (script_lines input) refl (fit_start who.disks given eighty blank)) (ap is_cut is) (WritesPart-none held []);
+        Scripted-cut who limits held held held [] start start (script_lines input) (script_lines input) 1 status (Running-none who limits held [] start (script_lines input) refl (fit_start who.disks given eighty blank)) (ap is_cut is) (WritesPart-none held []);
     disks = same;
     safe = tt;
   }
 
   -- nor was the input read
-  pub means_unread : (left held : Option Text) (given : List D) (before : Around P V C N) (status : ℕ) → status ≡ 4 → length given ≡ 80 → AllByRecursion (IsBlank who.disks) given → Means who left held held given given before before status
+  pub means_unread : (left held : Option Text) (given : List D) (before : Around P V C N) (status : ℕ) → status ≡ 4 → length given ≡ 80 → AllByRecursion (IsBlank who.disks) given → Means who limits left held held given given before before status
   means_unread left held given before status is eighty blank = means_none left held given given before (text_of left) status (text_told left) is refl eighty blank
 
   -- what was run is what was read, and that is what the source told
   pub means_read : (kept read : Text) (left old new : Option Text) (given back : List D) (before after : Around P V C N) (status : ℕ) → kept ≡ read → IfSome left (λ bytes. read ≡ bytes)
-      → Means who (Some kept) old new given back before after status → Means who left old new given back before after status
+      → Means who limits (Some kept) old new given back before after status → Means who limits left old new given back before after status
   means_read kept read left old new given back before after status same told means = record {
     input = means.input;
     told = told_by means.input read left (means.told ∙ same) told;
@@ -104,7 +105,7 @@ module _ {D P V C N : Type 0} (who : Parties D P V C N) where
   }
 
   -- of statuses with which a run ends, one is that of a fault of a disk: a disk failed
-  pub means_disk : (left old new : Option Text) (given back : List D) (before after : Around P V C N) (status : ℕ) → (IsOneOf (0 ∷ 1 ∷ 3 ∷ 4 ∷ 5 ∷ 6 ∷ []) status → Means who left old new given back before after status) → status ≡ 6
+  pub means_disk : (left old new : Option Text) (given back : List D) (before after : Around P V C N) (status : ℕ) → (IsOneOf (0 ∷ 1 ∷ 3 ∷ 4 ∷ 5 ∷ 6 ∷ []) status → Means who limits left old new given back before after status) → status ≡ 6
       → Rose (sum_by who.disks.faults given) (sum_by who.disks.faults back)
   means_disk left old new given back before after status run six below =
       let means = run (grind (arith)) in
@@ -114,6 +115,6 @@ module _ {D P V C N : Type 0} (who : Parties D P V C N) where
       omega (arith, first, last, rose)
 
   -- and one is that of a fault of the verifier
-  pub means_helper : (left old new : Option Text) (given back : List D) (before after : Around P V C N) (status : ℕ) → (IsOneOf (0 ∷ 1 ∷ 3 ∷ 4 ∷ 5 ∷ 6 ∷ []) status → Means who left old new given back before after status) → status ≡ 5
+  pub means_helper : (left old new : Option Text) (given back : List D) (before after : Around P V C N) (status : ℕ) → (IsOneOf (0 ∷ 1 ∷ 3 ∷ 4 ∷ 5 ∷ 6 ∷ []) status → Means who limits left old new given back before after status) → status ≡ 5
       → Rose (who.verifiers.faults before.verifier) (who.verifiers.faults after.verifier)
   means_helper left old new given back before after status run five = (run (grind (arith))).scripted.helper five

@@ -15,6 +15,7 @@ use Rattle.up_ends.specs.declared.verifier.Verifier as verifier
 use Rattle.up_host.specs.declared.event.Event.{Event}
 use Rattle.up_journal.specs.declared.fault.AppendWhy.{AppendWhy}
 use Rattle.up_journal.specs.declared.fault.AppendWhy.TheVariants as append
+use Rattle.up_journal.specs.declared.limits.Limits.{Limits}
 use Rattle.up_names.specs.PathNames.{PathName}
 use Rattle.up_names.specs.Texts.{Text, UserName}
 use Rattle.up_peer.specs.declared.loader.Loader as loader
@@ -40,7 +41,8 @@ use Rattle.up_script.proofs.LineLemmas.{Good, good_of}
 use Rattle.up_script.proofs.OwnerLemmas.{owners_few}
 use Rattle.up_script.specs.ScriptLines.{are_owners, line_of}
 use Rattle.up_script.specs.ScriptRuns.{Turned}
-use Rattle.up_script.specs.Scripts.{AskCame, CallCame, CallDone, Came, Did, EnrolCame, HostCame, OpenCame, all_numbered, call_path, got_said, is_new, place_of, put_said, replied, said, script_limits}
+use Rattle.up_command.specs.Printed.{all_numbered}
+use Rattle.up_script.specs.Scripts.{AskCame, CallCame, CallDone, Came, Did, EnrolCame, HostCame, OpenCame, call_path, got_said, is_new, place_of, put_said, replied, said}
 use Rattle.up_script.specs.Standing.{IsAskable}
 use Rattle.up_script.specs.Turns.{IsGood, enrol_said, host_said, sign_said}
 use Rattle.up_script.specs.declared.script_lines.NewHost.{NewHost}
@@ -93,13 +95,13 @@ pub says : (came : Came) (did : Did) (old new : Text) → came ≡ Ok did → ne
 says came did old new is text = (did, (sym is, text))
 
 -- a host was opened, or was not, under its name
-pub host_came : {D : Type 0} (disks : Ghosts D) (host : NewHost) (a b : Hosts D) (name : Text) (result : Result (Unit {0}) LineFault) (came : Came) → is_new a host ≡ true → OpensNext disks script_limits name host.operator host.owners a result b → name ≡ host.name → came ≡ host_said host.name result → HostCame disks host a came b
-host_came disks host a b name (Ok done) came new opens named said =
-    subst (λ x. HostCame disks host a x b) (sym said) (HostCame.opened new (subst (λ n. OpensNext disks script_limits n host.operator host.owners a (Ok tt) b) named opens))
-host_came disks host a b name (Err fault.Fault) came new opens named said =
-    subst (λ x. HostCame disks host a x b) (sym said) (HostCame.failed new (subst (λ n. OpensNext disks script_limits n host.operator host.owners a (Err fault.Fault) b) named opens))
-host_came disks host a b name (Err fault.OutOfMemory) came new opens named said =
-    subst (λ x. HostCame disks host a x b) (sym said) (HostCame.wanting new (subst (λ n. OpensNext disks script_limits n host.operator host.owners a (Err fault.OutOfMemory) b) named opens))
+pub host_came : {D : Type 0} (disks : Ghosts D) (limits : Limits) (host : NewHost) (a b : Hosts D) (name : Text) (result : Result (Unit {0}) LineFault) (came : Came) → is_new a host ≡ true → OpensNext disks limits name host.operator host.owners a result b → name ≡ host.name → came ≡ host_said host.name result → HostCame disks limits host a came b
+host_came disks limits host a b name (Ok done) came new opens named said =
+    subst (λ x. HostCame disks limits host a x b) (sym said) (HostCame.opened new (subst (λ n. OpensNext disks limits n host.operator host.owners a (Ok tt) b) named opens))
+host_came disks limits host a b name (Err fault.Fault) came new opens named said =
+    subst (λ x. HostCame disks limits host a x b) (sym said) (HostCame.failed new (subst (λ n. OpensNext disks limits n host.operator host.owners a (Err fault.Fault) b) named opens))
+host_came disks limits host a b name (Err fault.OutOfMemory) came new opens named said =
+    subst (λ x. HostCame disks limits host a x b) (sym said) (HostCame.wanting new (subst (λ n. OpensNext disks limits n host.operator host.owners a (Err fault.OutOfMemory) b) named opens))
 
 -- a user was enrolled, or was not
 pub enrol_came : {D : Type 0} (disks : Ghosts D) (user : NewUser) (a b : Hosts D) (place : ℕ) (result : Result ℕ AppendWhy) (came : Came) → place_of a user.host ≡ Some place → EnrolsAt disks place user.user user.key a result b → came ≡ enrol_said user.user result → EnrolCame disks user a came b

@@ -1,7 +1,7 @@
 -- How the users of a list are read one after the other.
 use Rattle.std.proofs.Common.{◌≡◌, ℕ, List, [], ◌∷◌, ◌++◌, Option, Some, None, option_map, refl, sym, ap, ◌∙◌, append_assoc, append-nil}
 use Rattle.up_names.specs.Texts.{UserName}
-use Rattle.up_script.specs.CanLines.{◌>>=◌, user_named}
+use Rattle.up_command.specs.Words.{◌>>=◌, user_named}
 use Rattle.up_script.specs.ScriptLines.{users_named}
 
 -- users, and others behind them if these are there

@@ -1,6 +1,6 @@
 -- What every line of a script keeps, whatever it does. This project's own.
 use Rattle.std.specs.Prelude.{◌≡◌, ◌≤◌, ℕ, Bool, true, false, Ok, Err}
-use Rattle.up_faults.specs.Counts.{Rose}
+use Rattle.up_lists.specs.Counts.{Rose}
 use Rattle.up_sessions.specs.Fitting.{IsFit}
 use Rattle.up_sessions.specs.Keeping.{AllStayIn}
 use Rattle.up_sessions.specs.Worlds.{Parties, RosePerIo, World, faults_in, faults_of}

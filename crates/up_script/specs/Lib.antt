@@ -1,6 +1,3 @@
-pub mod CanFiles
-pub mod CanLines
-pub mod CanRuns
 pub mod ScriptLines
 pub mod Scripts
 pub mod ScriptRuns
@@ -8,4 +5,3 @@ pub mod Standing
 pub mod ScriptAnswers
 pub mod Facts
 pub mod Turns
-pub mod Statuses

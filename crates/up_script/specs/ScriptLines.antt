@@ -12,31 +12,12 @@ use Rattle.up_text.specs.Numbers.{num_of}
 use Rattle.up_text.specs.Requests.{client_line_of, request_of}
 use Rattle.up_text.specs.Words.{decoded}
 use Rattle.up_text.specs.declared.requests.ClientLine.{ClientLine}
-use Rattle.up_script.specs.CanLines.{◌>>=◌, user_named}
+use Rattle.up_command.specs.Words.{◌>>=◌, key_named, user_named}
+use Rattle.up_sign.specs.HostNames.{host_named}
 use Rattle.up_script.specs.declared.script_lines.ScriptLine.{ScriptLine}
 use Rattle.up_script.specs.declared.script_lines.ScriptLine.TheVariants as lines
 
 -- ---- words
-
--- a byte of the name of a host: `a-z 0-9`
-abbrev pub is_name_byte : ℕ → Bool
-is_name_byte b = (nat_le 97 b && nat_le b 122) || is_ascii_digit b
-
--- the name of a host: 1 to 32 of these bytes
-abbrev pub is_host_name : Text → Bool
-is_host_name word = nat_le 1 (length word) && nat_le (length word) 32 && list_all is_name_byte word
-
-abbrev pub host_named : Text → Option Text
-host_named word = if is_host_name word then Some word else None
-
--- the public key that a word stands for: 1 to 1,024 bytes
-abbrev pub is_key : Text → Bool
-is_key key = nat_le 1 (length key) && nat_le (length key) 1024
-
-unfoldable pub key_named : Text → Option Text
-key_named word = do
-  key ← decoded word
-  if is_key key then Some key else None
 
 -- the number of a session: 0 to 99
 unfoldable pub session_named : Text → Option ℕ

@@ -3,12 +3,13 @@ use Rattle.std.specs.Prelude.{◌≡◌, ◌<◌, ◌-◌, ◌^◌, ◌≤◌, �
 use Rattle.std.specs.List.{flat_map, sum_by}
 use Rattle.std.specs.Io.KnownBytes.{Appends}
 use Rattle.up_ends.specs.Writing.{WritesPart}
-use Rattle.up_faults.specs.Counts.{Rose}
+use Rattle.up_lists.specs.Counts.{Rose}
 use Rattle.up_lists.specs.Runs.{Run}
+use Rattle.up_journal.specs.declared.limits.Limits.{Limits}
 use Rattle.up_names.specs.Texts.{Text}
 use Rattle.up_sessions.specs.Keeping.{AllStayIn}
 use Rattle.up_sessions.specs.Worlds.{Parties, World, faults_in, faults_of}
-use Rattle.up_script.specs.CanRuns.{bad_line}
+use Rattle.up_command.specs.Printed.{bad_line}
 use Rattle.up_script.specs.Scripts.{Came, Did, LineCame, io_in, said}
 use Rattle.up_script.specs.declared.stop.LineStop.{LineStop}
 use Rattle.up_script.specs.declared.stop.LineStop.TheVariants as stop
@@ -37,16 +38,16 @@ stop_text number why = []
 abbrev pub is_cut : ℕ → Bool
 is_cut status = (status == 3) || (status == 4)
 
-module _ {D P V C N : Type 0} (who : Parties D P V C N) where
+module _ {D P V C N : Type 0} (who : Parties D P V C N) (limits : Limits) where
   -- a line did something
   abbrev pub LineDoes : World D P V C N → Text → Did → World D P V C N → Type 0
-  LineDoes a line did b = LineCame who a line (Ok did) b
+  LineDoes a line did b = LineCame who limits a line (Ok did) b
 
   -- How a run ends behind the lines that it did, by the lines that are left and the number of the next one, with the text that is written
   -- last, and the status: there is no line left; or the next one was not done; or no more could be written.
   pub data Ends (last : World D P V C N) (number : ℕ) : List Text → Text → ℕ → World D P V C N → Type 0 where
     at_end : Ends last number [] [] 0 last
-    stopped : {line : Text} {more : List Text} {b : World D P V C N} (why : LineStop) → LineCame who last line (Err why) b → Ends last number (line ∷ more) (stop_text number why) (stop_code why) b
+    stopped : {line : Text} {more : List Text} {b : World D P V C N} (why : LineStop) → LineCame who limits last line (Err why) b → Ends last number (line ∷ more) (stop_text number why) (stop_code why) b
     unwritten : {left : List Text} → Ends last number left [] 3 last
 
   -- From one world to another: the lines that were done, each with what it did, how that ended, and what was written. The text is written

@@ -34,6 +34,7 @@ use Rattle.up_wire.specs.declared.replies.Done.TheVariants as done
 use Rattle.up_wire.specs.declared.replies.Reply.{Reply}
 use Rattle.up_wire.specs.declared.replies.Reply.TheVariants as reply
 use Rattle.up_wire.specs.declared.requests.Request.{Request}
+use Rattle.up_command.specs.Printed.{all_numbered, ended, numbered}
 use Rattle.up_script.specs.ScriptLines.{line_of}
 use Rattle.up_script.specs.declared.script_lines.NewHost.{NewHost}
 use Rattle.up_script.specs.declared.script_lines.NewSession.{NewSession}
@@ -57,18 +58,6 @@ pub data Did : Type 0 where
   Replied : ℕ → Reply → Did
   Put : ℕ → Result ℕ ClientFault → Did
   Got : ℕ → Result (List ℕ) ClientFault → Did
-
--- a line of output
-abbrev pub ended : Text → Text
-ended text = text ++ codes "\n"
-
--- a line of output about a session: its number and a space stand before it
-abbrev pub numbered : ℕ → Text → Text
-numbered number text = decimal number ++ codes " " ++ ended text
-
--- lines about a session
-abbrev pub all_numbered : ℕ → List Text → Text
-all_numbered number texts = flat_map (numbered number) texts
 
 -- the lines of a put: the position, as the reply to it, or why it failed
 abbrev pub put_lines : Result ℕ ClientFault → List Text
@@ -107,10 +96,6 @@ Came = Result Did LineStop
 
 -- ---- hosts
 
--- the limits of the trees and keys of a script's hosts
-abbrev pub script_limits : Limits
-script_limits = record { records = 1048576; device = 1073741824; largest = 131072 }
-
 -- the place of the host with a name
 abbrev pub place_of : {D : Type 0} → Hosts D → Text → Option ℕ
 place_of a name = position (is_named name) a.hosts
@@ -119,14 +104,15 @@ place_of a name = position (is_named name) a.hosts
 abbrev pub is_new : {D : Type 0} → Hosts D → NewHost → Bool
 is_new a host = nat_lt (length a.hosts) 8 && is_none (place_of a host.name) && list_all (λ owner. not (list_any (has_tree owner) a.hosts)) host.owners
 
-module _ {D : Type 0} (disks : disk.Ghosts D) where
+module _ {D : Type 0} (disks : disk.Ghosts D) (limits : Limits) where
   -- `host`: a new one is opened over the next disks, unless one of them fails
   pub data HostCame (host : NewHost) (a : Hosts D) : Came → Hosts D → Type 0 where
-    opened : {b : Hosts D} → is_new a host ≡ true → OpensNext disks script_limits host.name host.operator host.owners a (Ok tt) b → HostCame host a (Ok (Did.HostOpened host.name)) b
+    opened : {b : Hosts D} → is_new a host ≡ true → OpensNext disks limits host.name host.operator host.owners a (Ok tt) b → HostCame host a (Ok (Did.HostOpened host.name)) b
     not_new : is_new a host ≡ false → HostCame host a (Err stop.Malformed) a
-    failed : {b : Hosts D} → is_new a host ≡ true → OpensNext disks script_limits host.name host.operator host.owners a (Err fault.Fault) b → HostCame host a (Err stop.DiskFault) b
-    wanting : {b : Hosts D} → is_new a host ≡ true → OpensNext disks script_limits host.name host.operator host.owners a (Err fault.OutOfMemory) b → HostCame host a (Err stop.OutOfMemory) b
+    failed : {b : Hosts D} → is_new a host ≡ true → OpensNext disks limits host.name host.operator host.owners a (Err fault.Fault) b → HostCame host a (Err stop.DiskFault) b
+    wanting : {b : Hosts D} → is_new a host ≡ true → OpensNext disks limits host.name host.operator host.owners a (Err fault.OutOfMemory) b → HostCame host a (Err stop.OutOfMemory) b
 
+module _ {D : Type 0} (disks : disk.Ghosts D) where
   -- `enrol`: a record without endpoints is put to the keys of the host with the name
   pub data EnrolCame (user : NewUser) (a : Hosts D) : Came → Hosts D → Type 0 where
     enrolled : {place position : ℕ} {b : Hosts D} → place_of a user.host ≡ Some place → EnrolsAt disks place user.user user.key a (Ok position) b → EnrolCame user a (Ok (Did.Enrolled user.user)) b
@@ -197,11 +183,11 @@ module _ {D P C : Type 0} (disks : disk.Ghosts D) (peers : loader.Ghosts P) (clo
 
 -- ---- a line
 
-module _ {D P V C N : Type 0} (who : Parties D P V C N) where
+module _ {D P V C N : Type 0} (who : Parties D P V C N) (limits : Limits) where
   -- what came of what a line says, among all that stands around the hosts
   abbrev pub SaysCame : World D P V C N → ScriptLine → Came → World D P V C N → Type 0
   SaysCame a lines.Silent came b = (came ≡ Ok Did.Nothing) × (b ≡ a)
-  SaysCame a (lines.Host host) came b = HostCame who.disks host a.state came b.state × (b.around ≡ a.around)
+  SaysCame a (lines.Host host) came b = HostCame who.disks limits host a.state came b.state × (b.around ≡ a.around)
   SaysCame a (lines.Enrol user) came b = EnrolCame who.disks user a.state came b.state × (b.around ≡ a.around)
   SaysCame a (lines.Open session) came b =
       OpenCame who.verifiers who.nonces session a.state a.around.verifier a.around.nonces came b.state b.around.verifier b.around.nonces × (b.around.peers ≡ a.around.peers) × (b.around.clock ≡ a.around.clock)

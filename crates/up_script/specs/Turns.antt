@@ -5,7 +5,8 @@ use Rattle.up_journal.specs.declared.fault.AppendWhy.TheVariants as append
 use Rattle.up_names.specs.Texts.{Text, UserName}
 use Rattle.up_sessions.specs.declared.fault.LineFault.{LineFault}
 use Rattle.up_sessions.specs.declared.fault.LineFault.TheVariants as fault
-use Rattle.up_script.specs.ScriptLines.{are_owners, is_key}
+use Rattle.up_command.specs.Words.{is_key}
+use Rattle.up_script.specs.ScriptLines.{are_owners}
 use Rattle.up_script.specs.Scripts.{Came, Did, signed}
 use Rattle.up_script.specs.Standing.{AskSomething}
 use Rattle.up_script.specs.declared.script_lines.ScriptLine.{ScriptLine}

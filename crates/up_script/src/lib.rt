@@ -1,42 +1,20 @@
 //! The scripts that `upspin` runs: what a line says, what a whole script prints, and the status of a run.
 //!
-//! The contract of [`can_run`] is the promise of `upspin can` from end to end, over any source and sink. Where the source tells
-//! its bytes and the sink what it holds, what is written is the meaning of these bytes (`meaning`): the text of `run_of`, a fold
-//! over the lines that knows no loop of the code, in which each question is answered by `right_test` over the files named so
-//! far; whole where the status is not 2, 3 or 4, and a front of it always. For every source and sink, also those that tell
-//! nothing: no other status comes (`statuses`); 2 and 3 come only where that object's count of faults rose (`read_fault`,
-//! `write_fault`); 7 comes exactly where the source gave more than 67,108,864 bytes (`too_long`, `too_long_always`, for a source
-//! whose count has not come to its end); 64 comes only where the words do not fit, and then 64 or 3 comes and the source is not
-//! read (`usage`, `usage_only`), and the usage line was written where 64 came (`usage_written`); after 0 and 1 the source is at
-//! its end (`at_end`); after 2 and 7 the sink is as it was (`untouched`, `unread`, `unwritten`).
-//!
 //! The contract of [`script_run`] is the promise of `upspin script` from end to end: over any source, sink, disks, verifier, clock,
 //! nonces and peers, what is written is the meaning of the bytes read (`meaning`). What a line says by itself is `line_of`; what
 //! came of it among the hosts that the script has by then, with all that stands around them, is `LineCame`, one definition a kind
 //! of line; `Scripted` goes over the lines, and says what is printed, how the run ends, and that lines `io` are at most as many as
 //! disks and peers failed, as long as their counts have not come to their end. Each status has its cause (`read_fault`,
 //! `write_fault`, `helper_fault`, `disk_fault`, `too_long`, `usage_only`), all disks come back in their places, and of each log a
-//! crash leaves that log, or it with its doubtful record.
+//! crash leaves that log, or it with its doubtful record. [`script_within`] is the same over any peers, with any limits of the hosts.
 #![tactic(auto)]
 
-mod can;
-mod can_files;
-mod can_lines;
-mod can_script;
-mod host_name;
-mod input;
-mod output;
-mod saying;
 mod script;
 mod script_lines;
-mod status;
 mod stop;
 mod turns;
 
-pub use can::can_run;
-pub use can_files::CanFiles;
-pub use can_lines::CanKind;
-pub use host_name::HostName;
-pub use script::script_run;
+pub use script::{script_run, script_within};
 pub use script_lines::{NewHost, NewSession, NewUser, ScriptLine};
 pub use stop::LineStop;
+pub use up_can::can_run;

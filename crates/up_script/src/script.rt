@@ -2,30 +2,35 @@
 ghost use Rattle.std.specs.Prelude.{◌≡◌, ◌≢◌, ◌⊎◌, ◌+◌, ◌-◌, ◌<◌, ◌≤◌, ◌^◌, ◌↔◌, [], ◌∷◌, ◌++◌, false, true, length, map, IfOk, IfSome, IsErrOf, OnOk, Some, string_bytes};
 ghost use Rattle.std.specs.List.{AllByRecursion, sum_by};
 ghost use Rattle.std.specs.Io.KnownBytes.{Appends, IsAtEnd};
-ghost use Rattle.up_faults.specs.Counts.{Rose};
+ghost use Rattle.up_lists.specs.Counts.{Rose};
 ghost use Rattle.up_ends.specs.Writing.{WritesPart};
 ghost use Rattle.up_sessions.specs.Fitting.{IsFit};
-ghost use Rattle.up_sessions.specs.Opening.{IsBlank};
+ghost use Rattle.up_disk.specs.Leaving.{IsBlank};
 ghost use Rattle.up_text.specs.Lines.{script_lines};
 ghost use Rattle.up_script.specs.ScriptAnswers.{Means, code_by, is_script};
 ghost use Rattle.up_script.specs.ScriptRuns.{Scripted, stop_code, stop_text};
-ghost use Rattle.up_script.specs.Standing.{around, parties, world};
-ghost use Rattle.up_script.specs.Statuses.{IsOneOf, code_of, input_limit, usage_line};
+ghost use Rattle.up_script.specs.Standing.{AreHostLimits, around, parties, script_limits, world};
+ghost use Rattle.up_command.specs.Statuses.{IsOneOf, code_of, input_limit, usage_line};
 
-use crate::can::{bad_line, usage};
-use crate::input::read_script;
-use crate::output::{Stop, finish, flush};
-use crate::status::Status;
 use crate::stop::LineStop;
 use crate::turns::run_line;
 use std::alloc::{AllocError, Global};
 use std::hash::RandomState;
 use std::mem;
+use up_command::{Status, Stop, bad_line, finish, flush, read_script, usage};
 use up_disk::{Disk, Disks};
 use up_ends::{Clock, Nonces, Sink, Source, Verifier};
+use up_journal::Limits;
 use up_peer::{Loader, Peers};
 use up_sessions::Sessions;
 use up_text::next_line;
+
+/// The limits of the trees and keys of a script's hosts.
+const LIMITS: Limits = Limits {
+    records: 1_048_576,
+    device: 1_073_741_824,
+    largest: 131_072,
+};
 
 /// Runs `upspin script`, whose words begin with the command's own: reads a script to its end, and then does what its lines say, in order:
 /// it opens hosts over these disks, of which there are 80, empty and with nothing pending, enrols users, signs them on, and prints the
@@ -54,7 +59,7 @@ pub fn script_run<D: Disk + Drop, S: Source, K: Sink, V: Verifier, C: Clock, N: 
     // What is written is the meaning of the bytes of the source, and so is what is left of the disks.
     ensures meaning { is_script (map string_bytes words.now) ≡ true
         → IsOneOf (0 ∷ 1 ∷ 3 ∷ 4 ∷ 5 ∷ 6 ∷ []) result
-        → Means (parties D.Disk ⟦<Peers as Loader>⟧ V.Verifier C.Clock N.Nonces)
+        → Means (parties D.Disk ⟦<Peers as Loader>⟧ V.Verifier C.Clock N.Nonces) script_limits
         (S.left source.old) (K.held sink.old) (K.held sink.new) disks.old.disks disks.new.disks
         (around peers.old verifier.old clock.old nonces.old)
         (around peers.new verifier.new clock.new nonces.new) result }
@@ -104,8 +109,8 @@ pub fn script_run<D: Disk + Drop, S: Source, K: Sink, V: Verifier, C: Clock, N: 
     if !is_script(words) {
         return usage(sink).code();
     }
-    run_source(
-        alloc, random, source, sink, disks, peers, verifier, clock, nonces,
+    script_within(
+        alloc, random, LIMITS, source, sink, disks, verifier, clock, nonces, peers,
     )
 }
 
@@ -119,23 +124,34 @@ fn is_script(words: &[String]) -> bool
     }
 }
 
-/// Reads a script to its end, runs it, and answers the status with which that ended. Where it was not read, nothing was done.
-fn run_source<D: Disk + Drop, P: Loader, S: Source, K: Sink, V: Verifier, C: Clock, N: Nonces>(
+/// Runs a script as [`script_run`] does, whatever the words of the program: its hosts have these limits, and the peers may be of any kind.
+/// It answers 0 to 7, as [`script_run`] does.
+pub fn script_within<
+    D: Disk + Drop,
+    P: Loader,
+    S: Source,
+    K: Sink,
+    V: Verifier,
+    C: Clock,
+    N: Nonces,
+>(
     alloc: Global,
     random: RandomState,
+    limits: Limits,
     source: &mut S,
     sink: &mut K,
     disks: &mut Disks<D>,
-    peers: &mut P,
     verifier: &mut V,
     clock: &mut C,
     nonces: &mut N,
+    peers: &mut P,
 ) -> u8
+    requires limits { AreHostLimits limits }
     requires eighty { length disks.old.disks ≡ 80 }
     requires blank { AllByRecursion (IsBlank D.Disk) disks.old.disks }
     ensures statuses { IsOneOf (0 ∷ 1 ∷ 2 ∷ 3 ∷ 4 ∷ 5 ∷ 6 ∷ 7 ∷ []) result }
     ensures means { IsOneOf (0 ∷ 1 ∷ 3 ∷ 4 ∷ 5 ∷ 6 ∷ []) result
-        → Means (parties D.Disk P.Loader V.Verifier C.Clock N.Nonces)
+        → Means (parties D.Disk P.Loader V.Verifier C.Clock N.Nonces) limits
         (S.left source.old) (K.held sink.old) (K.held sink.new) disks.old.disks disks.new.disks
         (around peers.old verifier.old clock.old nonces.old)
         (around peers.new verifier.new clock.new nonces.new) result }
@@ -151,6 +167,9 @@ fn run_source<D: Disk + Drop, P: Loader, S: Source, K: Sink, V: Verifier, C: Clo
         ≡ around peers.old verifier.old clock.old nonces.old) }
     ensures read_fault { result ≡ 2 → Rose (S.faults source.old) (S.faults source.new) }
     ensures write_fault { result ≡ 3 → Rose (K.faults sink.old) (K.faults sink.new) }
+    ensures helper_fault { result ≡ 5 → Rose (V.faults verifier.old) (V.faults verifier.new) }
+    ensures disk_fault { result ≡ 6
+        → Rose (sum_by D.faults disks.old.disks) (sum_by D.faults disks.new.disks) }
     ensures long { S.given source.old + input_limit < 2 ^ 64 - 1
         → (result ≡ 7 ↔ (S.given source.old + input_limit < S.given source.new)) }
     ensures told_long { result ≡ 7
@@ -160,7 +179,7 @@ fn run_source<D: Disk + Drop, P: Loader, S: Source, K: Sink, V: Verifier, C: Clo
 {
     match read_script(alloc, source) {
         Ok(input) => run_script(
-            alloc, random, &input, sink, disks, peers, verifier, clock, nonces,
+            alloc, random, limits, &input, sink, disks, peers, verifier, clock, nonces,
         ),
         Err(status) => status,
     }
@@ -170,6 +189,7 @@ fn run_source<D: Disk + Drop, P: Loader, S: Source, K: Sink, V: Verifier, C: Clo
 fn run_script<D: Disk + Drop, P: Loader, K: Sink, V: Verifier, C: Clock, N: Nonces>(
     alloc: Global,
     random: RandomState,
+    limits: Limits,
     input: &[u8],
     sink: &mut K,
     disks: &mut Disks<D>,
@@ -178,9 +198,10 @@ fn run_script<D: Disk + Drop, P: Loader, K: Sink, V: Verifier, C: Clock, N: Nonc
     clock: &mut C,
     nonces: &mut N,
 ) -> u8
+    requires limits { AreHostLimits limits }
     requires eighty { length disks.old.disks ≡ 80 }
     requires blank { AllByRecursion (IsBlank D.Disk) disks.old.disks }
-    ensures means { Means (parties D.Disk P.Loader V.Verifier C.Clock N.Nonces)
+    ensures means { Means (parties D.Disk P.Loader V.Verifier C.Clock N.Nonces) limits
         (Some input.now) (K.held sink.old) (K.held sink.new) disks.old.disks disks.new.disks
         (around peers.old verifier.old clock.old nonces.old)
         (around peers.new verifier.new clock.new nonces.new) result }
@@ -194,6 +215,7 @@ fn run_script<D: Disk + Drop, P: Loader, K: Sink, V: Verifier, C: Clock, N: Nonc
             let mut sessions = sessions;
             let status = run_lines(
                 alloc,
+                limits,
                 &mut sessions,
                 peers,
                 verifier,
@@ -215,6 +237,7 @@ fn run_script<D: Disk + Drop, P: Loader, K: Sink, V: Verifier, C: Clock, N: Nonc
 /// Does what a script's lines say, one after the other, prints what they print, and answers the status with which that ended.
 fn run_lines<D: Disk + Drop, P: Loader, K: Sink, V: Verifier, C: Clock, N: Nonces>(
     alloc: Global,
+    limits: Limits,
     sessions: &mut Sessions<D>,
     peers: &mut P,
     verifier: &mut V,
@@ -223,8 +246,9 @@ fn run_lines<D: Disk + Drop, P: Loader, K: Sink, V: Verifier, C: Clock, N: Nonce
     lines: &[u8],
     sink: &mut K,
 ) -> u8
+    requires limits { AreHostLimits limits }
     requires fit { IsFit D.Disk sessions.old }
-    ensures scripted { Scripted (parties D.Disk P.Loader V.Verifier C.Clock N.Nonces)
+    ensures scripted { Scripted (parties D.Disk P.Loader V.Verifier C.Clock N.Nonces) limits
         (K.held sink.old) (K.held sink.new)
         (world sessions.old peers.old verifier.old clock.old nonces.old) (script_lines lines.now)
         result (world sessions.new peers.new verifier.new clock.new nonces.new) }
@@ -232,7 +256,9 @@ fn run_lines<D: Disk + Drop, P: Loader, K: Sink, V: Verifier, C: Clock, N: Nonce
     ensures cause { result ≡ 3 → Rose (K.faults sink.old) (K.faults sink.new) }
     ensures later { K.faults sink.old ≤ K.faults sink.new }
 {
-    match run_each(alloc, sessions, peers, verifier, clock, nonces, lines, sink) {
+    match run_each(
+        alloc, limits, sessions, peers, verifier, clock, nonces, lines, sink,
+    ) {
         Ok(status) => status.code(),
         Err(Stop::WriteFault) => Status::WriteFault.code(),
         Err(Stop::OutOfMemory) => Status::OutOfMemory.code(),
@@ -241,6 +267,7 @@ fn run_lines<D: Disk + Drop, P: Loader, K: Sink, V: Verifier, C: Clock, N: Nonce
 
 fn run_each<D: Disk + Drop, P: Loader, K: Sink, V: Verifier, C: Clock, N: Nonces>(
     alloc: Global,
+    limits: Limits,
     sessions: &mut Sessions<D>,
     peers: &mut P,
     verifier: &mut V,
@@ -249,8 +276,9 @@ fn run_each<D: Disk + Drop, P: Loader, K: Sink, V: Verifier, C: Clock, N: Nonces
     lines: &[u8],
     sink: &mut K,
 ) -> Result<Status, Stop>
+    requires limits { AreHostLimits limits }
     requires fit { IsFit D.Disk sessions.old }
-    ensures scripted { Scripted (parties D.Disk P.Loader V.Verifier C.Clock N.Nonces)
+    ensures scripted { Scripted (parties D.Disk P.Loader V.Verifier C.Clock N.Nonces) limits
         (K.held sink.old) (K.held sink.new)
         (world sessions.old peers.old verifier.old clock.old nonces.old) (script_lines lines.now)
         (code_by result) (world sessions.new peers.new verifier.new clock.new nonces.new) }
@@ -264,6 +292,7 @@ fn run_each<D: Disk + Drop, P: Loader, K: Sink, V: Verifier, C: Clock, N: Nonces
     while let Some((line, after)) = next_line(rest) {
         match run_line(
             alloc,
+            limits,
             sessions,
             peers,
             verifier,

@@ -6,16 +6,16 @@ ghost use Rattle.up_policy.specs.Trees.{owns_snapshots};
 ghost use Rattle.up_text.specs.Lines.{words_left};
 ghost use Rattle.up_text.specs.Lists.{is_comma};
 ghost use Rattle.up_text.specs.Words.{decoded};
-ghost use Rattle.up_script.specs.CanLines.{user_named};
-ghost use Rattle.up_script.specs.ScriptLines.{are_different, are_owners, enrol_line, host_line, key_named, line_of, open_line, session_line, session_named, trees_named, users_named};
+ghost use Rattle.up_command.specs.Words.{key_named, user_named};
+ghost use Rattle.up_script.specs.ScriptLines.{are_different, are_owners, enrol_line, host_line, line_of, open_line, session_line, session_named, trees_named, users_named};
 ghost use Rattle.up_script.specs.Standing.{IsAskable};
 
-use crate::can_lines::{is, user_named};
-use crate::host_name::HostName;
 use std::alloc::{AllocError, Global};
 use up_bytes::{Bytes, copy_of};
+use up_command::{is, key_named, user_named};
 use up_lists::Items;
 use up_names::User;
+use up_sign::HostName;
 use up_text::{
     ClientLine, cut_word, is_request, is_silent, read_client_line, read_num, read_word, three_words,
 };
@@ -265,20 +265,6 @@ fn add_word(alloc: Global, words: &mut Items<Bytes>, word: &[u8]) -> Result<(), 
 {
     words.push(copy_of(alloc, word)?)?;
     Ok(())
-}
-
-/// The public key that a word stands for.
-#[tactic(auto, unfolding(crate::specs::ScriptLines::key_named))]
-fn key_named(alloc: Global, word: &[u8]) -> Result<Option<Bytes>, AllocError>
-    ensures { IfOk result (λ found. found ≡ key_named word.now) }
-{
-    let Some(key) = read_word(alloc, word)? else {
-        return Ok(None);
-    };
-    if !(1..=1024).contains(&key.len()) {
-        return Ok(None);
-    }
-    Ok(Some(key))
 }
 
 /// The number of a session that a word is.

@@ -1,46 +1,42 @@
 //! What each kind of line of a script does.
 ghost use Rattle.std.specs.Prelude.{◌≡◌, ◌≢◌, ◌≤◌, ◌++◌, true, IfErr, IfOk, IsSome, OnOk, Some, not};
 ghost use Rattle.std.specs.List.{list_all, list_any};
+ghost use Rattle.up_command.specs.Printed.{all_numbered};
+ghost use Rattle.up_command.specs.Words.{is_key};
 ghost use Rattle.up_sessions.specs.Fitting.{IsFit};
 ghost use Rattle.up_sessions.specs.Others.{has_tree};
 ghost use Rattle.up_sessions.specs.Worlds.{session_at};
-ghost use Rattle.up_script.specs.ScriptLines.{are_owners, is_key};
+ghost use Rattle.up_script.specs.ScriptLines.{are_owners};
 ghost use Rattle.up_script.specs.ScriptRuns.{Turned};
-ghost use Rattle.up_script.specs.Scripts.{AskCame, CallCame, EnrolCame, HostCame, LineCame, OpenCame, SaysCame, all_numbered, call_path, got_said, is_new, place_of, put_said, replied};
-ghost use Rattle.up_script.specs.Standing.{AskSomething, parties, world};
+ghost use Rattle.up_script.specs.Scripts.{AskCame, CallCame, EnrolCame, HostCame, LineCame, OpenCame, SaysCame, call_path, got_said, is_new, place_of, put_said, replied};
+ghost use Rattle.up_script.specs.Standing.{AreHostLimits, AskSomething, parties, world};
 ghost use Rattle.up_script.specs.Turns.{IsGood, enrol_said, host_said, sign_said};
 ghost use Rattle.up_text.specs.ClientFaults.{fault_lines};
 ghost use Rattle.up_text.specs.Replies.{reply_lines};
 
-use crate::host_name::HostName;
-use crate::saying::{say, say_count, say_fault, say_numbered, say_reply};
 use crate::script_lines::{NewHost, NewSession, NewUser, ScriptLine, script_line};
 use crate::stop::LineStop;
 use std::alloc::{AllocError, Global};
 use up_bytes::Bytes;
 use up_client::ClientFault;
+use up_command::{say, say_count, say_fault, say_numbered, say_reply};
 use up_disk::Disk;
 use up_ends::{Clock, Nonces, Verifier};
 use up_journal::{AppendWhy, Limits};
 use up_names::{NameFault, Path, User, parse_path};
 use up_peer::Loader;
 use up_sessions::{LineFault, Sessions};
+use up_sign::HostName;
 use up_text::{ClientLine, read_request};
 use up_wire::{Done, Reply};
 
 /// How many hosts a script may have.
 const MOST_HOSTS: u64 = 8;
 
-/// The limits of the trees and keys of its hosts.
-const LIMITS: Limits = Limits {
-    records: 1_048_576,
-    device: 1_073_741_824,
-    largest: 131_072,
-};
-
 /// Does what a line says, and gathers what it prints.
 pub fn run_line<D: Disk + Drop, P: Loader, V: Verifier, C: Clock, N: Nonces>(
     alloc: Global,
+    limits: Limits,
     sessions: &mut Sessions<D>,
     peers: &mut P,
     verifier: &mut V,
@@ -49,8 +45,9 @@ pub fn run_line<D: Disk + Drop, P: Loader, V: Verifier, C: Clock, N: Nonces>(
     line: &[u8],
     out: &mut Vec<u8>,
 ) -> Result<(), LineStop>
+    requires limits { AreHostLimits limits }
     requires fit { IsFit D.Disk sessions.old }
-    ensures { Turned (λ came. LineCame (parties D.Disk P.Loader V.Verifier C.Clock N.Nonces)
+    ensures { Turned (λ came. LineCame (parties D.Disk P.Loader V.Verifier C.Clock N.Nonces) limits
         (world sessions.old peers.old verifier.old clock.old nonces.old) line.now came
         (world sessions.new peers.new verifier.new clock.new nonces.new))
         out.old.items result out.new.items }
@@ -58,12 +55,15 @@ pub fn run_line<D: Disk + Drop, P: Loader, V: Verifier, C: Clock, N: Nonces>(
     let Some(says) = script_line(alloc, line)? else {
         return Err(LineStop::Malformed);
     };
-    do_line(alloc, sessions, peers, verifier, clock, nonces, says, out)
+    do_line(
+        alloc, limits, sessions, peers, verifier, clock, nonces, says, out,
+    )
 }
 
 // Does what was said.
 fn do_line<D: Disk + Drop, P: Loader, V: Verifier, C: Clock, N: Nonces>(
     alloc: Global,
+    limits: Limits,
     sessions: &mut Sessions<D>,
     peers: &mut P,
     verifier: &mut V,
@@ -72,16 +72,17 @@ fn do_line<D: Disk + Drop, P: Loader, V: Verifier, C: Clock, N: Nonces>(
     says: ScriptLine,
     out: &mut Vec<u8>,
 ) -> Result<(), LineStop>
+    requires limits { AreHostLimits limits }
     requires fit { IsFit D.Disk sessions.old }
     requires good { IsGood says }
-    ensures { Turned (λ came. SaysCame (parties D.Disk P.Loader V.Verifier C.Clock N.Nonces)
+    ensures { Turned (λ came. SaysCame (parties D.Disk P.Loader V.Verifier C.Clock N.Nonces) limits
         (world sessions.old peers.old verifier.old clock.old nonces.old) says came
         (world sessions.new peers.new verifier.new clock.new nonces.new))
         out.old.items result out.new.items }
 {
     match says {
         ScriptLine::Silent => Ok(()),
-        ScriptLine::Host(host) => open_host(alloc, sessions, host, out),
+        ScriptLine::Host(host) => open_host(alloc, limits, sessions, host, out),
         ScriptLine::Enrol(user) => enrol(alloc, sessions, user, out),
         ScriptLine::Open(session) => sign_on(alloc, sessions, verifier, nonces, &session, out),
         ScriptLine::Request(number, words) => {
@@ -96,13 +97,15 @@ fn do_line<D: Disk + Drop, P: Loader, V: Verifier, C: Clock, N: Nonces>(
 // `host NAME OPERATOR TREES`
 fn open_host<D: Disk + Drop>(
     alloc: Global,
+    limits: Limits,
     sessions: &mut Sessions<D>,
     host: NewHost,
     out: &mut Vec<u8>,
 ) -> Result<(), LineStop>
+    requires limits { AreHostLimits limits }
     requires fit { IsFit D.Disk sessions.old }
     requires owners { are_owners host.owners ≡ true }
-    ensures { Turned (λ came. HostCame D.Disk host sessions.old came sessions.new)
+    ensures { Turned (λ came. HostCame D.Disk limits host sessions.old came sessions.new)
         out.old.items result out.new.items }
 {
     if !is_new(sessions, &host) {
@@ -113,7 +116,7 @@ fn open_host<D: Disk + Drop>(
         operator,
         owners,
     } = host;
-    let opened = sessions.open_host(alloc, name.as_str(), operator, owners, LIMITS);
+    let opened = sessions.open_host(alloc, name.as_str(), operator, owners, limits);
     say_opened(out, &name, opened)
 }
 

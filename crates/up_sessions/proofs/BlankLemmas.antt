@@ -20,7 +20,8 @@ use Rattle.up_journal.specs.declared.limits.Limits.{Limits}
 use Rattle.up_keys.specs.Records as keys
 use Rattle.up_names.specs.Texts.{UserName}
 use Rattle.up_replay.specs.Fits.{fits}
-use Rattle.up_sessions.specs.Opening.{IsBlank, is_damage}
+use Rattle.up_disk.specs.Leaving.{IsBlank}
+use Rattle.up_sessions.specs.Opening.{is_damage}
 use Rattle.up_tree.specs.States as tree
 
 -- an empty image has the empty log

@@ -6,7 +6,7 @@ use Rattle.std.specs.Prelude.{slice_get}
 use Rattle.std.specs.Prelude as std
 use Rattle.up_client.specs.declared.fault.ClientFault.{ClientFault}
 use Rattle.up_disk.specs.declared.disk.Disk.{Ghosts}
-use Rattle.up_faults.specs.Counts.{HasCause, Rose}
+use Rattle.up_lists.specs.Counts.{HasCause, Rose}
 use Rattle.up_host.specs.Alone.{HostState, disk_faults, io_of}
 use Rattle.up_host.specs.Opens.{IsRefusedAs, OpensHost, OpensTrees, RefusesHost, WasOpenedAs, WereOpened}
 use Rattle.up_host.specs.Routes.{LogName, Question}

@@ -17,7 +17,7 @@ use Rattle.up_sessions.proofs.KeptLemmas.{as_many, trees_opened}
 use Rattle.up_sessions.specs.Fitting.{HasFew, IsFit}
 use Rattle.up_sessions.specs.Keeping.{AllStayIn, Place, all_places, place_of, place_of_tree, places_of}
 use Rattle.up_sessions.specs.Lines.{EnrolLine, GetLine, HostLine, OpenLine, PutLine, RequestLine}
-use Rattle.up_sessions.specs.Opening.{IsBlank}
+use Rattle.up_disk.specs.Leaving.{IsBlank}
 use Rattle.up_sessions.specs.Signing.{Signed, signed_on}
 use Rattle.up_sessions.specs.Worlds.{AtHost, Hosts, Parties, World, no_session}
 use Rattle.up_sessions.specs.declared.fault.LineFault.{LineFault}

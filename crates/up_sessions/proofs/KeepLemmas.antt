@@ -8,8 +8,8 @@ use Rattle.std.specs.Prelude as std
 use Rattle.up_blocks.specs.Records as blocks
 use Rattle.up_client.specs.declared.fault.ClientFault.{ClientFault}
 use Rattle.up_disk.specs.declared.disk.Disk.{Ghosts}
-use Rattle.up_faults.proofs.Causes.{Rose-after, Rose-before}
-use Rattle.up_faults.specs.Counts.{Rose}
+use Rattle.up_lists.proofs.Causes.{Rose-after, Rose-before}
+use Rattle.up_lists.specs.Counts.{Rose}
 use Rattle.up_host.specs.Alone.{HostState}
 use Rattle.up_host.specs.Opens.{IsLogOn, IsRefusedAs, OpensHost, OpensTrees, Reader, RefusesHost, WereOpened}
 use Rattle.up_host.specs.Routes.{LogName}

@@ -20,7 +20,8 @@ use Rattle.up_names.specs.Texts.{UserName}
 use Rattle.up_sessions.proofs.BlankLemmas.{all_first, refused_blank}
 use Rattle.up_sessions.proofs.KeptLemmas.{kept_more, trees_opened}
 use Rattle.up_sessions.specs.Kept.{IsKept}
-use Rattle.up_sessions.specs.Opening.{AddsHost, EnrolsAt, IsBlank, RefusesNext, is_damage, plain_card, why_refused}
+use Rattle.up_disk.specs.Leaving.{IsBlank}
+use Rattle.up_sessions.specs.Opening.{AddsHost, EnrolsAt, RefusesNext, is_damage, plain_card, why_refused}
 use Rattle.up_sessions.specs.Taking.{HandsBack, TakesHost}
 use Rattle.up_sessions.specs.Worlds.{Hosts}
 use Rattle.up_sessions.specs.declared.fault.LineFault.{LineFault}

@@ -11,8 +11,8 @@ use Rattle.up_entry.specs.declared.fault.EntryFault.{EntryFault}
 use Rattle.up_entry.specs.declared.fault.EntryFault.TheVariants as fault
 use Rattle.up_entry.specs.declared.records.Rec.{Rec}
 use Rattle.up_entry.specs.declared.what.What.TheVariants as what
-use Rattle.up_faults.proofs.Causes.{HasCause-same}
-use Rattle.up_faults.specs.Counts.{HasCause}
+use Rattle.up_lists.proofs.Causes.{HasCause-same}
+use Rattle.up_lists.specs.Counts.{HasCause}
 use Rattle.up_group.specs.GroupTexts.{group_of}
 use Rattle.up_host.specs.Alone.{io_of}
 use Rattle.up_host.specs.Loads.{load_of}

@@ -2,7 +2,7 @@
 use Rattle.std.proofs.Common.{◌≡◌, Bool, List, [], ◌∷◌, sym, ap, subst}
 use Rattle.std.specs.List.{flat_map}
 use Rattle.up_answers.specs.Fetching.{is_failed}
-use Rattle.up_faults.specs.Counts.{HasCause}
+use Rattle.up_lists.specs.Counts.{HasCause}
 use Rattle.up_host.specs.Asks.{Asks, Tries}
 use Rattle.up_host.specs.Blocks.{block_answer, block_question}
 use Rattle.up_host.specs.Calls.{Asked, IsAskedFor, IsTried}

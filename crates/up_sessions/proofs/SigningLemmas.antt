@@ -4,8 +4,8 @@ use Rattle.std.specs.Prelude.{slice_get}
 use Rattle.up_ends.specs.Telling.{Gives}
 use Rattle.up_ends.specs.declared.nonces.Nonces as nonces
 use Rattle.up_ends.specs.declared.verifier.Verifier as verifier
-use Rattle.up_faults.proofs.Causes.{HasCause-same}
-use Rattle.up_faults.specs.Counts.{HasCause}
+use Rattle.up_lists.proofs.Causes.{HasCause-same}
+use Rattle.up_lists.specs.Counts.{HasCause}
 use Rattle.up_host.specs.Alone.{HostState}
 use Rattle.up_keys.specs.Records.{record_in}
 use Rattle.up_names.specs.Texts.{UserName}

@@ -2,8 +2,8 @@
 use Rattle.std.proofs.Common.{◌≡◌, ◌⊎◌, ℕ, zero, suc, List, [], ◌∷◌, length, Some, inl, inr, refl, sym, ap, subst, ◌∙◌, arith}
 use Rattle.std.specs.Prelude.{slice_get}
 use Rattle.up_disk.specs.declared.disk.Disk.{Ghosts}
-use Rattle.up_faults.proofs.Causes.{Rose-after, Rose-before}
-use Rattle.up_faults.specs.Counts.{Rose}
+use Rattle.up_lists.proofs.Causes.{Rose-after, Rose-before}
+use Rattle.up_lists.specs.Counts.{Rose}
 use Rattle.up_host.specs.Alone.{HostState}
 use Rattle.up_host.specs.Settled.{KeepsSettled, StaysSettled, owner_of}
 use Rattle.up_host.specs.declared.held.Held.{Held}

@@ -4,7 +4,7 @@ use Rattle.std.specs.List.{AllByRecursion}
 use Rattle.up_disk.specs.declared.disk.Disk.{Ghosts}
 use Rattle.up_host.specs.Alone.{HostState}
 use Rattle.up_sessions.specs.Keeping.{all_places}
-use Rattle.up_sessions.specs.Opening.{IsBlank}
+use Rattle.up_disk.specs.Leaving.{IsBlank}
 use Rattle.up_sessions.specs.Worlds.{Hosts}
 
 -- a host has at most eight trees

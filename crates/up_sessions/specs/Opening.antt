@@ -5,7 +5,7 @@ use Rattle.up_host.specs.Alone.{Enrols, HostState}
 use Rattle.up_host.specs.Opens.{OpensHost, RefusesHost}
 use Rattle.up_host.specs.Settled.{StaysSettled}
 use Rattle.up_host.specs.declared.fault.HostFault.{HostFault}
-use Rattle.up_journal.specs.Crashes.{LeavesNow}
+use Rattle.up_disk.specs.Leaving.{LeavesNow}
 use Rattle.up_journal.specs.declared.fault.AppendWhy.{AppendWhy}
 use Rattle.up_journal.specs.declared.fault.OpenWhy.{OpenWhy}
 use Rattle.up_journal.specs.declared.fault.OpenWhy.TheVariants as reason
@@ -15,11 +15,6 @@ use Rattle.up_sessions.specs.Worlds.{AtHost, Hosts}
 use Rattle.up_sessions.specs.declared.fault.LineFault.{LineFault}
 use Rattle.up_sessions.specs.declared.fault.LineFault.TheVariants as fault
 use Rattle.up_wire.specs.declared.keys.KeyRecord.{KeyRecord}
-
--- an empty disk that tells its content, with nothing pending
-pub record IsBlank {D : Type 0} (disks : Ghosts D) (disk : D) : Type 0 where
-  pub empty : disks.content disk ≡ Some []
-  pub synced : LeavesNow disks disk (λ image. image ≡ [])
 
 -- the first disks were taken for a host, in order, and it stands behind the others
 pub record AddsHost {D : Type 0} (disks : Ghosts D) (limits : Limits) (name : List ℕ) (operator : UserName) (owners : List UserName) (a b : Hosts D) : Type 0 where

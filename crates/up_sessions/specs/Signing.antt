@@ -4,7 +4,7 @@ use Rattle.up_ends.specs.Telling.{Gives, Grew}
 use Rattle.up_ends.specs.declared.nonces.Nonces as nonces
 use Rattle.up_ends.specs.declared.verifier.Verdict.TheVariants.{Yes, No}
 use Rattle.up_ends.specs.declared.verifier.Verifier as verifier
-use Rattle.up_faults.specs.Counts.{HasCause}
+use Rattle.up_lists.specs.Counts.{HasCause}
 use Rattle.up_host.specs.Alone.{HostState}
 use Rattle.up_keys.specs.Records.{record_in}
 use Rattle.up_names.specs.Texts.{UserName}

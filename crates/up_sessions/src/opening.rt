@@ -5,7 +5,8 @@ ghost use Rattle.std.specs.Str.{bytes_eq};
 ghost use Rattle.up_journal.specs.Journal.{AreLimits};
 ghost use Rattle.up_keys.specs.Records.{has_bounds, largest_room};
 ghost use Rattle.up_policy.specs.Trees.{owns_snapshots};
-ghost use Rattle.up_sessions.specs.Opening.{EnrolsAt, IsBlank, OpensNext, is_damage, plain_card, why_refused};
+ghost use Rattle.up_disk.specs.Leaving.{IsBlank};
+ghost use Rattle.up_sessions.specs.Opening.{EnrolsAt, OpensNext, is_damage, plain_card, why_refused};
 ghost use Rattle.up_sessions.specs.Taking.{HandsBack, TakesHost};
 
 use crate::fault::LineFault;

@@ -1,6 +1,6 @@
 //! A user signs on.
 ghost use Rattle.std.specs.Prelude.{◌≡◌, ◌<◌, Err, None, Ok, is_some, length, slice_set};
-ghost use Rattle.up_faults.specs.Counts.{HasCause};
+ghost use Rattle.up_lists.specs.Counts.{HasCause};
 ghost use Rattle.up_keys.specs.Records.{record_in};
 ghost use Rattle.up_sessions.specs.Signing.{Challenges, IsJudged, JudgesBy, SignsOn, signed_on};
 ghost use Rattle.up_sessions.specs.declared.fault.LineFault.TheVariants as fault;

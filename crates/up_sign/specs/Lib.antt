@@ -1,1 +1,3 @@
+pub mod HostNames
 pub mod SigningOn
+pub mod OneReading

@@ -1,6 +1,6 @@
 //! A sign-on: a challenge that a user has to sign.
 ghost use Rattle.std.specs.Prelude.{◌≡◌, IfOk, Err};
-ghost use Rattle.up_faults.specs.Counts.{HasCause};
+ghost use Rattle.up_lists.specs.Counts.{HasCause, StaysUnless};
 ghost use Rattle.up_sign.specs.SigningOn.{JudgedAs, message_of};
 
 use crate::fault::SignFault;
@@ -49,12 +49,8 @@ impl SignOn {
     {
         let user = card.user.clone()?;
         let key = copy_of(alloc, card.key.as_slice())?;
-        let message = message(alloc, host, user.text(), challenge)?;
-        Ok(SignOn {
-            user,
-            key,
-            message: Bytes::from_vec(message),
-        })
+        let message = message(alloc, host, &user, challenge)?;
+        Ok(SignOn { user, key, message })
     }
 
     /// The message to be signed: `upspin 1 `, the host's name, a space, the user, a space, and the 64 upper-case hexadecimal
@@ -78,6 +74,8 @@ impl SignOn {
             (V.judged verifier.old) (V.judged verifier.new) result }
         ensures counts { HasCause (V.faults verifier.old) (V.faults verifier.new)
             (result ≡ Err SignFault.Fault) }
+        ensures quiet { StaysUnless (V.faults verifier.old) (V.faults verifier.new)
+            (result ≡ Err SignFault.Fault) }
     {
         let SignOn { user, key, message } = self;
         match verifier.verdict(key.as_slice(), message.as_slice(), signature) {
@@ -88,22 +86,23 @@ impl SignOn {
     }
 }
 
-// The message that a user signs.
-fn message(
+/// The message that a user signs, to sign on at the host with this name by this challenge. Whoever dials a host takes the name from
+/// its own user, never from the host: one that told the name of another host would have that host's challenge signed.
+pub fn message(
     alloc: Global,
     host: &str,
-    user: &str,
+    user: &User,
     challenge: [u8; 32],
-) -> Result<Vec<u8>, AllocError>
-    ensures { IfOk result (λ message. message.items ≡ message_of host.now user.now challenge) }
+) -> Result<Bytes, AllocError>
+    ensures { IfOk result (λ message. message ≡ message_of host.now user.now challenge) }
 {
     let digits = Reference::from_bytes(challenge).text(alloc)?;
     let mut message = Vec::new(alloc);
     message.extend_from_slice(b"upspin 1 ")?;
     message.extend_from_slice(host.as_bytes())?;
     message.push(b' ')?;
-    message.extend_from_slice(user.as_bytes())?;
+    message.extend_from_slice(user.text().as_bytes())?;
     message.push(b' ')?;
     message.extend_from_slice(digits.as_bytes())?;
-    Ok(message)
+    Ok(Bytes::from_vec(message))
 }

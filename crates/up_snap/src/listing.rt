@@ -25,9 +25,9 @@ use crate::standing::{earlier, first_to, item_by, moved_to};
 use crate::written::may_bear;
 use std::alloc::{AllocError, Global};
 use up_entry::Entry;
-use up_list::Found;
+use up_list::{Found, path_made};
 use up_maps::OrderedMap;
-use up_names::{NameFault, Path, User};
+use up_names::{Path, User};
 use up_nodes::MemTree;
 
 /// The items in a directory of the snapshot tree, in order of paths.
@@ -117,6 +117,7 @@ fn kept_item<'a>(
     old: &Path,
     n: u64,
 ) -> Result<Option<Found<'a>>, AllocError>
+    requires { 0 < length old.now.elements }
     ensures { IfOk result (λ found. option_map entry_found found
         ≡ kept_entry tree.now.log dir.now n old.now) }
 {
@@ -130,15 +131,25 @@ fn kept_item<'a>(
 ///
 /// The last element of a path is a name; so this one can only be too long.
 fn kept_entry(tree: &MemTree, dir: &Path, old: &Path, n: u64) -> Result<Option<Entry>, AllocError>
+    requires { 0 < length old.now.elements }
     ensures { IfOk result (λ entry. entry ≡ kept_entry tree.now.log dir.now n old.now) }
 {
     let Some(node) = node_then(tree, old, n)? else {
         return Ok(None);
     };
-    match dir.join(last_element(old)) {
-        Ok(path) => Ok(Some(moved_to(node.entry, path)?)),
-        Err(NameFault::TooLong(_)) => Ok(None),
-        Err(_) => Err(AllocError),
+    let path = path_made(dir.join(last_element(old)))?;
+    moved_if(node.entry, path)
+}
+
+/// A copy of an entry under this name, if there is one. Without one no memory is wanting.
+fn moved_if(entry: &Entry, name: Option<Path>) -> Result<Option<Entry>, AllocError>
+    ensures moved { IfOk result
+        (λ copy. copy ≡ option_map (λ name. record entry.now { name = name }) name) }
+    ensures none { name ≡ None → result ≡ Ok None }
+{
+    match name {
+        Some(name) => Ok(Some(moved_to(entry, name)?)),
+        None => Ok(None),
     }
 }
 

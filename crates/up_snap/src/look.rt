@@ -17,8 +17,8 @@ use std::alloc::{AllocError, Global};
 use std::marker::Model;
 use up_bytes::Bytes;
 use up_entry::Entry;
-use up_list::{Found, Onlooker};
-use up_names::{NameFault, Path, User};
+use up_list::{Found, Onlooker, path_made};
+use up_names::{Path, User};
 use up_nodes::MemTree;
 use up_rights::{Right, RightSet};
 
@@ -229,10 +229,9 @@ fn item_named<'a>(
         ≡ entry_at (snapshots_to tree.now.owner tree.now.log (length tree.now.log))
         (extended dir.now name.now)) }
 {
-    match dir.join(name) {
-        Ok(path) => item_at(alloc, tree, shower, &path),
-        Err(NameFault::OutOfMemory) => Err(AllocError),
-        Err(_) => item_among(alloc, tree, shower, dir, name),
+    match path_made(dir.join(name))? {
+        Some(path) => item_at(alloc, tree, shower, &path),
+        None => item_among(alloc, tree, shower, dir, name),
     }
 }
 

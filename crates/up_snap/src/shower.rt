@@ -5,41 +5,41 @@ ghost use Rattle.up_names.specs.UserNames.{name_part, suffix_of};
 ghost use Rattle.up_replay.specs.Fits.{root_of, snapshot_user};
 
 use crate::moments::root_at;
-use std::alloc::AllocError;
+use std::alloc::{AllocError, Global};
 use up_names::{Path, User, parse_user};
 
 /// The path at which the snapshot of a moment, in seconds since 1970, shows the root of a user's tree. The user has no suffix, and a
 /// name to which `+snapshot` can be added.
 #[tactic(auto, using(crate::proofs::ShowerLemmas::root_moved))]
-pub fn snap_path(owner: &User, time: u64) -> Result<Path, AllocError>
+pub fn snap_path(alloc: Global, owner: &User, time: u64) -> Result<Path, AllocError>
     requires plain { suffix_of owner.now ≡ None }
     requires short { length (snapshot_user owner.now) ≤ 254 }
     requires moment { time < 253402207200 }
     ensures { IfOk result (λ path. path ≡ moved time (root_of owner.now)) }
 {
-    let shower = snapshot_user(owner)?;
-    root_at(owner.allocator(), &shower, time)
+    let shower = snapshot_user(alloc, owner)?;
+    root_at(alloc, &shower, time)
 }
 
 /// The user whose tree shows the snapshots of a user's tree.
 #[tactic(auto, using(crate::proofs::ShowerLemmas::shower_named))]
-fn snapshot_user(owner: &User) -> Result<User, AllocError>
+fn snapshot_user(alloc: Global, owner: &User) -> Result<User, AllocError>
     requires plain { suffix_of owner.now ≡ None }
     requires short { length (snapshot_user owner.now) ≤ 254 }
     ensures { IfOk result (λ user. user ≡ snapshot_user owner.now) }
 {
-    let text = shower_text(owner)?;
-    match parse_user(owner.allocator(), text.as_slice()) {
+    let text = shower_text(alloc, owner)?;
+    match parse_user(alloc, text.as_slice()) {
         Ok(user) => Ok(user),
         Err(_) => Err(AllocError),
     }
 }
 
 /// Its name.
-fn shower_text(owner: &User) -> Result<Vec<u8>, AllocError>
+fn shower_text(alloc: Global, owner: &User) -> Result<Vec<u8>, AllocError>
     ensures { IfOk result (λ text. text.items ≡ snapshot_user owner.now) }
 {
-    let mut text = Vec::new(owner.allocator());
+    let mut text = Vec::new(alloc);
     text.extend_from_slice(name_part(owner).as_bytes())?;
     text.extend_from_slice(b"+snapshot")?;
     text.push(b'@')?;

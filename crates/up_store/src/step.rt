@@ -4,7 +4,7 @@ ghost use Rattle.std.specs.Str.{bytes_eq};
 ghost use Rattle.up_blocks.specs.Blocks.{limits_of, log_of};
 ghost use Rattle.up_blocks.specs.Records.{largest_block};
 ghost use Rattle.up_ends.specs.Growing.{OnlyGrows};
-ghost use Rattle.up_faults.specs.Counts.{HasCause};
+ghost use Rattle.up_lists.specs.Counts.{HasCause};
 ghost use Rattle.up_store.specs.Answers.{DeletesAsked, GetsAsked, IsAsked, PutsAsked, StoreSteps, deleted_reply, given_reply, put_reply, refused_reply};
 
 use up_blocks::{BlockWhy, Blocks, MAX_BLOCK};

@@ -13,9 +13,9 @@ use Rattle.up_entry.specs.declared.records.Rec.{Rec}
 use Rattle.up_entry.specs.declared.records.Rec.TheVariants.{Put, Delete, Snap}
 use Rattle.up_entry.proofs.FixedFormLemmas.{form_spelled}
 use Rattle.up_ends.specs.Growing.{OnlyGrows}
-use Rattle.up_faults.specs.Counts.{HasCause}
-use Rattle.up_faults.proofs.Causes.{HasCause-same, HasCause-weaker}
-use Rattle.up_journal.specs.Crashes.{Leaves}
+use Rattle.up_lists.specs.Counts.{HasCause}
+use Rattle.up_lists.proofs.Causes.{HasCause-same, HasCause-weaker}
+use Rattle.up_disk.specs.Leaving.{Leaves}
 use Rattle.up_journal.specs.Journal as journal
 use Rattle.up_journal.specs.Journal.{IsSettled, MayHave, StandsFor, is_full, with_further}
 use Rattle.up_journal.specs.Logs.{KeepsLog}

@@ -1,11 +1,14 @@
 -- What contracts see of a tree over its log, and what its calls make of it. This project's own.
-use Rattle.std.specs.Prelude.{◌≡◌, ◌≢◌, ℕ, Bool, true, List, length, Option, Result, Ok, Err, IfErr, IsErrOf}
+use Rattle.std.specs.declared.alloc.AllocError.{AllocError}
+use Rattle.std.specs.Prelude.{◌≡◌, ◌≢◌, ℕ, Bool, true, List, length, Option, Some, None, Result, Ok, Err, IfErr, IsErrOf, alloc_error}
 use Rattle.std.specs.Result.{result_ok}
+use Rattle.up_bytes.specs.declared.fault.FieldFault.{FieldFault}
+use Rattle.up_bytes.specs.declared.fault.FieldFault.TheVariants.{Short, Spelling, OutOfMemory}
 use Rattle.up_disk.specs.declared.disk.Disk.{Ghosts}
 use Rattle.up_entry.specs.Reading.{rec_of}
 use Rattle.up_entry.specs.Spelling as spelling
 use Rattle.up_entry.specs.declared.records.Rec.{Rec}
-use Rattle.up_faults.specs.Counts.{HasCause}
+use Rattle.up_lists.specs.Counts.{HasCause}
 use Rattle.up_journal.specs.Damages.{Damage}
 use Rattle.up_journal.specs.Journal as journal
 use Rattle.up_journal.specs.Journal.{is_full}
@@ -14,7 +17,9 @@ use Rattle.up_journal.specs.declared.fault.AppendWhy.{AppendWhy}
 use Rattle.up_journal.specs.declared.fault.AppendWhy.TheVariants as why
 use Rattle.up_journal.specs.declared.fault.OpenFault.{OpenFault}
 use Rattle.up_journal.specs.declared.limits.Limits.{Limits}
+use Rattle.up_journal.specs.declared.fault.OpenWhy.{OpenWhy}
 use Rattle.up_names.specs.Texts.{UserName}
+use Rattle.up_nodes.specs.MemTrees.{TreeLog}
 use Rattle.up_replay.specs.Fits.{fits}
 use Rattle.up_replay.specs.Logs.{Log}
 use Rattle.up_replay.specs.Sizes.{size_of, sizes_of}
@@ -22,6 +27,13 @@ use Rattle.up_replay.specs.Sizes.{size_of, sizes_of}
 -- the record that a payload spells
 abbrev pub record_in : List ℕ → Option Rec
 record_in payload = result_ok (rec_of payload)
+
+-- the record that was read, or none where the bytes are none's; memory is wanting only where it was for the reading
+abbrev pub told : Result Rec FieldFault → Result (Option Rec) AllocError
+told (Ok rec) = Ok (Some rec)
+told (Err OutOfMemory) = Err alloc_error
+told (Err Short) = Ok None
+told (Err (Spelling place)) = Ok None
 
 -- The records of an image, each of which fits those before it; or its damage; or, where all gates are good, damage at the gate of
 -- the first record that does not decode or does not fit.
@@ -91,6 +103,11 @@ state_of owner journal log = record {
   doubtful = journal.doubtful;
   further = further_record record_in journal.further;
 }
+
+-- what comes of a journal's records that were read as a tree, or were not for a reason: the state, or the disk, handed back for that
+abbrev pub read_by : {D : Type 0} → journal.State D → Result TreeLog OpenWhy → Result (State D) (OpenFault D)
+read_by journal (Ok tree) = Ok (state_of tree.owner journal tree.log)
+read_by journal (Err why) = Err (record { disk = journal.disk; why = why })
 
 -- the journal has the records of the tree, and these limits
 pub record IsKept {D : Type 0} (disks : Ghosts D) (owner : UserName) (journal : journal.State D) (log : List Rec) (limits : Limits) : Type 0 where

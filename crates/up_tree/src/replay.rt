@@ -1,14 +1,14 @@
 //! The tree of a journal's records.
 ghost use Rattle.std.specs.Prelude.{◌≡◌, ◌++◌, ◌∷◌, [], ℕ, List, Ok, Some, None, true, false, length, IfErr, IfOk, IfSome, IsErrOf, OnOk};
 ghost use Rattle.up_entry.specs.Spelling as spelling;
-ghost use Rattle.up_faults.specs.Counts.{HasCause};
+ghost use Rattle.up_lists.specs.Counts.{HasCause};
 ghost use Rattle.up_journal.specs.Logs.{log_step};
 ghost use Rattle.up_journal.specs.Opened.{IsDamageOf};
 ghost use Rattle.up_journal.specs.Records.{OnlyPayloads, replay};
 ghost use Rattle.up_policy.specs.Trees.{owns_snapshots};
 ghost use Rattle.up_replay.specs.Fits.{Fits, fits};
 ghost use Rattle.up_replay.specs.Sizes.{sizes_of};
-ghost use Rattle.up_tree.specs.States.{record_in};
+ghost use Rattle.up_tree.specs.States.{record_in, told};
 
 use std::alloc::{AllocError, Global};
 use up_bytes::FieldFault;
@@ -23,7 +23,14 @@ fn spelled(alloc: Global, payload: &[u8]) -> Result<Option<Rec>, AllocError>
     ensures record { IfOk result (λ found. found ≡ record_in payload.now) }
     ensures spelled { IfOk result (λ found. IfSome found (λ rec. payload.now ≡ spelling.rec rec)) }
 {
-    match read_rec(alloc, payload) {
+    told(read_rec(alloc, payload))
+}
+
+/// The record that was read, or `None` where the bytes are none's. Memory is wanting only where it was for the reading.
+fn told(read: Result<Rec, FieldFault>) -> Result<Option<Rec>, AllocError>
+    ensures { result ≡ told read }
+{
+    match read {
         Ok(rec) => Ok(Some(rec)),
         Err(FieldFault::OutOfMemory) => Err(AllocError),
         Err(FieldFault::Short | FieldFault::Spelling(_)) => Ok(None),

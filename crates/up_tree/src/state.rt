@@ -1,12 +1,13 @@
 //! A tree over its log.
-ghost use Rattle.std.specs.Prelude.{◌≡◌, ◌≤◌, false, length, option_map, slice_get, IfErr, IfOk, IsErr, IsOk, Ok, OnOk, Some};
+ghost use Rattle.std.specs.Prelude.{◌≡◌, ◌≤◌, false, length, option_map, slice_get, is_some, IfErr, IfOk, IsErr, IsOk, IsSome, Ok, OnOk, Some};
 ghost use Rattle.std.specs.Option.{option_copied};
 ghost use Rattle.up_ends.specs.Growing.{OnlyGrows};
 ghost use Rattle.up_entry.specs.Reading.{rec_of};
 ghost use Rattle.up_entry.specs.Spelling as spelling;
 ghost use Rattle.up_entry.specs.Spelling.{IsSpelledRec};
-ghost use Rattle.up_faults.specs.Counts.{HasCause};
-ghost use Rattle.up_journal.specs.Crashes.{IsOpened, LeavesNow};
+ghost use Rattle.up_lists.specs.Counts.{HasCause};
+ghost use Rattle.up_disk.specs.Leaving.{LeavesNow};
+ghost use Rattle.up_journal.specs.Crashes.{IsOpened};
 ghost use Rattle.up_journal.specs.Journal.{AreLimits};
 ghost use Rattle.up_journal.specs.Logs.{RefusesLog, StandsForLog};
 ghost use Rattle.up_journal.specs.Opened.{IsRefusedFor};
@@ -21,7 +22,7 @@ ghost use Rattle.up_replay.specs.Logs.{bytes_of};
 ghost use Rattle.up_replay.specs.Rights.{facts_of, governing_prefix};
 ghost use Rattle.up_replay.specs.Sizes.{size_of};
 ghost use Rattle.up_replay.specs.Trees.{children, node_at, tree_at, tree_of};
-ghost use Rattle.up_tree.specs.States.{Applies, Opens, Resolves, disk_after, entries_of, fixed_of, records_in};
+ghost use Rattle.up_tree.specs.States.{Applies, IsKept, Opens, Resolves, disk_after, entries_of, fixed_of, read_by, records_in};
 
 use crate::old::{Old, old_tree};
 use crate::replay::replay;
@@ -86,7 +87,8 @@ impl<D: Disk> TreeState<D> {
         requires plain { owns_snapshots owner ≡ false }
         ensures opens { IfOk result (Opens D.Disk owner limits disk) }
         ensures refuses { IfErr result (RefusesLog D.Disk (records_in owner) limits disk) }
-        ensures opened { IsOpened D.Disk limits.largest disk (disk_after result) }
+        ensures opened { IsOpened D.Disk limits.largest disk (disk_after result)
+            (IsRefusedFor result OpenWhy.Fault) }
         ensures counts { HasCause (D.faults disk) (D.faults (disk_after result))
             (IsRefusedFor result OpenWhy.Fault) }
     {
@@ -94,17 +96,8 @@ impl<D: Disk> TreeState<D> {
             Ok(journal) => journal,
             Err(fault) => return Err(fault),
         };
-        match replay(alloc, owner, &mut journal) {
-            Ok(tree) => Ok(TreeState {
-                journal,
-                limits,
-                tree,
-            }),
-            Err(why) => Err(OpenFault {
-                disk: journal.into_disk(),
-                why,
-            }),
-        }
+        let replayed = replay(alloc, owner, &mut journal);
+        read_by(journal, limits, replayed)
     }
 
     /// The owner.
@@ -119,6 +112,8 @@ impl<D: Disk> TreeState<D> {
         ensures count { result ≡ length self.now.log }
         ensures log { IsLog self.now.owner self.now.log }
         ensures limits { AreLimits self.now.limits }
+        ensures doubtful { IsSome (D.content self.now.disk)
+            → is_some self.now.further ≡ self.now.doubtful }
         ensures safe { LeavesNow D.Disk self.now.disk
             (StandsForLog (records_in self.now.owner self.now.limits.largest)
             self.now.log self.now.further) }
@@ -139,6 +134,13 @@ impl<D: Disk> TreeState<D> {
         ensures { result ≡ self.now.limits.largest }
     {
         self.limits.largest
+    }
+
+    /// The limits.
+    pub fn limits(&self) -> Limits
+        ensures { result ≡ self.now.limits }
+    {
+        self.limits
     }
 
     /// The tree in memory: what answers from a tree alone is proved over it.
@@ -310,6 +312,28 @@ impl<D: Disk> TreeState<D> {
         } = self;
         drop(tree);
         journal.into_disk()
+    }
+}
+
+// The tree, once its records are read; or the disk, handed back for the reason for which they were not.
+fn read_by<D: Disk>(
+    journal: Journal<D>,
+    limits: Limits,
+    replayed: Result<MemTree, OpenWhy>,
+) -> Result<TreeState<D>, OpenFault<D>>
+    requires { IfOk replayed (λ tree. IsKept D.Disk tree.owner journal tree.log limits) }
+    ensures { result ≡ read_by journal replayed }
+{
+    match replayed {
+        Ok(tree) => Ok(TreeState {
+            journal,
+            limits,
+            tree,
+        }),
+        Err(why) => Err(OpenFault {
+            disk: journal.into_disk(),
+            why,
+        }),
     }
 }
 

@@ -6,12 +6,12 @@ ghost use Rattle.up_bytes.specs.Sizes.{size_of};
 ghost use Rattle.up_bytes.specs.Spelling.{byte};
 ghost use Rattle.up_wire.specs.declared.messages.ClientFrame.TheVariants.{Ask};
 ghost use Rattle.up_wire.specs.Reading.{request_table, watch_at};
-ghost use Rattle.up_wire.specs.Spelling.{request_fields, request_tag, IsRequest};
+ghost use Rattle.up_wire.specs.Spelling.{client, request_fields, request_tag, IsRequest};
 
 use crate::keys::KeyCard;
 use crate::requests::Request;
 use std::alloc::{AllocError, Global};
-use up_bytes::{FieldFault, Fields, Reader, Writer, int_len, text_len};
+use up_bytes::{Bytes, FieldFault, Fields, Reader, Writer, int_len, text_len};
 use up_entry::PutEntry;
 
 /// Takes the fields of the request that has this tag, which stands at this place. A refused call leaves the place anywhere.
@@ -49,6 +49,16 @@ fn take_watch(alloc: Global, input: &mut Reader) -> Result<Request, FieldFault>
     let path = input.text(alloc)?;
     let sequence = input.int()?;
     Ok(Request::Watch(path, sequence))
+}
+
+/// The bytes of a request as a client's message: those that [`write_client`](crate::write_client) gives of it, without a message that
+/// owns it.
+pub fn write_request(alloc: Global, asked: &Request) -> Result<Bytes, AllocError>
+    ensures { IfOk result (λ bytes. bytes ≡ client (Ask asked.now)) }
+{
+    let mut out = Writer::new(alloc);
+    append_request(asked, &mut out)?;
+    Ok(out.finish())
 }
 
 /// Appends the tag and the fields of a request. A call that finds no memory may leave a part of them.

@@ -7,10 +7,10 @@ use std::hash::RandomState;
 use std::process::ExitCode;
 use std::rt::Env;
 use std::{env, io};
-use up_blank::blank_disks;
+use up_disk::blank_disks;
 use up_ends::{StdSink, StdSource};
 use up_helper::{sign_run, verify_run};
-use up_net::{HelperVerifier, HostClock, SeedNonces};
+use up_net::{HelperVerifier, HostClock, Machine, SeedNonces};
 use up_peer::Peers;
 use up_script::{can_run, script_run};
 
@@ -67,7 +67,7 @@ fn can_status(rt: &HostRuntime, random: RandomState, words: &[String]) -> u8 {
 
 /// Runs `upspin script`, and answers its status. The words of no command get the usage line from it.
 fn script_status(rt: &HostRuntime, random: RandomState, words: &[String]) -> u8 {
-    let Ok(nonces) = SeedNonces::from_random(rt) else {
+    let Ok(nonces) = SeedNonces::from_random(&mut Machine::new(rt.alloc(), rt)) else {
         return READ_FAULT;
     };
     match helper_path(rt.alloc(), words) {
@@ -95,7 +95,7 @@ fn script_with(
     let Ok(mut disks) = blank_disks(rt.alloc(), &[]) else {
         return OUT_OF_MEMORY;
     };
-    let mut verifier = HelperVerifier::new(rt.alloc(), rt, helper);
+    let mut verifier = HelperVerifier::new(rt.alloc(), Machine::new(rt.alloc(), rt), helper);
     script_run(
         rt.alloc(),
         random,
@@ -104,7 +104,7 @@ fn script_with(
         &mut StdSink::new(rt.stdout()),
         &mut disks,
         &mut verifier,
-        &mut HostClock::new(rt),
+        &mut HostClock::new(Machine::new(rt.alloc(), rt)),
         &mut nonces,
         &mut Peers::new(rt.alloc()),
     )

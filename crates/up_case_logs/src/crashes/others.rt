@@ -29,9 +29,12 @@ struct Count {
 }
 
 impl Hook for Count {
-    ghost called = { λ count. count.times };
+    ghost use Rattle.std.specs.Prelude.{◌≡◌};
+    ghost use Rattle.up_lists.specs.Counts.{count_after};
 
-    fn before_sync(&mut self) {
+    ghost handed = { λ old disk new. new.times ≡ count_after old.times 1 };
+
+    fn before_sync(&mut self, _disk: &MemDisk) {
         self.times = self.times.saturating_add(1);
     }
 }

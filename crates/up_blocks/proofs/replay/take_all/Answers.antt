@@ -2,7 +2,7 @@ use Rattle.std.proofs.Common.{◌≡◌, None, Ok, true, IsErrOf, ℕ, List, [],
 use Rattle.up_blocks.specs.Kept.{IsTaken, record_of, size_kept}
 use Rattle.up_blocks.specs.Records.{decoded, fits}
 use Rattle.up_blocks.proofs.Replayed.{fits_next, index_next, memory_damage, read_damage, read_next, up_to}
-use Rattle.up_faults.proofs.Causes.{HasCause-then, HasCause-weaker}
+use Rattle.up_lists.proofs.Causes.{HasCause-then, HasCause-weaker}
 use Rattle.up_journal.specs.Journal.{State}
 use Rattle.up_journal.specs.declared.fault.ReadWhy.TheVariants as read_why
 use Rattle.up_journal.specs.Logs.{log_step}

@@ -2,7 +2,7 @@ use Rattle.std.proofs.Common.{◌≡◌, take, map, []}
 use Rattle.up_blocks.specs.Kept.{IsIndex, size_kept}
 use Rattle.up_blocks.specs.Records.{decoded, fits}
 use Rattle.up_blocks.proofs.Replayed.{up_to}
-use Rattle.up_faults.specs.Counts.{HasCause}
+use Rattle.up_lists.specs.Counts.{HasCause}
 use Rattle.up_journal.specs.Journal.{gate_behind}
 use Rattle.up_journal.specs.Logs.{EachFits, log_step}
 use Rattle.up_journal.specs.Records.{OnlyPayloads, ReadUpTo}

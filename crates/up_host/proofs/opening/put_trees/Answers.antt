@@ -1,7 +1,7 @@
 use Rattle.std.proofs.Common.{◌≡◌, [], ◌∷◌, ◌++◌, length, map, sym, ap, subst, ◌∙◌, arith, append_assoc}
 use Rattle.std.specs.List.{AllByRecursion}
 use Rattle.up_host.specs.Opens.{LeavesTree, disk_of}
-use Rattle.up_journal.specs.Crashes.{LeavesNow}
+use Rattle.up_disk.specs.Leaving.{LeavesNow}
 use Rattle.up_journal.specs.Logs.{StandsForLog}
 use Rattle.up_tree.specs.States.{records_in}
 use Rattle.up_host.proofs.opening.put_trees.Goals as goal

@@ -1,8 +1,8 @@
-use Rattle.std.proofs.Common.{◌≡◌, ◌+◌, ◌^◌, ◌∷◌, drop, length, get_or, IsErrOf, arith}
+use Rattle.std.proofs.Common.{◌≡◌, ◌+◌, ◌^◌, ◌∷◌, drop, length, get_or, IsErrOf, arith, rules}
 use Rattle.std.proofs.lemmas.Grind.{common_steps}
 use Rattle.std.proofs.lemmas.List.{drop_more}
 use Rattle.up_disk.specs.Disk.{part}
-use Rattle.up_faults.proofs.Causes.{HasCause-then, HasCause-weaker}
+use Rattle.up_lists.proofs.Causes.{HasCause-then, HasCause-weaker}
 use Rattle.up_journal.specs.Gates.{record_bytes}
 use Rattle.up_journal.specs.declared.fault.ReadWhy.TheVariants as read_why
 use Rattle.up_journal.specs.declared.limits.Span.{Span}
@@ -33,6 +33,7 @@ loop-span-preserved g c =
       read = read_both d g.met.D.Disk.only_now disk c.loop-span.disk c.gather.new.disk i.read c.gather.ensures.read;
       counts = HasCause-then (d.faults disk) (d.faults c.loop-span.disk) (d.faults c.gather.new.disk) ⊥ ⊥ i.counts
           (HasCause-weaker (d.faults c.loop-span.disk) (d.faults c.gather.new.disk) (IsErrOf c.gather.result read_why.Fault) ⊥ c.gather.ensures.counts (λ none. absurd none));
+      quiet = search rules;
     }
 
 pub gather-requires-clause-within : goal.gather-requires-clause-within

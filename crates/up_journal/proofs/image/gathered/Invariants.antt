@@ -1,5 +1,5 @@
 use Rattle.std.proofs.Common.{◌≡◌, ◌++◌, drop, length, take, IfSome}
-use Rattle.up_faults.specs.Counts.{HasCause}
+use Rattle.up_lists.specs.Counts.{HasCause, StaysUnless}
 use Rattle.up_journal.specs.Cells.{OnlyRead}
 use Rattle.up_journal.specs.Format2.{format2}
 use Rattle.up_journal.specs.Gates.{behind_gates, front_of, record_list}
@@ -15,4 +15,5 @@ invariant-loop-span g l = record {
   long : length l.so_far.image.items ≡ gate_behind (take l.span-index (sizes_of l.spans));
   read : OnlyRead g.D.Disk l.fn.disk l.disk;
   counts : HasCause (g.D.Disk.faults l.fn.disk) (g.D.Disk.faults l.disk) ⊥;
+  quiet : StaysUnless (g.D.Disk.faults l.fn.disk) (g.D.Disk.faults l.disk) ⊥;
 }

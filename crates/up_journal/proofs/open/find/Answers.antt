@@ -1,16 +1,28 @@
-use Rattle.std.proofs.Common.{◌≡◌, drop, false, is_some, IfSome, ◌∙◌, ap, arith}
+use Rattle.std.proofs.Common.{◌≡◌, drop, false, is_some, IfSome, ◌∙◌, ap, arith, rules}
 use Rattle.up_journal.specs.Format2.{format2}
 use Rattle.up_journal.specs.Gates.{is_open}
 use Rattle.up_journal.specs.Kept.{AreGates, log_seen}
 use Rattle.up_journal.specs.Opened.{IsLogOf}
-use Rattle.up_journal.proofs.Opened.{begun_opened, gates_closed, if_ok_both, kept_new, log_new, sized_as}
+use Rattle.up_journal.proofs.Opened.{begun_opened, gates_closed, if_ok_both, kept_new, log_new, not_synced, read_opened, sized_as}
+use Rattle.up_journal.proofs.Runs.{read_both}
 use Rattle.up_journal.proofs.open.find.Goals as goal
+
+pub returns-in_err-sync-clause-opened : goal.returns-in_err-sync-clause-opened
+returns-in_err-sync-clause-opened g c =
+    let e = c.sync.ensures in
+    not_synced g.D.Disk g.met.D.Disk.only_now c.args.limits.largest c.args.disk.now c.sync.new.self e.content e.crash e.time _ (search rules)
 
 pub returns-in_err-start-clause-opened : goal.returns-in_err-start-clause-opened
 returns-in_err-start-clause-opened g c =
-    let laws = g.met.D.Disk in
-    begun_opened g.D.Disk laws.only_now c.args.limits.largest c.args.disk.now c.sync.new.self c.start.new.disk
-    (omega (arith, c.size-device.ensures, c.sync.ensures.size, c.if-device.true)) c.sync.ensures.content c.sync.ensures.crash c.sync.ensures.time c.start.ensures.told (c.start.ensures.any_moment c.in_ok-sync.ensures.durable c.args.limits.largest)
+    let e = c.sync.ensures in
+    let only = c.in_ok-sync.ensures.durable in
+    begun_opened g.D.Disk g.met.D.Disk.only_now c.args.limits.largest c.args.disk.now c.sync.new.self e.content e.crash e.time c.start.new.disk _
+    (omega (arith, c.size-device.ensures, e.size, c.if-device.true)) c.start.ensures.told only (c.start.ensures.any_moment only c.args.limits.largest)
+
+pub returns-in_err-check_name-clause-opened : goal.returns-in_err-check_name-clause-opened
+returns-in_err-check_name-clause-opened g c =
+    let e = c.sync.ensures in
+    read_opened g.D.Disk g.met.D.Disk.only_now c.args.limits.largest c.args.disk.now c.sync.new.self e.content e.crash e.time c.check_name.new.disk _ c.in_ok-sync.ensures.durable c.check_name.ensures.read
 
 pub returns-then-device-clause-kept : goal.returns-then-device-clause-kept
 returns-then-device-clause-kept g c =
@@ -26,9 +38,16 @@ returns-then-device-clause-log g c =
 
 pub returns-then-device-clause-opened : goal.returns-then-device-clause-opened
 returns-then-device-clause-opened g c =
-    let laws = g.met.D.Disk in
-    begun_opened g.D.Disk laws.only_now c.args.limits.largest c.args.disk.now c.sync.new.self c.start.new.disk
-    (omega (arith, c.size-device.ensures, c.sync.ensures.size, c.if-device.true)) c.sync.ensures.content c.sync.ensures.crash c.sync.ensures.time c.start.ensures.told (c.start.ensures.any_moment c.in_ok-sync.ensures.durable c.args.limits.largest)
+    let e = c.sync.ensures in
+    let only = c.in_ok-sync.ensures.durable in
+    begun_opened g.D.Disk g.met.D.Disk.only_now c.args.limits.largest c.args.disk.now c.sync.new.self e.content e.crash e.time c.start.new.disk _
+    (omega (arith, c.size-device.ensures, e.size, c.if-device.true)) c.start.ensures.told only (c.start.ensures.any_moment only c.args.limits.largest)
+
+pub returns-clause-opened : goal.returns-clause-opened
+returns-clause-opened g c =
+    let e = c.sync.ensures in
+    read_opened g.D.Disk g.met.D.Disk.only_now c.args.limits.largest c.args.disk.now c.sync.new.self e.content e.crash e.time c.read_gates.new.disk _ c.in_ok-sync.ensures.durable
+    (read_both g.D.Disk g.met.D.Disk.only_now c.sync.new.self c.check_name.new.disk c.read_gates.new.disk c.check_name.ensures.read c.read_gates.ensures.read)
 
 pub returns-clause-log : goal.returns-clause-log
 returns-clause-log g c =

@@ -1,5 +1,5 @@
 use Rattle.std.proofs.Common.{◌-◌}
-use Rattle.up_faults.specs.Counts.{HasCause}
+use Rattle.up_lists.specs.Counts.{HasCause, StaysUnless}
 use Rattle.up_journal.specs.Cells.{OnlyRead}
 use Rattle.up_journal.specs.Format2.{format2}
 use Rattle.up_journal.specs.Kept.{AreGates}
@@ -10,6 +10,7 @@ invariant-loop-found g l = record {
   gates : AreGates format2 l.largest l.found.spans.items l.found.gate l.found.head l.device (g.D.Disk.content l.disk);
   read : OnlyRead g.D.Disk l.fn.disk l.disk;
   counts : HasCause (g.D.Disk.faults l.fn.disk) (g.D.Disk.faults l.disk) ⊥;
+  quiet : StaysUnless (g.D.Disk.faults l.fn.disk) (g.D.Disk.faults l.disk) ⊥;
 }
 
 abbrev pub decreases-loop-found : goal.decreases-loop-found

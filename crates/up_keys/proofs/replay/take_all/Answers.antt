@@ -6,7 +6,7 @@ use Rattle.up_journal.specs.Records.{replay}
 use Rattle.up_keys.proofs.Damages.{memory_damage, read_damage}
 use Rattle.up_journal.proofs.Logs.{fits_step}
 use Rattle.up_journal.proofs.Records.{next_damaged, next_read, payload_read, size_seen, take_next}
-use Rattle.up_faults.proofs.Causes.{HasCause-then, HasCause-weaker}
+use Rattle.up_lists.proofs.Causes.{HasCause-then, HasCause-weaker}
 use Rattle.up_keys.specs.Records.{decoded, fits}
 use Rattle.up_keys.specs.Keys.{sizes_of}
 use Rattle.up_keys.proofs.replay.take_all.Goals as goal

@@ -4,7 +4,7 @@ use Rattle.up_journal.specs.Journal.{State}
 use Rattle.up_journal.specs.declared.fault.ReadWhy.TheVariants as read_why
 use Rattle.up_journal.specs.Logs.{log_step}
 use Rattle.up_journal.proofs.Records.{next_damaged, next_read, payload_read, size_seen, take_next}
-use Rattle.up_faults.proofs.Causes.{HasCause-then, HasCause-weaker}
+use Rattle.up_lists.proofs.Causes.{HasCause-then, HasCause-weaker}
 use Rattle.up_ledger.specs.Entries.{entry_of, fits}
 use Rattle.up_ledger.specs.Ledger.{sizes_of}
 use Rattle.up_ledger.proofs.replay.replay.Goals as goal

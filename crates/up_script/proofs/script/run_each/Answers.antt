@@ -11,7 +11,7 @@ loop-line-init g c =
     let who = parties g.D.Disk g.P.Loader g.V.Verifier g.C.Clock g.N.Nonces in
     let first = world c.args.sessions.now c.args.peers.now c.args.verifier.now c.args.clock.now c.args.nonces.now in
     record {
-      running = Running-none who (g.K.Sink.held c.args.sink.now) c.new-gathered.result.items first (script_lines c.args.lines.now) c.new-gathered.ensures.items c.requires.fit;
+      running = Running-none who c.args.limits (g.K.Sink.held c.args.sink.now) c.new-gathered.result.items first (script_lines c.args.lines.now) c.new-gathered.ensures.items c.requires.fit;
       later = omega arith;
       counted = omega arith;
     }
@@ -22,10 +22,10 @@ loop-line-preserved g c =
     let first = world c.args.sessions.now c.args.peers.now c.args.verifier.now c.args.clock.now c.args.nonces.now in
     let before = world c.loop-line.sessions c.loop-line.peers c.loop-line.verifier c.loop-line.clock c.loop-line.nonces in
     let after = world c.run_line.new.sessions c.run_line.new.peers c.run_line.new.verifier c.run_line.new.clock c.run_line.new.nonces in
-    let here : Running who (g.K.Sink.held c.args.sink.now) (g.K.Sink.held c.loop-line.sink) c.loop-line.gathered.items first before (script_lines c.args.lines.now) (c.in-Some.line.now ∷ script_lines c.in-Some.after.now) c.loop-line.number =
-    subst (λ left. Running who (g.K.Sink.held c.args.sink.now) (g.K.Sink.held c.loop-line.sink) c.loop-line.gathered.items first before (script_lines c.args.lines.now) left c.loop-line.number) c.in-Some.ensures.lines c.loop-line.invariant.running in
+    let here : Running who c.args.limits (g.K.Sink.held c.args.sink.now) (g.K.Sink.held c.loop-line.sink) c.loop-line.gathered.items first before (script_lines c.args.lines.now) (c.in-Some.line.now ∷ script_lines c.in-Some.after.now) c.loop-line.number =
+    subst (λ left. Running who c.args.limits (g.K.Sink.held c.args.sink.now) (g.K.Sink.held c.loop-line.sink) c.loop-line.gathered.items first before (script_lines c.args.lines.now) left c.loop-line.number) c.in-Some.ensures.lines c.loop-line.invariant.running in
     record {
-      running = Running-turned who (g.K.Sink.held c.args.sink.now) (g.K.Sink.held c.loop-line.sink) (g.K.Sink.held c.flush.new.sink) c.loop-line.gathered.items c.run_line.new.out.items c.flush.new.gathered.items first before after (script_lines c.args.lines.now)
+      running = Running-turned who c.args.limits (g.K.Sink.held c.args.sink.now) (g.K.Sink.held c.loop-line.sink) (g.K.Sink.held c.flush.new.sink) c.loop-line.gathered.items c.run_line.new.out.items c.flush.new.gathered.items first before after (script_lines c.args.lines.now)
           c.in-Some.line.now (script_lines c.in-Some.after.now) c.loop-line.number c.run_line.result here c.run_line.ensures c.in-Ok.is c.in_ok-flush-in-Ok.ensures.ok;
       later = omega (arith, c.loop-line.invariant.later, c.flush.ensures.later);
       counted = omega (arith, c.loop-line.invariant.counted, c.in-Some.ensures.shorter);
@@ -37,10 +37,10 @@ returns-in_err-flush-in-Ok-clause-scripted g c =
     let first = world c.args.sessions.now c.args.peers.now c.args.verifier.now c.args.clock.now c.args.nonces.now in
     let before = world c.loop-line.sessions c.loop-line.peers c.loop-line.verifier c.loop-line.clock c.loop-line.nonces in
     let after = world c.run_line.new.sessions c.run_line.new.peers c.run_line.new.verifier c.run_line.new.clock c.run_line.new.nonces in
-    let here : Running who (g.K.Sink.held c.args.sink.now) (g.K.Sink.held c.loop-line.sink) c.loop-line.gathered.items first before (script_lines c.args.lines.now) (c.in-Some.line.now ∷ script_lines c.in-Some.after.now) c.loop-line.number =
-    subst (λ left. Running who (g.K.Sink.held c.args.sink.now) (g.K.Sink.held c.loop-line.sink) c.loop-line.gathered.items first before (script_lines c.args.lines.now) left c.loop-line.number) c.in-Some.ensures.lines c.loop-line.invariant.running in
+    let here : Running who c.args.limits (g.K.Sink.held c.args.sink.now) (g.K.Sink.held c.loop-line.sink) c.loop-line.gathered.items first before (script_lines c.args.lines.now) (c.in-Some.line.now ∷ script_lines c.in-Some.after.now) c.loop-line.number =
+    subst (λ left. Running who c.args.limits (g.K.Sink.held c.args.sink.now) (g.K.Sink.held c.loop-line.sink) c.loop-line.gathered.items first before (script_lines c.args.lines.now) left c.loop-line.number) c.in-Some.ensures.lines c.loop-line.invariant.running in
     let p = err_from_is_err_and c.from_residual.result c.from_residual.ensures.1 in
-    Scripted-unwritten who (g.K.Sink.held c.args.sink.now) (g.K.Sink.held c.loop-line.sink) (g.K.Sink.held c.flush.new.sink) c.loop-line.gathered.items c.run_line.new.out.items first before after (script_lines c.args.lines.now)
+    Scripted-unwritten who c.args.limits (g.K.Sink.held c.args.sink.now) (g.K.Sink.held c.loop-line.sink) (g.K.Sink.held c.flush.new.sink) c.loop-line.gathered.items c.run_line.new.out.items first before after (script_lines c.args.lines.now)
     c.in-Some.line.now (script_lines c.in-Some.after.now) c.loop-line.number c.run_line.result p.0 c.from_residual.result here c.run_line.ensures c.in-Ok.is p.1 c.flush.ensures.part
 
 pub returns-in-Err-clause-scripted : goal.returns-in-Err-clause-scripted
@@ -49,9 +49,9 @@ returns-in-Err-clause-scripted g c =
     let first = world c.args.sessions.now c.args.peers.now c.args.verifier.now c.args.clock.now c.args.nonces.now in
     let before = world c.loop-line.sessions c.loop-line.peers c.loop-line.verifier c.loop-line.clock c.loop-line.nonces in
     let after = world c.run_line.new.sessions c.run_line.new.peers c.run_line.new.verifier c.run_line.new.clock c.run_line.new.nonces in
-    let here : Running who (g.K.Sink.held c.args.sink.now) (g.K.Sink.held c.loop-line.sink) c.loop-line.gathered.items first before (script_lines c.args.lines.now) (c.in-Some.line.now ∷ script_lines c.in-Some.after.now) c.loop-line.number =
-    subst (λ left. Running who (g.K.Sink.held c.args.sink.now) (g.K.Sink.held c.loop-line.sink) c.loop-line.gathered.items first before (script_lines c.args.lines.now) left c.loop-line.number) c.in-Some.ensures.lines c.loop-line.invariant.running in
-    Scripted-turned who (g.K.Sink.held c.args.sink.now) (g.K.Sink.held c.loop-line.sink) (g.K.Sink.held c.end.new.sink) c.loop-line.gathered.items c.run_line.new.out.items first before after (script_lines c.args.lines.now)
+    let here : Running who c.args.limits (g.K.Sink.held c.args.sink.now) (g.K.Sink.held c.loop-line.sink) c.loop-line.gathered.items first before (script_lines c.args.lines.now) (c.in-Some.line.now ∷ script_lines c.in-Some.after.now) c.loop-line.number =
+    subst (λ left. Running who c.args.limits (g.K.Sink.held c.args.sink.now) (g.K.Sink.held c.loop-line.sink) c.loop-line.gathered.items first before (script_lines c.args.lines.now) left c.loop-line.number) c.in-Some.ensures.lines c.loop-line.invariant.running in
+    Scripted-turned who c.args.limits (g.K.Sink.held c.args.sink.now) (g.K.Sink.held c.loop-line.sink) (g.K.Sink.held c.end.new.sink) c.loop-line.gathered.items c.run_line.new.out.items first before after (script_lines c.args.lines.now)
     c.in-Some.line.now (script_lines c.in-Some.after.now) c.loop-line.number c.in-Err.why c.end.result here c.in-Err.ensures c.end.ensures.code c.end.ensures.whole c.end.ensures.part
     (λ is. ap g.K.Sink.held (c.end.ensures.unwritten is)) c.end.ensures.wanting
 
@@ -61,7 +61,7 @@ returns-in_err-finish-clause-scripted g c =
     let first = world c.args.sessions.now c.args.peers.now c.args.verifier.now c.args.clock.now c.args.nonces.now in
     let before = world c.loop-line.sessions c.loop-line.peers c.loop-line.verifier c.loop-line.clock c.loop-line.nonces in
     let p = err_from_is_err_and c.from_residual-in_err-finish.result c.from_residual-in_err-finish.ensures.1 in
-    Scripted-fault who (g.K.Sink.held c.args.sink.now) (g.K.Sink.held c.loop-line.sink) (g.K.Sink.held c.finish.new.sink) c.loop-line.gathered.items first before (script_lines c.args.lines.now) (script_lines c.loop-line.rest.now) c.loop-line.number p.0 c.from_residual-in_err-finish.result p.1
+    Scripted-fault who c.args.limits (g.K.Sink.held c.args.sink.now) (g.K.Sink.held c.loop-line.sink) (g.K.Sink.held c.finish.new.sink) c.loop-line.gathered.items first before (script_lines c.args.lines.now) (script_lines c.loop-line.rest.now) c.loop-line.number p.0 c.from_residual-in_err-finish.result p.1
     c.loop-line.invariant.running c.finish.ensures.part
 
 pub returns-clause-scripted : goal.returns-clause-scripted
@@ -70,6 +70,6 @@ returns-clause-scripted g c =
     let first = world c.args.sessions.now c.args.peers.now c.args.verifier.now c.args.clock.now c.args.nonces.now in
     let before = world c.loop-line.sessions c.loop-line.peers c.loop-line.verifier c.loop-line.clock c.loop-line.nonces in
     let over : script_lines c.loop-line.rest.now ≡ [] = c.in_default.ensures.no_line in
-    let here : Running who (g.K.Sink.held c.args.sink.now) (g.K.Sink.held c.loop-line.sink) c.loop-line.gathered.items first before (script_lines c.args.lines.now) [] c.loop-line.number =
-    subst (λ left. Running who (g.K.Sink.held c.args.sink.now) (g.K.Sink.held c.loop-line.sink) c.loop-line.gathered.items first before (script_lines c.args.lines.now) left c.loop-line.number) over c.loop-line.invariant.running in
-    Scripted-end who (g.K.Sink.held c.args.sink.now) (g.K.Sink.held c.loop-line.sink) (g.K.Sink.held c.finish.new.sink) c.loop-line.gathered.items first before (script_lines c.args.lines.now) c.loop-line.number here c.in_ok-finish.ensures.ok
+    let here : Running who c.args.limits (g.K.Sink.held c.args.sink.now) (g.K.Sink.held c.loop-line.sink) c.loop-line.gathered.items first before (script_lines c.args.lines.now) [] c.loop-line.number =
+    subst (λ left. Running who c.args.limits (g.K.Sink.held c.args.sink.now) (g.K.Sink.held c.loop-line.sink) c.loop-line.gathered.items first before (script_lines c.args.lines.now) left c.loop-line.number) over c.loop-line.invariant.running in
+    Scripted-end who c.args.limits (g.K.Sink.held c.args.sink.now) (g.K.Sink.held c.loop-line.sink) (g.K.Sink.held c.finish.new.sink) c.loop-line.gathered.items first before (script_lines c.args.lines.now) c.loop-line.number here c.in_ok-finish.ensures.ok

@@ -1,7 +1,8 @@
 use Rattle.std.proofs.Common.{◌≡◌, ◌++◌, Err, ap, ◌∙◌}
 use Rattle.std.specs.Prelude.{codes}
 use Rattle.up_journal.specs.declared.fault.AppendWhy.TheVariants as append
-use Rattle.up_script.specs.Scripts.{Did, ended}
+use Rattle.up_command.specs.Printed.{ended}
+use Rattle.up_script.specs.Scripts.{Did}
 use Rattle.up_script.specs.Turns.{enrol_said}
 use Rattle.up_script.proofs.TurnLemmas.{says}
 use Rattle.up_script.proofs.turns.say_enrolled.Goals as goal

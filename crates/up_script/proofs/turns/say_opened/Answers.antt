@@ -1,6 +1,7 @@
 use Rattle.std.proofs.Common.{◌++◌, ap, ◌∙◌}
 use Rattle.std.specs.Prelude.{codes}
-use Rattle.up_script.specs.Scripts.{Did, ended}
+use Rattle.up_command.specs.Printed.{ended}
+use Rattle.up_script.specs.Scripts.{Did}
 use Rattle.up_script.specs.Turns.{host_said}
 use Rattle.up_script.proofs.TurnLemmas.{says}
 use Rattle.up_script.proofs.turns.say_opened.Goals as goal

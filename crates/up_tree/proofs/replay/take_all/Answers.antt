@@ -1,5 +1,5 @@
 use Rattle.std.proofs.Common.{◌≡◌, None, Some, Ok, true, IsErrOf, ℕ, List, [], ◌∷◌, ◌++◌, ◌≤◌, ◌∙◌, ap, sym, length, take, arith}
-use Rattle.up_faults.proofs.Causes.{HasCause-then, HasCause-weaker}
+use Rattle.up_lists.proofs.Causes.{HasCause-then, HasCause-weaker}
 use Rattle.up_journal.specs.Journal.{State, gate_behind}
 use Rattle.up_journal.specs.Logs.{log_step}
 use Rattle.up_journal.specs.Records.{replay}

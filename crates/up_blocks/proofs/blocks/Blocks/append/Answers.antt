@@ -2,7 +2,7 @@ use Rattle.std.proofs.Common.{◌≡◌, Ok, Err, IsErrOf, Result, ℕ, ap, sym,
 use Rattle.up_blocks.specs.Records.{fits}
 use Rattle.up_blocks.specs.Kept.{untold}
 use Rattle.up_blocks.proofs.Stored.{entered, err_is, no_memory, not_entered}
-use Rattle.up_faults.proofs.Causes.{HasCause-weaker}
+use Rattle.up_lists.proofs.Causes.{HasCause-weaker}
 use Rattle.up_journal.specs.declared.fault.AppendWhy.{AppendWhy}
 use Rattle.up_journal.specs.declared.fault.AppendWhy.TheVariants as append
 use Rattle.up_blocks.proofs.blocks.Blocks.append.Goals as goal

@@ -3,7 +3,7 @@ use Rattle.std.specs.Option.{option_copied}
 use Rattle.up_blocks.specs.Blocks.{why_of_read}
 use Rattle.up_blocks.specs.declared.fault.BlockWhy.{BlockWhy}
 use Rattle.up_blocks.proofs.Given.{gives_bytes, gives_missing, gives_none, number_within}
-use Rattle.up_faults.proofs.Causes.{HasCause-weaker}
+use Rattle.up_lists.proofs.Causes.{HasCause-weaker}
 use Rattle.up_journal.specs.declared.fault.ReadWhy.TheVariants as read_why
 use Rattle.up_blocks.proofs.blocks.Blocks.get.Goals as goal
 

@@ -29,7 +29,9 @@ returns c =
       crash = λ image left. leaves_to self.first self.calls.items _ _ more image left;
       time = elapses_to self.first self.calls.items _ _ more;
       cause = search rules;
+      quiet = search rules;
       called = c.in_ok-begin.ensures.called;
+      only_listed = tt;
       lands = record { content = ap Some c.truncate.ensures.items; images = λ choice. image_is_cut (landing_of choice) self.first self.calls.items _ c.args.size more };
       untouched = tt;
     }

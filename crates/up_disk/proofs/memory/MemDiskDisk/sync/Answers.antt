@@ -27,7 +27,9 @@ returns c =
       crash = λ image left. subst (MayLeave self.first self.first self.calls.items) (sym (synced_only self.first self.bytes.items self.calls.items _ more self.kept image left)) (leaves_bytes self.first self.bytes.items self.calls.items self.kept);
       time = elapses_to self.first self.calls.items _ _ more;
       cause = search rules;
+      quiet = search rules;
       called = c.in_ok-begin.ensures.called;
+      only_listed = tt;
       lands = record { content = refl; images = λ choice. ap Some (image_synced (landing_of choice) self.first self.bytes.items self.calls.items _ more self.kept) };
       untouched = tt;
     }

@@ -3,7 +3,7 @@ use Rattle.std.proofs.Common.{[], ◌∷◌, ◌++◌, map, ap, subst, ◌∙◌
 use Rattle.up_blocks.specs.Records.{blocks_in}
 use Rattle.up_host.specs.Opens.{disk_of}
 use Rattle.up_host.proofs.HandingLemmas.{behind}
-use Rattle.up_journal.specs.Crashes.{LeavesNow}
+use Rattle.up_disk.specs.Leaving.{LeavesNow}
 use Rattle.up_journal.specs.Logs.{StandsForLog}
 use Rattle.up_keys.specs.Records.{records_in}
 use Rattle.up_host.proofs.host.Host.into_disks.Goals as goal

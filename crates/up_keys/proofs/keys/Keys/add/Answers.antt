@@ -2,7 +2,7 @@ use Rattle.std.proofs.Common.{◌≡◌, Ok, Err, IsErrOf, Result, ℕ, ap, sym,
 use Rattle.std.specs.FinMap.Entries.{put}
 use Rattle.up_keys.specs.Records.{user_cmp}
 use Rattle.up_keys.proofs.Putting.{entered, err_is, no_memory, not_entered}
-use Rattle.up_faults.proofs.Causes.{HasCause-weaker}
+use Rattle.up_lists.proofs.Causes.{HasCause-weaker}
 use Rattle.up_journal.specs.declared.fault.AppendWhy.{AppendWhy}
 use Rattle.up_journal.specs.declared.fault.AppendWhy.TheVariants as append
 use Rattle.up_keys.proofs.keys.Keys.add.Goals as goal

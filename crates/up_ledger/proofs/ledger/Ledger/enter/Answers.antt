@@ -1,5 +1,5 @@
 use Rattle.std.proofs.Common.{◌≡◌, ◌++◌, ◌∷◌, [], ℕ, length, Result, Ok, Err, IsErrOf, sym, ap, ◌∙◌}
-use Rattle.up_faults.proofs.Causes.{HasCause-weaker}
+use Rattle.up_lists.proofs.Causes.{HasCause-weaker}
 use Rattle.up_journal.specs.Logs.{log_state}
 use Rattle.up_journal.specs.declared.fault.AppendWhy.{AppendWhy}
 use Rattle.up_journal.specs.declared.fault.AppendWhy.TheVariants as append

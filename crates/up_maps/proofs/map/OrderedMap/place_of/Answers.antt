@@ -1,4 +1,4 @@
-use Rattle.up_maps.proofs.Places.{find_split, split_at}
+use Rattle.up_maps.proofs.PlaceLemmas.{find_split, split_at}
 use Rattle.up_maps.proofs.map.OrderedMap.place_of.Goals as goal
 
 pub returns-clause-place : goal.returns-clause-place

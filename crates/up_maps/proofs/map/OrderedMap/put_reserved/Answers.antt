@@ -1,7 +1,7 @@
 use Rattle.std.proofs.Common.{◌≡◌, true, ap, subst, sym, ◌∙◌, slice_get}
 use Rattle.std.specs.FinMap.Entries.{is_sorted}
 use Rattle.std.specs.List.{insert, remove}
-use Rattle.up_maps.proofs.Places.{put_fresh, put_there, sorted_put}
+use Rattle.up_maps.proofs.PlaceLemmas.{put_fresh, put_there, sorted_put}
 use Rattle.up_maps.proofs.map.OrderedMap.put_reserved.Goals as goal
 
 pub returns-then-is_at : goal.returns-then-is_at

@@ -1,7 +1,7 @@
 use Rattle.std.proofs.Common.{◌≡◌, true, ap, subst, sym, ◌∙◌, slice_get}
 use Rattle.std.specs.FinMap.Entries.{is_sorted}
 use Rattle.std.specs.List.{remove}
-use Rattle.up_maps.proofs.Places.{others_fresh, others_there, sorted_others}
+use Rattle.up_maps.proofs.PlaceLemmas.{others_fresh, others_there, sorted_others}
 use Rattle.up_maps.proofs.map.OrderedMap.remove.Goals as goal
 
 pub returns-then-there-clause-entries : goal.returns-then-there-clause-entries

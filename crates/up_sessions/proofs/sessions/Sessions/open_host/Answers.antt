@@ -2,7 +2,7 @@ use Rattle.std.proofs.Common.{◌≡◌, ◌≤◌, ◌+◌, ◌∷◌, ◌++◌
 use Rattle.std.specs.List.{AllByRecursion}
 use Rattle.std.specs.Vec.{vec_capacity, vec_len}
 use Rattle.up_sessions.proofs.OpeningLemmas.{adds_next, hands_none, kept_next, refuses_next, when_ok}
-use Rattle.up_sessions.specs.Opening.{IsBlank}
+use Rattle.up_disk.specs.Leaving.{IsBlank}
 use Rattle.up_sessions.specs.Worlds.{Hosts}
 use Rattle.up_sessions.specs.declared.fault.LineFault.TheVariants as line
 use Rattle.up_sessions.proofs.sessions.Sessions.open_host.Goals as goal

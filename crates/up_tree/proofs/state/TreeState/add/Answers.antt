@@ -2,7 +2,7 @@ use Rattle.std.proofs.Common.{◌≡◌, ◌++◌, ◌∷◌, [], ℕ, List, len
 use Rattle.up_entry.specs.Reading.{rec_of}
 use Rattle.up_entry.specs.Spelling as spelling
 use Rattle.up_entry.specs.declared.records.Rec.{Rec}
-use Rattle.up_faults.proofs.Causes.{HasCause-weaker}
+use Rattle.up_lists.proofs.Causes.{HasCause-weaker}
 use Rattle.up_journal.specs.Logs.{KeepsLog}
 use Rattle.up_journal.specs.declared.fault.AppendWhy.{AppendWhy}
 use Rattle.up_journal.specs.declared.fault.AppendWhy.TheVariants as append

@@ -1,9 +1,7 @@
-use Rattle.std.proofs.Common.{sym, ap, ◌∙◌}
-use Rattle.up_entry.specs.Spelling as spelling
-use Rattle.up_journal.proofs.Logs.{opens_log, refuses_opened, refuses_read}
-use Rattle.up_journal.proofs.Records.{opened_and_read}
+use Rattle.up_journal.proofs.Logs.{refuses_opened}
 use Rattle.up_replay.specs.Fits.{fits}
 use Rattle.up_tree.specs.States.{record_in}
+use Rattle.up_tree.proofs.Opening.{is_replayed, kept_by, opened_by, opens_by, refuses_by}
 use Rattle.up_tree.proofs.state.TreeState.open.Goals as goal
 
 pub returns-in-Err-clause-refuses : goal.returns-in-Err-clause-refuses
@@ -11,31 +9,28 @@ returns-in-Err-clause-refuses g c =
     let e = c.in-Err.ensures in
     refuses_opened g.D.Disk record_in (fits c.args.owner) c.args.disk c.args.limits c.in-Err.fault e.damaged e.synced
 
-pub returns-in-Err-replay-clause-refuses : goal.returns-in-Err-replay-clause-refuses
-returns-in-Err-replay-clause-refuses g c =
+pub read_by-requires : goal.read_by-requires
+read_by-requires g c =
     let e = c.in-Ok.ensures in
-    rw c.into_disk.ensures.disk
-    (refuses_read g.D.Disk record_in (fits c.args.owner) c.args.disk c.args.limits c.in-Ok.journal c.replay.new.journal c.in-Err-replay.why e.log e.safe c.in-Err-replay.ensures.damaged c.replay.ensures.read)
+    let r = c.replay-replayed.ensures in
+    kept_by g.D.Disk c.args.owner c.args.disk c.args.limits c.in-Ok.journal c.replay-replayed.new.journal e.log e.settled e.limits e.safe r.read c.replay-replayed.result
+    (is_replayed c.args.owner c.in-Ok.journal c.replay-replayed.result r.owner r.log r.sizes)
 
-pub invariant_of-result : goal.invariant_of-result
-invariant_of-result g c =
+pub returns-clause-opens : goal.returns-clause-opens
+returns-clause-opens g c =
     let e = c.in-Ok.ensures in
-    let r = c.in-Ok-replay.ensures in
-    rw r.owner (record {
-      keeps = (opens_log g.D.Disk record_in (fits c.args.owner) spelling.rec c.args.disk c.args.limits c.in-Ok.journal c.replay.new.journal c.in-Ok-replay.tree.log e.log e.settled e.limits e.safe r.sizes r.log c.replay.ensures.read).0;
-      limits_are = sym (ap (λ j. j.limits) c.replay.ensures.read.unchanged ∙ e.limits);
-    })
+    let r = c.replay-replayed.ensures in
+    rw c.read_by.ensures (opens_by g.D.Disk c.args.owner c.args.disk c.args.limits c.in-Ok.journal c.replay-replayed.new.journal e.log e.settled e.limits e.safe r.read c.replay-replayed.result
+    (is_replayed c.args.owner c.in-Ok.journal c.replay-replayed.result r.owner r.log r.sizes))
 
-pub returns-in-Ok-replay-clause-opens : goal.returns-in-Ok-replay-clause-opens
-returns-in-Ok-replay-clause-opens g c =
+pub returns-clause-refuses : goal.returns-clause-refuses
+returns-clause-refuses g c =
     let e = c.in-Ok.ensures in
-    let r = c.in-Ok-replay.ensures in
-    record {
-      owner_is = r.owner;
-      opens = (opens_log g.D.Disk record_in (fits c.args.owner) spelling.rec c.args.disk c.args.limits c.in-Ok.journal c.replay.new.journal c.in-Ok-replay.tree.log e.log e.settled e.limits e.safe r.sizes r.log c.replay.ensures.read).1;
-    }
+    let r = c.replay-replayed.ensures in
+    rw c.read_by.ensures (refuses_by g.D.Disk c.args.owner c.args.disk c.args.limits c.in-Ok.journal c.replay-replayed.new.journal e.log e.settled e.limits e.safe r.read c.replay-replayed.result r.damaged)
 
-pub returns-in-Ok-replay-clause-opened : goal.returns-in-Ok-replay-clause-opened
-returns-in-Ok-replay-clause-opened g c =
+pub returns-clause-opened : goal.returns-clause-opened
+returns-clause-opened g c =
     let e = c.in-Ok.ensures in
-    opened_and_read g.D.Disk c.args.disk c.in-Ok.journal c.replay.new.journal c.args.limits e.log e.settled.nothing e.limits e.opened c.replay.ensures.read
+    let r = c.replay-replayed.ensures in
+    rw c.read_by.ensures (opened_by g.D.Disk c.args.owner c.args.disk c.args.limits c.in-Ok.journal c.replay-replayed.new.journal e.log e.settled e.limits e.safe r.read c.replay-replayed.result e.opened)

@@ -1,0 +1,2 @@
+mod CanFolds
+mod Answering

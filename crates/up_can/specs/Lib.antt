@@ -1,0 +1,4 @@
+pub mod CanFiles
+pub mod CanLines
+pub mod CanRuns
+pub mod CanAnswers

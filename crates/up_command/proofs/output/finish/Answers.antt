@@ -1,0 +1,8 @@
+-- Where there was no memory to gather the last text, nothing was written.
+use Rattle.std.proofs.Common.{◌++◌}
+use Rattle.up_ends.proofs.Going.{WritesPart-none}
+use Rattle.up_command.proofs.output.finish.Goals as goal
+
+pub returns-in_err-extend_from_slice-clause-part :
+    goal.returns-in_err-extend_from_slice-clause-part
+returns-in_err-extend_from_slice-clause-part g c = WritesPart-none (g.K.Sink.held c.args.sink.now) (c.args.gathered.now.items ++ c.args.last.now)

@@ -1,4 +1,0 @@
-pub mod Finds
-pub mod Flats
-pub mod Lists
-pub mod Moves

@@ -1,7 +1,0 @@
--- The text so far is that of the lines gone through.
-use Rattle.std.proofs.Common.{◌≡◌, ◌++◌, take}
-use Rattle.up_script.specs.Scripts.{all_numbered}
-use Rattle.up_script.proofs.saying.say_all.Given as goal
-
-abbrev pub invariant-loop-line : goal.invariant-loop-line
-invariant-loop-line l = l.out.items ≡ l.fn.out.items ++ all_numbered l.fn.number (take l.line-index l.lines)
