@@ -1,7 +1,7 @@
 //! What stands around a script of `upspin script`: the clock, nonces, disks that fail, and a peer.
 use std::alloc::{AllocError, Global};
-use up_disk::DiskFault;
 use up_case_lines::{Fault, Words, bytes_of, bytes_of_digits, user_of};
+use up_disk::DiskFault;
 use up_ends::{END_OF_MOMENTS, FixedClock, ListNonces};
 use up_lists::Items;
 use up_names::User;

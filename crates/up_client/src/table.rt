@@ -7,8 +7,7 @@ use crate::ask::{Ask, Failed};
 use crate::copying::copied;
 use std::alloc::{AllocError, Global};
 use std::marker::Model;
-use up_lists::Calls;
-use up_lists::Items;
+use up_lists::{Calls, Items};
 use up_wire::{Reply, Request};
 
 /// Who answers from a fixed table, with what is told there of a request, and with `NotExist` of any other. Some of its calls

@@ -6,11 +6,11 @@ ghost use Rattle.std.specs.Ordering.{eq_by_cmp, is_lt};
 ghost use Rattle.std.specs.Map.{keys_of};
 ghost use Rattle.up_maps.specs.Maps.{IsPlaceOf, value_at};
 
+use crate::below::Below;
+use crate::pieces::Pieces;
 use std::alloc::{AllocError, Global};
 use std::cmp::Ordering;
 use std::marker::Model;
-use crate::below::Below;
-use crate::pieces::Pieces;
 
 /// A finite map, seen as its entries in the order of their keys and whether the next one takes no memory.
 #[derive(Debug, Drop)]

@@ -22,8 +22,8 @@ use up_access::AccessText;
 use up_bytes::{Bytes, copy_of};
 use up_entry::{Entry, Rec};
 use up_group::GroupText;
-use up_names::Path;
 use up_maps::Pieces;
+use up_names::Path;
 use up_replay::Node;
 
 /// A path becomes one of its siblings, or stays one.

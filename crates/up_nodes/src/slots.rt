@@ -8,8 +8,8 @@ ghost use Rattle.up_replay.specs.Trees.{last_element};
 use crate::history::Change;
 use up_access::AccessText;
 use up_group::GroupText;
-use up_names::Path;
 use up_maps::{Below, Pieces};
+use up_names::Path;
 use up_replay::Node;
 
 /// What is kept of a path. It stays when the item is deleted, for what was.
