@@ -9,8 +9,9 @@
 //! A disk that tells nothing has no images, and what these clauses say of them is then empty.
 //!
 //! [`MemDisk`] is such a disk. A read fails exactly where its number is listed; a cut or a sync where it is listed, and
-//! else only where the list of calls has to grow (`only_listed`); a write where it is listed, and else for want of memory,
-//! which each write may need. The counts after each call are exact (`called` of the records in `specs/MemoryCalls.antt`).
+//! else only where the list of calls has to grow (`only_listed`); a write where it is listed, and else, as the code is written, for
+//! want of memory, which each write may need and of which no clause tells. The counts after each call are exact (`called` of the
+//! records in `specs/MemoryCalls.antt`).
 //! A listed write leaves the front half of its bytes, or nothing where there was no memory to note it (`half`), any other
 //! write that fails leaves all as it was (`unlisted`), and so does each other call that fails (`untouched`).
 //! [`MemDisk::image`] is exactly the crash image by its number, and each image is possible (`image`, `possible`).

@@ -1,10 +1,16 @@
-//! The trusted edge: adapters of the machine's clock, of random bytes and of a helper program to the traits of `up_ends`.
+//! The trusted edge: adapters of the machine's clock, of random bytes and of a helper program to the traits of `up_ends`, of files to
+//! disks, and of connections to servers that a client or a host asks.
 //!
 //! What a machine's clock reads and what another program answers is outside of every proof: [`Machine`] has the few lines that
-//! are trusted, behind small traits ([`Programs`], [`DayClock`], [`RandomBytes`]). Over whatever stands behind these, the adapters are exact:
-//! a moment is the nearest of one reading ([`HostClock`], `reading`), a seed is exactly the bytes of one call of its source
-//! ([`SeedNonces::from_random`]), and each question runs the helper once, with its words in their order, and its status is the verdict
-//! ([`HelperVerifier`], `asked`). A verifier's call fails only where its count of faults rose (`cause`).
+//! are trusted, behind small traits ([`Programs`], [`DayClock`], [`RandomBytes`]). Over whatever stands behind these, the adapters are
+//! exact: a moment is the nearest to one reading ([`HostClock`], `reading`), a seed is exactly the bytes of one call of its source
+//! ([`SeedNonces::from_random`]), and each question runs the helper once, with its words in their order, and its status is the verdict;
+//! or, for want of memory for the words, not at all, and that is a fault ([`HelperVerifier`], `asked`). A verifier's call fails where
+//! its count of faults rose, and nowhere else (`cause`, `quiet`). A [`signature`] is what one run of a helper printed.
+//!
+//! Each read, write, cut and sync of a [`FileDisk`] is one call of its file, and one more for the size after a write or a cut that failed;
+//! after a sync that failed each further one fails, and the file is not asked for it (`called`, `counted`). It tells no content, so that no
+//! clause says what a crash leaves. A server that is dialled ([`SocketAsk`], [`SocketPeer`]) may answer anything; its failures are counted.
 #![tactic(auto)]
 
 mod asking;
