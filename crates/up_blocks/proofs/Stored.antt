@@ -1,5 +1,6 @@
 -- What a store keeps over its journal, and what its calls come to, as contracts see it.
-use Rattle.std.proofs.Common.{◌≡◌, ◌≢◌, ◌≤◌, ℕ, Bool, true, false, List, [], ◌∷◌, ◌++◌, length, map, Option, Some, None, is_some, option_map, Result, Ok, Err, IsErrAnd, OnErr, OnOk, refl, sym, ap, ◌∙◌, subst, ◌⊎◌, inl, inr, ⊎_elim}
+use Rattle.std.proofs.Common.{◌≡◌, ◌≢◌, ◌≤◌, ℕ, Bool, true, false, List, [], ◌∷◌, ◌++◌, length, map, Option, Some, None, is_some, IsSome, option_map, Result, Ok, Err, IsErrAnd, OnErr, OnOk, refl, sym, ap, ◌∙◌, subst, ◌⊎◌, inl, inr, ⊎_elim}
+use Rattle.std.proofs.lemmas.Bool.{false≢true}
 use Rattle.std.proofs.lemmas.List.{length-map, map-append}
 use Rattle.up_blocks.specs.Kept.{IsIndex, IsStore, Keeps, further_seen, kept_of, log_seen, numbered, record_of, size_kept, spelling, store_state, untold}
 use Rattle.up_blocks.specs.Records.{blocks_in, decoded, fits, largest_room, put_record, size_of, sizes_of}
@@ -20,7 +21,7 @@ use Rattle.up_journal.specs.Logs.{AddsRecord, EachFits, IsSettledLog, KeepsLog, 
 use Rattle.up_journal.specs.declared.fault.AppendWhy.{AppendWhy}
 use Rattle.up_journal.specs.declared.fault.AppendWhy.TheVariants as append
 use Rattle.up_journal.specs.declared.limits.Limits.{Limits}
-use Rattle.up_journal.proofs.Logs.{adds_err, adds_none, adds_ok, fits_more, keeps_safe, resolves_log}
+use Rattle.up_journal.proofs.Logs.{adds_err, adds_none, adds_ok, fits_more, keeps_doubtful, keeps_safe, resolves_log}
 
 -- ---- the bytes of records
 
@@ -78,6 +79,12 @@ module _ {D : Type 0} (disks : Ghosts D) where
       → LeavesNow disks journal.disk (StandsForLog (blocks_in journal.limits.largest) (log_seen told records) (further_seen told journal.further))
   safe_at journal records None keeps = record { each = λ image left. absurd (keeps.each image left) }
   safe_at journal records (Some payloads) keeps = keeps_safe disks decoded fits spelling journal (map record_of payloads) keeps
+
+  -- where the disk tells, a record may stand further exactly where one is doubtful
+  pub doubtful_at : (journal : State D) (told : Option (List (List ℕ))) → Keeps disks journal told → (IsSome journal.log → is_some journal.further ≡ journal.doubtful) → is_some journal.log ≡ is_some (disks.content journal.disk) → journal.log ≡ told
+      → IsSome (disks.content journal.disk) → is_some (further_seen told journal.further) ≡ journal.doubtful
+  doubtful_at journal None keeps doubtful tells is some = absurd (let none = sym (ap is_some is) ∙ tells ∙ some in false≢true none)
+  doubtful_at journal (Some payloads) keeps doubtful tells is some = keeps_doubtful disks decoded fits spelling journal (map record_of payloads) keeps doubtful tells some
 
   -- ---- a record is added
 

@@ -1,5 +1,5 @@
 //! The store.
-ghost use Rattle.std.specs.Prelude.{◌≡◌, ◌≤◌, Some, true, false, length, option_map, is_some, slice_get, IfErr, IfOk, IsErr, IsOk};
+ghost use Rattle.std.specs.Prelude.{◌≡◌, ◌≤◌, Some, true, false, length, option_map, is_some, slice_get, IfErr, IfOk, IsErr, IsErrOf, IsOk, IsSome};
 ghost use Rattle.std.specs.List.{AllByRecursion};
 ghost use Rattle.std.specs.Map.{keys_of};
 ghost use Rattle.std.specs.Option.{option_copied};
@@ -9,7 +9,7 @@ ghost use Rattle.up_blocks.specs.Records.{IsTold, blocks_in, blocks_of, decoded,
 ghost use Rattle.up_blocks.specs.declared.record.BlockRecord.TheVariants.{Delete};
 ghost use Rattle.up_ends.specs.Growing.{OnlyGrows};
 ghost use Rattle.up_refs.specs.Sha256.{sha256};
-ghost use Rattle.up_lists.specs.Counts.{HasCause};
+ghost use Rattle.up_lists.specs.Counts.{HasCause, StaysUnless};
 ghost use Rattle.up_disk.specs.Leaving.{LeavesNow};
 ghost use Rattle.up_journal.specs.Crashes.{IsOpened};
 ghost use Rattle.up_journal.specs.Journal.{AreLimits};
@@ -75,8 +75,11 @@ impl<D: Disk> Blocks<D> {
         requires room { largest_room ≤ limits.largest }
         ensures opens { IfOk result (OpensLog D.Disk blocks_in limits disk) }
         ensures refuses { IfErr result (RefusesLog D.Disk blocks_in limits disk) }
-        ensures opened { IsOpened D.Disk limits.largest disk (disk_after result) }
+        ensures opened { IsOpened D.Disk limits.largest disk (disk_after result)
+            (IsRefusedFor result OpenWhy.Fault) }
         ensures counts { HasCause (D.faults disk) (D.faults (disk_after result))
+            (IsRefusedFor result OpenWhy.Fault) }
+        ensures quiet { StaysUnless (D.faults disk) (D.faults (disk_after result))
             (IsRefusedFor result OpenWhy.Fault) }
     {
         let mut journal = match Journal::open(alloc, disk, limits) {
@@ -99,6 +102,8 @@ impl<D: Disk> Blocks<D> {
         ensures limits { AreLimits self.now.limits }
         ensures room { largest_room ≤ self.now.limits.largest }
         ensures told { AllByRecursion (IsTold (is_some (D.content self.now.disk))) self.now.log }
+        ensures doubtful { IsSome (D.content self.now.disk)
+            → is_some self.now.further ≡ self.now.doubtful }
         ensures safe { LeavesNow D.Disk self.now.disk
             (StandsForLog (blocks_in self.now.limits.largest) self.now.log self.now.further) }
     {
@@ -131,6 +136,8 @@ impl<D: Disk> Blocks<D> {
     /// and for want of memory, no call of the disk is made.
     pub fn get(&mut self, reference: &Reference) -> Result<Bytes, BlockWhy>
         ensures gives { GivesBlock D.Disk reference.now self.old self.new result }
+        ensures quiet { StaysUnless (D.faults self.old.disk) (D.faults self.new.disk)
+            (IsErrOf result BlockWhy.Fault) }
         ensures grows { OnlyGrows log_of
             (λ blocks. D.faults blocks.disk) limits_of self.old self.new }
     {
@@ -149,6 +156,8 @@ impl<D: Disk> Blocks<D> {
     pub fn put(&mut self, bytes: &[u8]) -> Result<Reference, BlockWhy>
         requires { length bytes.now ≤ largest_block }
         ensures puts { PutsBlock D.Disk bytes.now self.old self.new result }
+        ensures quiet { StaysUnless (D.faults self.old.disk) (D.faults self.new.disk)
+            (IsErrOf result BlockWhy.Fault) }
         ensures grows { OnlyGrows log_of
             (λ blocks. D.faults blocks.disk) limits_of self.old self.new }
     {
@@ -167,8 +176,10 @@ impl<D: Disk> Blocks<D> {
         requires size { length bytes.now ≤ largest_block }
         requires reference { reference.now ≡ sha256 bytes.now }
         requires fresh { holds self.old.log (sha256 bytes.now) ≡ false }
-        ensures { AddsBlock D.Disk (put_record (is_some (D.content self.old.disk)) bytes.now)
+        ensures adds { AddsBlock D.Disk (put_record (is_some (D.content self.old.disk)) bytes.now)
             self.old self.new result }
+        ensures quiet { StaysUnless (D.faults self.old.disk) (D.faults self.new.disk)
+            (IsErrOf result BlockWhy.Fault) }
     {
         let payload = put_payload(*self.index.records.allocator(), bytes)?;
         let change = Kept::Put(*reference, bytes.len() as u64);
@@ -180,6 +191,8 @@ impl<D: Disk> Blocks<D> {
     /// held.
     pub fn delete(&mut self, reference: &Reference) -> Result<u64, BlockWhy>
         ensures deletes { DeletesBlock D.Disk reference.now self.old self.new result }
+        ensures quiet { StaysUnless (D.faults self.old.disk) (D.faults self.new.disk)
+            (IsErrOf result BlockWhy.Fault) }
         ensures grows { OnlyGrows log_of
             (λ blocks. D.faults blocks.disk) limits_of self.old self.new }
     {
@@ -192,7 +205,9 @@ impl<D: Disk> Blocks<D> {
     // Deletes a block that is held.
     fn take_out(&mut self, reference: &Reference) -> Result<u64, BlockWhy>
         requires { holds self.old.log reference.now ≡ true }
-        ensures { AddsBlock D.Disk (Delete reference.now) self.old self.new result }
+        ensures adds { AddsBlock D.Disk (Delete reference.now) self.old self.new result }
+        ensures quiet { StaysUnless (D.faults self.old.disk) (D.faults self.new.disk)
+            (IsErrOf result BlockWhy.Fault) }
     {
         let payload = delete_payload(*self.index.records.allocator(), reference)?;
         self.append(Kept::Delete(*reference), payload.as_slice())
@@ -203,8 +218,10 @@ impl<D: Disk> Blocks<D> {
         requires decoded { option_map kept_of (decoded payload.now) ≡ Some change }
         requires fits { fits self.old.log (untold change) ≡ true }
         requires size { length payload.now ≤ largest_room }
-        ensures { AddsBlock D.Disk (recorded (is_some (D.content self.old.disk)) payload.now)
+        ensures adds { AddsBlock D.Disk (recorded (is_some (D.content self.old.disk)) payload.now)
             self.old self.new result }
+        ensures quiet { StaysUnless (D.faults self.old.disk) (D.faults self.new.disk)
+            (IsErrOf result BlockWhy.Fault) }
     {
         let _position = self.journal.len();
         self.index.make_room()?;
@@ -218,6 +235,7 @@ impl<D: Disk> Blocks<D> {
         ensures resolves { ResolvesLog D.Disk blocks_in self.old self.new result }
         ensures untouched { self.old.doubtful ≡ false → IsOk result × (self.new ≡ self.old) }
         ensures cause { HasCause (D.faults self.old.disk) (D.faults self.new.disk) (IsErr result) }
+        ensures quiet { StaysUnless (D.faults self.old.disk) (D.faults self.new.disk) (IsErr result) }
         ensures grows { OnlyGrows log_of
             (λ blocks. D.faults blocks.disk) limits_of self.old self.new }
     {

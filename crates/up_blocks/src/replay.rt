@@ -3,7 +3,7 @@ ghost use Rattle.std.specs.Prelude.{◌≡◌, ◌++◌, ◌∷◌, [], ℕ, Lis
 ghost use Rattle.up_blocks.specs.Kept.{IsIndex, IsTaken, log_seen, record_of, size_kept};
 ghost use Rattle.up_blocks.specs.Records.{decoded, fits};
 ghost use Rattle.up_blocks.specs.declared.record.BlockRecord.{BlockRecord as OneRecord};
-ghost use Rattle.up_lists.specs.Counts.{HasCause};
+ghost use Rattle.up_lists.specs.Counts.{HasCause, StaysUnless};
 ghost use Rattle.up_journal.specs.Logs.{EachFits, log_step};
 ghost use Rattle.up_journal.specs.Opened.{IsDamageOf};
 ghost use Rattle.up_journal.specs.Records.{OnlyPayloads, replay};
@@ -54,6 +54,8 @@ fn take_all<D: Disk>(index: &mut Index, journal: &mut Journal<D>) -> Result<(), 
     ensures read { OnlyPayloads D.Disk journal.old journal.new }
     ensures counts { HasCause (D.faults journal.old.disk) (D.faults journal.new.disk)
         (IsErrOf result OpenWhy.Fault) }
+    ensures quiet { StaysUnless (D.faults journal.old.disk) (D.faults journal.new.disk)
+        (IsErrOf result OpenWhy.Fault) }
 {
     for n in 0..journal.len() {
         let payload = journal.payload(n + 1)?;
@@ -78,6 +80,8 @@ pub fn replay<D: Disk>(alloc: Global, journal: &mut Journal<D>) -> Result<Index,
         (IsDamageOf (replay (log_step decoded fits) []) journal.old.log) }
     ensures read { OnlyPayloads D.Disk journal.old journal.new }
     ensures counts { HasCause (D.faults journal.old.disk) (D.faults journal.new.disk)
+        (IsErrOf result OpenWhy.Fault) }
+    ensures quiet { StaysUnless (D.faults journal.old.disk) (D.faults journal.new.disk)
         (IsErrOf result OpenWhy.Fault) }
 {
     let mut index = Index::new(alloc);

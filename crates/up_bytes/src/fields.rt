@@ -5,7 +5,8 @@ ghost use Rattle.up_bytes.specs.declared.fault.FieldFault.{FieldFault};
 ghost use Rattle.up_bytes.specs.Input.{Input};
 ghost use Rattle.up_bytes.specs.Sizes.{size_of};
 ghost use Rattle.up_bytes.specs.Spelling.{list, IsList};
-ghost use Rattle.up_bytes.specs.Reading.{FaultFirst, Gives, items_at, list_at, num_at, whole_of};
+ghost use Rattle.up_bytes.specs.First.{IsFirst};
+ghost use Rattle.up_bytes.specs.Reading.{FaultFirst, Gives, from_start, items_at, list_at, num_at, whole_of};
 
 use crate::Bytes;
 use crate::fault::FieldFault;
@@ -153,7 +154,8 @@ pub fn list_size<T: Fields>(values: &[T]) -> u64
 /// spelling of a value that may stand there, or, behind the last field, of the first byte that is left.
 #[tactic(auto, unfolding(crate::specs::Reading::whole_of))]
 pub fn read_whole<T: Fields + Drop>(alloc: Global, bytes: &[u8]) -> Result<T, FieldFault>
-    ensures { Gives (λ value. value) result (whole_of T.read_at bytes.now) }
+    ensures exact { Gives (λ value. value) result (whole_of T.read_at bytes.now) }
+    ensures first { IsFirst (T.comes_first (from_start bytes.now)) result }
 {
     let mut input = Reader::new(bytes);
     let value = T::take(alloc, &mut input)?;

@@ -1,10 +1,12 @@
 //! Replies as the fields of a message, how long they are, and how long they may be.
 
 ghost use Rattle.std.specs.Prelude.{◌≡◌, ◌++◌, IfOk, IfSome, IsNone, length, OnOk, take};
+ghost use Rattle.up_bytes.specs.First.{IsFirst, row_fails};
 ghost use Rattle.up_bytes.specs.Reading.{Gives, row_at};
 ghost use Rattle.up_bytes.specs.Spelling.{byte};
 ghost use Rattle.up_wire.specs.Bounds.{bounded, reply_size};
 ghost use Rattle.up_wire.specs.declared.messages.ServerFrame.TheVariants.{Answer};
+ghost use Rattle.up_wire.specs.First.{later_reply_firsts, reply_firsts};
 ghost use Rattle.up_wire.specs.Reading.{later_reply_table, reply_table};
 ghost use Rattle.up_wire.specs.Spelling.{reply_fields, reply_tag, IsReply};
 
@@ -80,8 +82,9 @@ pub(crate) fn take_reply(
     place: u64,
     input: &mut Reader,
 ) -> Result<Reply, FieldFault>
-    ensures { Gives (λ given. (Answer given, input.new)) result
+    ensures exact { Gives (λ given. (Answer given, input.new)) result
         (row_at reply_table place number input.old) }
+    ensures first { IsFirst (row_fails reply_firsts number input.old) result }
 {
     match number {
         0x00 => Ok(Reply::Ok(Done::take(alloc, input)?)),
@@ -96,8 +99,9 @@ pub(crate) fn take_reply(
 
 /// The same of the replies from `NotExist` on.
 fn take_later_reply(number: u8, place: u64, input: &mut Reader) -> Result<Reply, FieldFault>
-    ensures { Gives (λ given. (Answer given, input.new)) result
+    ensures exact { Gives (λ given. (Answer given, input.new)) result
         (row_at later_reply_table place number input.old) }
+    ensures first { IsFirst (row_fails later_reply_firsts number input.old) result }
 {
     match number {
         0x06 => Ok(Reply::NotExist),

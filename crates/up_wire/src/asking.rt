@@ -1,10 +1,12 @@
 //! Requests as the fields of a message.
 
 ghost use Rattle.std.specs.Prelude.{◌≡◌, ◌++◌, IfOk, length, OnOk, take};
-ghost use Rattle.up_bytes.specs.Reading.{Gives, row_at};
+ghost use Rattle.up_bytes.specs.First.{IsFirst, row_fails};
+ghost use Rattle.up_bytes.specs.Reading.{FaultFirst, Gives, row_at, text_at};
 ghost use Rattle.up_bytes.specs.Sizes.{size_of};
 ghost use Rattle.up_bytes.specs.Spelling.{byte};
 ghost use Rattle.up_wire.specs.declared.messages.ClientFrame.TheVariants.{Ask};
+ghost use Rattle.up_wire.specs.First.{request_firsts};
 ghost use Rattle.up_wire.specs.Reading.{request_table, watch_at};
 ghost use Rattle.up_wire.specs.Spelling.{client, request_fields, request_tag, IsRequest};
 
@@ -21,8 +23,9 @@ pub(crate) fn take_request(
     place: u64,
     input: &mut Reader,
 ) -> Result<Request, FieldFault>
-    ensures { Gives (λ asked. (Ask asked, input.new)) result
+    ensures exact { Gives (λ asked. (Ask asked, input.new)) result
         (row_at request_table place tag input.old) }
+    ensures first { IsFirst (row_fails request_firsts tag input.old) result }
 {
     match tag {
         0x10 => Ok(Request::Lookup(input.text(alloc)?)),
@@ -44,7 +47,8 @@ pub(crate) fn take_request(
 /// Takes a path to watch and a sequence. A refused call leaves the place anywhere.
 #[tactic(auto, unfolding(crate::specs::Reading::watch_at))]
 fn take_watch(alloc: Global, input: &mut Reader) -> Result<Request, FieldFault>
-    ensures { Gives (λ asked. (asked, input.new)) result (watch_at input.old) }
+    ensures exact { Gives (λ asked. (asked, input.new)) result (watch_at input.old) }
+    ensures first { FaultFirst (text_at input.old) result }
 {
     let path = input.text(alloc)?;
     let sequence = input.int()?;

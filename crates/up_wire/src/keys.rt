@@ -1,8 +1,10 @@
 //! What a key server keeps of a user.
 
 ghost use Rattle.std.specs.Prelude.{◌≡◌, IfOk, Ok, Err};
-ghost use Rattle.up_bytes.specs.Reading.{Gives, text_at};
+ghost use Rattle.up_bytes.specs.First.{IsFirst};
+ghost use Rattle.up_bytes.specs.Reading.{Gives, from_start, text_at};
 ghost use Rattle.up_bytes.specs.Sizes.{size_of};
+ghost use Rattle.up_wire.specs.First.{logged_fails};
 ghost use Rattle.up_wire.specs.Keys.{FitsKeyRecord, IsKeyCard, IsKeyRecord, IsSpelledKeyRecord, key_card, key_card_at, key_record, key_record_at, logged, logged_of};
 
 use crate::laws::key_records_have_one_spelling;
@@ -148,6 +150,9 @@ pub fn key_record_size(known: &KeyRecord) -> u64
 pub fn read_key_record(alloc: Global, bytes: &[u8]) -> Result<KeyRecord, FieldFault>
     ensures exact { Gives (λ found. found) result (logged_of bytes.now) }
 
+    // Where the tag is refused, or the user's text behind it, so is the record, however much memory there is.
+    ensures first { IsFirst (logged_fails (from_start bytes.now)) result }
+
     // The bytes are the spelling of the record that is given.
     ensures spelled { IfOk result (λ found. bytes.now ≡ logged found) }
     ensures fits { IfOk result (λ found. FitsKeyRecord found) }
@@ -160,10 +165,12 @@ pub fn read_key_record(alloc: Global, bytes: &[u8]) -> Result<KeyRecord, FieldFa
 /// Takes the record that is the whole of these bytes.
 #[tactic(auto, unfolding(up_bytes::specs::Reading::whole_of, up_bytes::specs::Reading::tagged_at))]
 fn take_logged(alloc: Global, bytes: &[u8]) -> Result<KeyRecord, FieldFault>
-    ensures { Gives (λ found. found) result (logged_of bytes.now) }
+    ensures exact { Gives (λ found. found) result (logged_of bytes.now) }
+    ensures first { IsFirst (logged_fails (from_start bytes.now)) result }
 {
     let mut input = Reader::new(bytes);
-    if input.byte()? != 1 {
+    let tag = input.byte()?;
+    if tag != 1 {
         return Err(FieldFault::Spelling(0));
     }
     let found = KeyRecord::take(alloc, &mut input)?;

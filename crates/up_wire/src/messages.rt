@@ -1,8 +1,10 @@
 //! The messages that a client and a server send each other.
 
 ghost use Rattle.std.specs.Prelude.{◌≡◌, IfOk, Ok, Err};
-ghost use Rattle.up_bytes.specs.Reading.{byte_at, Gives};
-ghost use Rattle.up_wire.specs.Reading.{client_at, client_of, server_at, server_of};
+ghost use Rattle.up_bytes.specs.First.{IsFirst, row_fails};
+ghost use Rattle.up_bytes.specs.Reading.{Gives, from_start, row_at};
+ghost use Rattle.up_wire.specs.First.{client_fails, client_firsts, server_fails, server_firsts};
+ghost use Rattle.up_wire.specs.Reading.{client_at, client_of, client_table, server_at, server_of, server_table};
 ghost use Rattle.up_wire.specs.Spelling.{client, FitsClient, FitsServer, IsClient, IsServer, IsSpelledClient, IsSpelledServer, server};
 
 use crate::answering::{append_reply, reply_size, take_reply};
@@ -44,19 +46,15 @@ impl Fields for ClientFrame {
 
     ghost read_at = { client_at };
 
-    ghost comes_first = { λ input fault. byte_at input ≡ Err fault };
+    ghost comes_first = { client_fails };
 
     ghost IsTyped = { IsClient };
 
     #[tactic(auto, unfolding(up_bytes::specs::Reading::tagged_at))]
     fn take(alloc: Global, input: &mut Reader) -> Result<ClientFrame, FieldFault> {
         let place = input.place();
-        match input.byte()? {
-            0x01 => Ok(ClientFrame::Hello(input.text(alloc)?)),
-            0x02 => Ok(ClientFrame::Proof(input.text(alloc)?)),
-            0x03 => Ok(ClientFrame::Bye),
-            tag => Ok(ClientFrame::Ask(take_request(alloc, tag, place, input)?)),
-        }
+        let tag = input.byte()?;
+        take_client(alloc, tag, place, input)
     }
 
     fn append(&self, out: &mut Writer) -> Result<(), AllocError> {
@@ -90,19 +88,15 @@ impl Fields for ServerFrame {
 
     ghost read_at = { server_at };
 
-    ghost comes_first = { λ input fault. byte_at input ≡ Err fault };
+    ghost comes_first = { server_fails };
 
     ghost IsTyped = { IsServer };
 
     #[tactic(auto, unfolding(up_bytes::specs::Reading::tagged_at))]
     fn take(alloc: Global, input: &mut Reader) -> Result<ServerFrame, FieldFault> {
         let place = input.place();
-        match input.byte()? {
-            0x81 => Ok(ServerFrame::Challenge(input.bytes_32()?)),
-            0x82 => Ok(ServerFrame::Welcome),
-            0x83 => Ok(ServerFrame::NotSigned),
-            number => Ok(ServerFrame::Answer(take_reply(alloc, number, place, input)?)),
-        }
+        let tag = input.byte()?;
+        take_server(alloc, tag, place, input)
     }
 
     fn append(&self, out: &mut Writer) -> Result<(), AllocError> {
@@ -129,6 +123,44 @@ impl Fields for ServerFrame {
     }
 }
 
+/// Takes the fields of the client's message that has this tag, which stands at this place. A refused call leaves the place anywhere.
+fn take_client(
+    alloc: Global,
+    tag: u8,
+    place: u64,
+    input: &mut Reader,
+) -> Result<ClientFrame, FieldFault>
+    ensures exact { Gives (λ frame. (frame, input.new)) result
+        (row_at client_table place tag input.old) }
+    ensures first { IsFirst (row_fails client_firsts tag input.old) result }
+{
+    match tag {
+        0x01 => Ok(ClientFrame::Hello(input.text(alloc)?)),
+        0x02 => Ok(ClientFrame::Proof(input.text(alloc)?)),
+        0x03 => Ok(ClientFrame::Bye),
+        tag => Ok(ClientFrame::Ask(take_request(alloc, tag, place, input)?)),
+    }
+}
+
+/// The same of a server's message.
+fn take_server(
+    alloc: Global,
+    tag: u8,
+    place: u64,
+    input: &mut Reader,
+) -> Result<ServerFrame, FieldFault>
+    ensures exact { Gives (λ frame. (frame, input.new)) result
+        (row_at server_table place tag input.old) }
+    ensures first { IsFirst (row_fails server_firsts tag input.old) result }
+{
+    match tag {
+        0x81 => Ok(ServerFrame::Challenge(input.bytes_32()?)),
+        0x82 => Ok(ServerFrame::Welcome),
+        0x83 => Ok(ServerFrame::NotSigned),
+        number => Ok(ServerFrame::Answer(take_reply(alloc, number, place, input)?)),
+    }
+}
+
 /// The bytes of a client's message: the payload of its frame.
 pub fn write_client(alloc: Global, frame: &ClientFrame) -> Result<Bytes, AllocError>
     ensures written { IfOk result (λ bytes. bytes ≡ client frame.now) }
@@ -145,9 +177,13 @@ pub fn write_client(alloc: Global, frame: &ClientFrame) -> Result<Bytes, AllocEr
 /// The client's message that is the whole of these bytes.
 ///
 /// The fault is `Short` where the input ends within a field, else `Spelling` with the place of the first field that is no
-/// spelling of a value that may stand there, or, behind the last field, of the first byte that is left.
+/// spelling of a value that may stand there, or, behind the last field, of the first byte that is left. What the first field
+/// announces reserves nothing: where that field is short, the answer is `Short`.
 pub fn read_client(alloc: Global, bytes: &[u8]) -> Result<ClientFrame, FieldFault>
     ensures exact { Gives (λ frame. frame) result (client_of bytes.now) }
+
+    // Where the tag is refused, or the first field behind it, so is the message, however much memory there is.
+    ensures first { IsFirst (client_fails (from_start bytes.now)) result }
 
     // The bytes are the spelling of the message that is given.
     ensures spelled { IfOk result (λ frame. bytes.now ≡ client frame) }
@@ -174,9 +210,13 @@ pub fn write_server(alloc: Global, frame: &ServerFrame) -> Result<Bytes, AllocEr
 /// The server's message that is the whole of these bytes.
 ///
 /// The fault is `Short` where the input ends within a field, else `Spelling` with the place of the first field that is no
-/// spelling of a value that may stand there, or, behind the last field, of the first byte that is left.
+/// spelling of a value that may stand there, or, behind the last field, of the first byte that is left. What the first field
+/// announces reserves nothing: where that field is short, the answer is `Short`.
 pub fn read_server(alloc: Global, bytes: &[u8]) -> Result<ServerFrame, FieldFault>
     ensures exact { Gives (λ frame. frame) result (server_of bytes.now) }
+
+    // Where the tag is refused, or the first field behind it, so is the message, however much memory there is.
+    ensures first { IsFirst (server_fails (from_start bytes.now)) result }
 
     // The bytes are the spelling of the message that is given.
     ensures spelled { IfOk result (λ frame. bytes.now ≡ server frame) }

@@ -2,7 +2,7 @@
 
 ghost use Rattle.std.specs.Prelude.{◌≡◌, [], MatchOption};
 ghost use Rattle.up_bytes.specs.Num.{num};
-ghost use Rattle.up_bytes.specs.Reading.{Answers, Gives};
+ghost use Rattle.up_bytes.specs.Reading.{Answers, FaultFirst, Gives, byte_at};
 ghost use Rattle.up_wire.specs.Reading.{event_kind_at, option_at, right_at, what_at};
 ghost use Rattle.up_wire.specs.Spelling.{event_byte, right_byte, what_fields, what_tag, IsWhat};
 
@@ -126,7 +126,8 @@ pub(crate) fn take_right(input: &mut Reader) -> Result<Right, FieldFault>
 /// Takes an entry, if there is one. A refused call leaves the place anywhere.
 #[tactic(auto, unfolding(crate::specs::Reading::option_at, up_bytes::specs::Reading::tagged_at))]
 pub(crate) fn take_option(alloc: Global, input: &mut Reader) -> Result<Option<Entry>, FieldFault>
-    ensures { Gives (λ found. (found, input.new)) result (option_at input.old) }
+    ensures exact { Gives (λ found. (found, input.new)) result (option_at input.old) }
+    ensures first { FaultFirst (byte_at input.old) result }
 {
     let place = input.place();
     match input.byte()? {

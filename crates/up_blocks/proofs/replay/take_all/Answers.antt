@@ -2,7 +2,7 @@ use Rattle.std.proofs.Common.{◌≡◌, None, Ok, true, IsErrOf, ℕ, List, [],
 use Rattle.up_blocks.specs.Kept.{IsTaken, record_of, size_kept}
 use Rattle.up_blocks.specs.Records.{decoded, fits}
 use Rattle.up_blocks.proofs.Replayed.{fits_next, index_next, memory_damage, read_damage, read_next, up_to}
-use Rattle.up_lists.proofs.Causes.{HasCause-then, HasCause-weaker}
+use Rattle.up_lists.proofs.Causes.{HasCause-then, HasCause-weaker, StaysUnless-more, StaysUnless-then}
 use Rattle.up_journal.specs.Journal.{State}
 use Rattle.up_journal.specs.declared.fault.ReadWhy.TheVariants as read_why
 use Rattle.up_journal.specs.Logs.{log_step}
@@ -48,6 +48,8 @@ loop-n-preserved g c =
       read = payload_read g.D.Disk old mid c.payload.new.self i.read e.unchanged e.content e.fewer e.crash;
       counts = HasCause-then (g.D.Disk.faults old.disk) (g.D.Disk.faults mid.disk) (g.D.Disk.faults c.payload.new.self.disk) ⊥ ⊥ i.counts
           (HasCause-weaker (g.D.Disk.faults mid.disk) (g.D.Disk.faults c.payload.new.self.disk) (IsErrOf c.payload.result read_why.Fault) ⊥ e.counts (λ none. absurd none));
+      quiet = StaysUnless-then (g.D.Disk.faults old.disk) (g.D.Disk.faults mid.disk) (g.D.Disk.faults c.payload.new.self.disk) ⊥ ⊥ ⊥ i.quiet (λ none. none)
+          (StaysUnless-more (g.D.Disk.faults mid.disk) (g.D.Disk.faults c.payload.new.self.disk) (IsErrOf c.payload.result read_why.Fault) ⊥ e.quiet (λ is. let both = sym c.in_ok-payload.was ∙ is in cc)) (λ none. none);
       sizes = c.take.ensures.sizes was ∙ ap (λ (l : List ℕ). map size_kept before ++ length l ∷ []) c.as_slice.ensures
           ∙ ap (λ (l : List ℕ). l ++ length payload ∷ []) i.sizes ∙ sym (take_next old.sizes n (length payload) size);
     }

@@ -2,7 +2,7 @@ use Rattle.std.proofs.Common.{◌≡◌, take, map, []}
 use Rattle.up_blocks.specs.Kept.{IsIndex, size_kept}
 use Rattle.up_blocks.specs.Records.{decoded, fits}
 use Rattle.up_blocks.proofs.Replayed.{up_to}
-use Rattle.up_lists.specs.Counts.{HasCause}
+use Rattle.up_lists.specs.Counts.{HasCause, StaysUnless}
 use Rattle.up_journal.specs.Journal.{gate_behind}
 use Rattle.up_journal.specs.Logs.{EachFits, log_step}
 use Rattle.up_journal.specs.Records.{OnlyPayloads, ReadUpTo}
@@ -15,5 +15,6 @@ invariant-loop-n g l = record {
   fitting : EachFits fits (up_to l.n l.fn.journal.log l.index.records.items);
   read : OnlyPayloads g.D.Disk l.fn.journal l.journal;
   counts : HasCause (g.D.Disk.faults l.fn.journal.disk) (g.D.Disk.faults l.journal.disk) ⊥;
+  quiet : StaysUnless (g.D.Disk.faults l.fn.journal.disk) (g.D.Disk.faults l.journal.disk) ⊥;
   sizes : map size_kept l.index.records.items ≡ take l.n l.fn.journal.sizes;
 }

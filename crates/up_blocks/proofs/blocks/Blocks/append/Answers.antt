@@ -13,14 +13,14 @@ failed a = Err a
 err_inj : (a b : AppendWhy) → failed a ≡ failed b → a ≡ b
 err_inj a b is = cc
 
-pub returns-in_err-make_room : goal.returns-in_err-make_room
-returns-in_err-make_room g c =
+pub returns-in_err-make_room-clause-adds : goal.returns-in_err-make_room-clause-adds
+returns-in_err-make_room-clause-adds g c =
     let i = c.self.inside in
     rw (c.make_room.ensures.records, ← c.self.view_is) (no_memory g.D.Disk g.met.D.Disk.only_now i.journal i.index.records.items i.index.numbers.entries _ c.from_residual.result c.self.invariant
     (err_is g.D.Disk c.from_residual.result _ c.from_residual.ensures.1))
 
-pub returns-in_err-position : goal.returns-in_err-position
-returns-in_err-position g c =
+pub returns-in_err-position-clause-adds : goal.returns-in_err-position-clause-adds
+returns-in_err-position-clause-adds g c =
     let i = c.self.inside in
     let a = c.in_err-position.field-0.0 in
     let e = c.in_err-position.ensures in
@@ -42,8 +42,8 @@ invariant_of-self-2 g c =
     (λ full. absurd (let both = sym was ∙ c.append.ensures.full full in cc))
     (HasCause-weaker (g.D.Disk.faults i.journal.disk) (g.D.Disk.faults c.append.new.self.disk) (IsErrOf c.append.result append.Fault) ⊥ c.append.ensures.counts (λ none. absurd none))).0
 
-pub returns : goal.returns
-returns g c =
+pub returns-clause-adds : goal.returns-clause-adds
+returns-clause-adds g c =
     let i = c.self.inside in
     let e = c.in_ok-position.ensures in
     let was : c.append.result ≡ Ok c.in_ok-position.position = c.in_ok-position.was in

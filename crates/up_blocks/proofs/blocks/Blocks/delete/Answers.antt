@@ -29,4 +29,4 @@ returns-clause-deletes g c =
     let r = c.args.reference.now in
     let held : holds c.args.self.now.log r ≡ c.holds.result =
     sym (ap (λ s. holds s.log r) c.self.view_is) ∙ sym (index_holds (log_seen i.journal.log i.index.records.items) i.index.records.items i.index.numbers.entries r c.self.invariant.index) ∙ sym c.holds.ensures in
-    record { missing = λ none. absurd (true_false (sym (sym none ∙ held ∙ c.if-not-holds.false))); held = λ _. c.take_out.ensures }
+    record { missing = λ none. absurd (true_false (sym (sym none ∙ held ∙ c.if-not-holds.false))); held = λ _. c.take_out.ensures.adds }

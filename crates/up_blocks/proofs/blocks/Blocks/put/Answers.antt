@@ -40,7 +40,7 @@ returns-in-Ok-clause-puts g c =
       fresh = λ _. (
         Ok c.in-Ok.field-0,
         ap Ok c.of-reference.ensures,
-        subst (λ r. AddsBlock g.D.Disk (put_record (is_some (g.D.Disk.content c.args.self.now.disk)) bytes) c.args.self.now c.keep.new.self r) c.in-Ok.is c.keep.ensures,
+        subst (λ r. AddsBlock g.D.Disk (put_record (is_some (g.D.Disk.content c.args.self.now.disk)) bytes) c.args.self.now c.keep.new.self r) c.in-Ok.is c.keep.ensures.adds,
       );
     }
 
@@ -56,6 +56,6 @@ returns-in-Err-clause-puts g c =
       fresh = λ _. (
         Err c.in-Err.why,
         refl,
-        subst (λ r. AddsBlock g.D.Disk (put_record (is_some (g.D.Disk.content c.args.self.now.disk)) bytes) c.args.self.now c.keep.new.self r) c.in-Err.is c.keep.ensures,
+        subst (λ r. AddsBlock g.D.Disk (put_record (is_some (g.D.Disk.content c.args.self.now.disk)) bytes) c.args.self.now c.keep.new.self r) c.in-Err.is c.keep.ensures.adds,
       );
     }
