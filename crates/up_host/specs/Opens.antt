@@ -35,13 +35,13 @@ store_limits limits = record { records = limits.records; device = limits.device;
 -- It was opened, and did not fail.
 pub record IsLogOn {D R : Type 0} (disks : Ghosts D) (read : Reader R) (limits : Limits) (disk : D) (log : LogState D R) : Type 0 where
   pub opens : OpensLog disks read limits disk log
-  pub opened : IsOpened disks limits.largest disk log.disk
+  pub opened : IsOpened disks limits.largest disk log.disk ⊥
   pub counts : HasCause (disks.faults disk) (disks.faults log.disk) ⊥
 
 -- It was refused. It failed where the fault says so.
 pub record IsNoLog {D R : Type 0} (disks : Ghosts D) (read : Reader R) (limits : Limits) (disk : D) (fault : OpenFault D) : Type 0 where
   pub refuses : RefusesLog disks read limits disk fault
-  pub opened : IsOpened disks limits.largest disk fault.disk
+  pub opened : IsOpened disks limits.largest disk fault.disk (fault.why ≡ why.Fault)
   pub counts : HasCause (disks.faults disk) (disks.faults fault.disk) (fault.why ≡ why.Fault)
 
 -- it was opened as the tree of an owner, whose base is its length

@@ -166,7 +166,7 @@ impl<D: Disk + Drop> Peer for TreePeer<D> {
 
     ghost fault_count = { λ peer. peer.faults };
 
-    #[tactic(auto, using(crate::proofs::PeerLemmas::counts_after))]
+    #[tactic(auto, using(crate::proofs::PeerLemmas::counts_after, crate::proofs::PeerLemmas::quiet_after))]
     fn load(&mut self, alloc: Global, group: &Path) -> Result<PeerAnswer, AllocError>
         ensures answer { IfOk result (λ answer. answer ≡ peer_answer
             (group_text_by self.old.host.trees self.old.asker group.now)) }
@@ -185,7 +185,7 @@ impl<D: Disk + Drop> Peer for TreePeer<D> {
         self.note(alloc, question, answer)
     }
 
-    #[tactic(auto, using(crate::proofs::PeerLemmas::counts_after))]
+    #[tactic(auto, using(crate::proofs::PeerLemmas::counts_after, crate::proofs::PeerLemmas::quiet_after))]
     fn fetch(&mut self, alloc: Global, reference: &Reference) -> Result<PeerAnswer, AllocError>
         ensures answer { AsksStore D.Disk reference.now self.old.host self.new.host result }
         ensures asker { self.new.asker ≡ self.old.asker }

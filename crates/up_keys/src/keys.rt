@@ -94,7 +94,8 @@ impl<D: Disk> Keys<D> {
         requires room { largest_room ≤ limits.largest }
         ensures opens { IfOk result (OpensLog D.Disk records_in limits disk) }
         ensures refuses { IfErr result (RefusesLog D.Disk records_in limits disk) }
-        ensures opened { IsOpened D.Disk limits.largest disk (disk_after result) }
+        ensures opened { IsOpened D.Disk limits.largest disk (disk_after result)
+            (IsRefusedFor result OpenWhy.Fault) }
         ensures counts { HasCause (D.faults disk) (D.faults (disk_after result))
             (IsRefusedFor result OpenWhy.Fault) }
     {
