@@ -12,12 +12,14 @@ use up_lists::Items;
 /// The bytes of a frame's length.
 const HEAD: usize = 4;
 
-/// What is at the front of bytes: a whole frame with a payload of so many bytes, less than one, or a
-/// length that no frame has.
-#[derive(Clone, Copy)]
-enum Front {
+/// What is at the front of bytes.
+#[derive(Clone, Copy, Debug, PartialEq, Eq)]
+pub enum Front {
+    /// A whole frame, with a payload of so many bytes behind its four bytes of length.
     Whole(usize),
+    /// Less than a whole frame.
     Partial,
+    /// A length that is 0 or over the limit: no frame begins here.
     Bad,
 }
 
@@ -30,7 +32,8 @@ fn told_by(bytes: &[u8]) -> u32
     u32::from_be_bytes([head[0], head[1], head[2], head[3]])
 }
 
-fn front_of(limit: u64, bytes: &[u8]) -> Front
+/// What is at the front of the bytes, where a payload has at most `limit` bytes. It takes no memory.
+pub fn front_of(limit: u64, bytes: &[u8]) -> Front
     ensures { IsFront limit bytes.now result }
 {
     if bytes.len() < HEAD {
