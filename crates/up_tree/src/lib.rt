@@ -4,6 +4,7 @@
 //! children of a directory and the texts of its control files are those that the log gives, now or after any number of its records.
 //! `open` opens a device as such a log or says what is wrong with it, `fits` says whether a record fits as the next one, and `apply`
 //! adds it: from then on each crash leaves the log with it, and a crash before that leaves the log, or the log with it.
+//! The disk's count of faults rises in no call that answers anything but a fault (`quiet`).
 #![tactic(auto)]
 
 mod old;
