@@ -1,8 +1,8 @@
 //! The records of users, kept over a journal.
-ghost use Rattle.std.specs.Prelude.{◌≡◌, ◌≤◌, ◌<◌, Some, true, false, length, IfErr, IfOk, IsErr, IsOk, OnOk, slice_get, vec_capacity, vec_len};
+ghost use Rattle.std.specs.Prelude.{◌≡◌, ◌≤◌, ◌<◌, Some, true, false, length, is_some, IfErr, IfOk, IsErr, IsErrOf, IsOk, IsSome, OnOk, slice_get, vec_capacity, vec_len};
 ghost use Rattle.std.specs.Option.{option_copied};
 ghost use Rattle.up_ends.specs.Growing.{OnlyGrows};
-ghost use Rattle.up_lists.specs.Counts.{HasCause};
+ghost use Rattle.up_lists.specs.Counts.{HasCause, StaysUnless};
 ghost use Rattle.up_disk.specs.Leaving.{LeavesNow};
 ghost use Rattle.up_journal.specs.Crashes.{IsOpened};
 ghost use Rattle.up_journal.specs.Journal.{AreLimits};
@@ -98,6 +98,8 @@ impl<D: Disk> Keys<D> {
             (IsRefusedFor result OpenWhy.Fault) }
         ensures counts { HasCause (D.faults disk) (D.faults (disk_after result))
             (IsRefusedFor result OpenWhy.Fault) }
+        ensures quiet { StaysUnless (D.faults disk) (D.faults (disk_after result))
+            (IsRefusedFor result OpenWhy.Fault) }
     {
         let mut journal = match Journal::open(alloc, disk, limits) {
             Ok(journal) => journal,
@@ -129,6 +131,8 @@ impl<D: Disk> Keys<D> {
         ensures fitting { EachFits fits self.now.log }
         ensures limits { AreLimits self.now.limits }
         ensures room { largest_room ≤ self.now.limits.largest }
+        ensures doubtful { IsSome (D.content self.now.disk)
+            → is_some self.now.further ≡ self.now.doubtful }
         ensures safe { LeavesNow D.Disk self.now.disk
             (StandsForLog (records_in self.now.limits.largest) self.now.log self.now.further) }
     {
@@ -151,6 +155,8 @@ impl<D: Disk> Keys<D> {
     pub fn put(&mut self, card: KeyRecord) -> Result<u64, AppendWhy>
         requires { has_bounds card ≡ true }
         ensures puts { PutsRecord D.Disk card self.old self.new result }
+        ensures quiet { StaysUnless (D.faults self.old.disk) (D.faults self.new.disk)
+            (IsErrOf result AppendWhy.Fault) }
         ensures grows { OnlyGrows log_of (λ keys. D.faults keys.disk) limits_of self.old self.new }
     {
         self.add(card)
@@ -159,7 +165,9 @@ impl<D: Disk> Keys<D> {
     // Adds a record. The records are changed last, by what cannot fail.
     fn add(&mut self, card: KeyRecord) -> Result<u64, AppendWhy>
         requires { has_bounds card ≡ true }
-        ensures { PutsRecord D.Disk card self.old self.new result }
+        ensures puts { PutsRecord D.Disk card self.old self.new result }
+        ensures quiet { StaysUnless (D.faults self.old.disk) (D.faults self.new.disk)
+            (IsErrOf result AppendWhy.Fault) }
     {
         let (user, payload) = made_ready(&mut self.records, &mut self.last, &card)?;
         let position = self.journal.append(payload.as_slice())?;
@@ -172,6 +180,7 @@ impl<D: Disk> Keys<D> {
         ensures resolves { ResolvesLog D.Disk records_in self.old self.new result }
         ensures untouched { self.old.doubtful ≡ false → IsOk result × (self.new ≡ self.old) }
         ensures cause { HasCause (D.faults self.old.disk) (D.faults self.new.disk) (IsErr result) }
+        ensures quiet { StaysUnless (D.faults self.old.disk) (D.faults self.new.disk) (IsErr result) }
         ensures grows { OnlyGrows log_of (λ keys. D.faults keys.disk) limits_of self.old self.new }
     {
         self.journal.resolve()

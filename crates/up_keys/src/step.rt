@@ -1,7 +1,7 @@
 //! What a key server answers to a request.
 ghost use Rattle.std.specs.Prelude.{◌≡◌, ◌≢◌, IfOk};
 ghost use Rattle.up_ends.specs.Growing.{OnlyGrows};
-ghost use Rattle.up_lists.specs.Counts.{HasCause};
+ghost use Rattle.up_lists.specs.Counts.{HasCause, StaysUnless};
 ghost use Rattle.up_keys.specs.Answers.{IsAsked, KeySteps, PutsAsked, ToPut, looked_up, may_put, put_reply, to_put};
 ghost use Rattle.up_keys.specs.Keys.{limits_of, log_of};
 
@@ -24,6 +24,7 @@ pub fn key_step<D: Disk>(keys: &mut Keys<D>, user: &User, request: &Request) -> 
     requires { IsAsked request.now }
     ensures steps { KeySteps D.Disk user.now request.now keys.old keys.new result }
     ensures cause { HasCause (D.faults keys.old.disk) (D.faults keys.new.disk) (result ≡ Reply.Io) }
+    ensures quiet { StaysUnless (D.faults keys.old.disk) (D.faults keys.new.disk) (result ≡ Reply.Io) }
     ensures grows { OnlyGrows log_of (λ keys. D.faults keys.disk) limits_of keys.old keys.new }
 {
     match request {
@@ -66,6 +67,7 @@ fn looked_up<D: Disk>(alloc: Global, keys: &Keys<D>, text: &[u8]) -> Reply
 fn put<D: Disk>(keys: &mut Keys<D>, user: &User, card: &KeyCard) -> Reply
     ensures steps { PutsAsked D.Disk (to_put user.now card.now) keys.old keys.new result }
     ensures cause { HasCause (D.faults keys.old.disk) (D.faults keys.new.disk) (result ≡ Reply.Io) }
+    ensures quiet { StaysUnless (D.faults keys.old.disk) (D.faults keys.new.disk) (result ≡ Reply.Io) }
     ensures grows { OnlyGrows log_of (λ keys. D.faults keys.disk) limits_of keys.old keys.new }
 {
     let _position = keys.position();

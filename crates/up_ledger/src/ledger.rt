@@ -1,8 +1,8 @@
 //! A ledger: a balance that is kept over a journal.
-ghost use Rattle.std.specs.Prelude.{◌≡◌, ◌≤◌, ◌+◌, ◌-◌, ◌↔◌, Some, false, length, is_ok, if◌then◌else◌, IfErr, IfOk, IsErr, IsOk, IsTrue, OnOk, slice_get};
+ghost use Rattle.std.specs.Prelude.{◌≡◌, ◌≤◌, ◌+◌, ◌-◌, ◌↔◌, Some, false, length, is_ok, is_some, if◌then◌else◌, IfErr, IfOk, IsErr, IsErrOf, IsOk, IsSome, IsTrue, OnOk, slice_get};
 ghost use Rattle.std.specs.Option.{option_copied};
 ghost use Rattle.up_ends.specs.Growing.{OnlyGrows};
-ghost use Rattle.up_lists.specs.Counts.{HasCause};
+ghost use Rattle.up_lists.specs.Counts.{HasCause, StaysUnless};
 ghost use Rattle.up_disk.specs.Leaving.{LeavesNow};
 ghost use Rattle.up_journal.specs.Crashes.{IsOpened};
 ghost use Rattle.up_journal.specs.Journal.{AreLimits};
@@ -68,8 +68,11 @@ impl<D: Disk> Ledger<D> {
         requires room { largest_record ≤ limits.largest }
         ensures opens { IfOk result (OpensLog D.Disk entries_in limits disk) }
         ensures refuses { IfErr result (RefusesLog D.Disk entries_in limits disk) }
-        ensures opened { IsOpened D.Disk limits.largest disk (disk_after result) }
+        ensures opened { IsOpened D.Disk limits.largest disk (disk_after result)
+            (IsRefusedFor result OpenWhy.Fault) }
         ensures counts { HasCause (D.faults disk) (D.faults (disk_after result))
+            (IsRefusedFor result OpenWhy.Fault) }
+        ensures quiet { StaysUnless (D.faults disk) (D.faults (disk_after result))
             (IsRefusedFor result OpenWhy.Fault) }
     {
         let mut journal = match Journal::open(alloc, disk, limits) {
@@ -101,6 +104,8 @@ impl<D: Disk> Ledger<D> {
         ensures count { result ≡ length self.now.log }
         ensures limits { AreLimits self.now.limits }
         ensures room { largest_record ≤ self.now.limits.largest }
+        ensures doubtful { IsSome (D.content self.now.disk)
+            → is_some self.now.further ≡ self.now.doubtful }
         ensures safe { LeavesNow D.Disk self.now.disk
             (StandsForLog (entries_in self.now.limits.largest) self.now.log self.now.further) }
     {
@@ -126,6 +131,8 @@ impl<D: Disk> Ledger<D> {
     /// memory no call of the disk is made. After a `Fault` the entries are as before, and one record may be doubtful.
     pub fn deposit(&mut self, amount: u64) -> Result<u64, EntryWhy>
         ensures enters { Enters D.Disk (Deposit amount) self.old self.new result }
+        ensures quiet { StaysUnless (D.faults self.old.disk) (D.faults self.new.disk)
+            (IsErrOf result EntryWhy.Fault) }
         ensures balance { balance_of self.new.log
             ≡ (if is_ok result then balance_of self.old.log + amount else balance_of self.old.log) }
         ensures grows { OnlyGrows entries_of
@@ -139,6 +146,8 @@ impl<D: Disk> Ledger<D> {
     /// the disk is made. After a `Fault` the entries are as before, and one record may be doubtful.
     pub fn withdraw(&mut self, amount: u64) -> Result<u64, EntryWhy>
         ensures enters { Enters D.Disk (Withdraw amount) self.old self.new result }
+        ensures quiet { StaysUnless (D.faults self.old.disk) (D.faults self.new.disk)
+            (IsErrOf result EntryWhy.Fault) }
         ensures balance { balance_of self.new.log
             ≡ (if is_ok result then balance_of self.old.log - amount else balance_of self.old.log) }
         ensures grows { OnlyGrows entries_of
@@ -150,6 +159,8 @@ impl<D: Disk> Ledger<D> {
     // Makes an entry. The entries are changed last, by what cannot fail.
     fn enter(&mut self, entry: Entry) -> Result<u64, EntryWhy>
         ensures enters { Enters D.Disk entry self.old self.new result }
+        ensures quiet { StaysUnless (D.faults self.old.disk) (D.faults self.new.disk)
+            (IsErrOf result EntryWhy.Fault) }
         ensures applied { OnOk result
             (applied (balance_of self.old.log) entry ≡ Some (balance_of self.new.log)) }
     {
@@ -169,6 +180,7 @@ impl<D: Disk> Ledger<D> {
         ensures resolves { ResolvesLog D.Disk entries_in self.old self.new result }
         ensures untouched { self.old.doubtful ≡ false → IsOk result × (self.new ≡ self.old) }
         ensures cause { HasCause (D.faults self.old.disk) (D.faults self.new.disk) (IsErr result) }
+        ensures quiet { StaysUnless (D.faults self.old.disk) (D.faults self.new.disk) (IsErr result) }
         ensures grows { OnlyGrows entries_of
             (λ ledger. D.faults ledger.disk) limits_of self.old self.new }
     {

@@ -1,6 +1,6 @@
 //! The entries of a journal's records.
 ghost use Rattle.std.specs.Prelude.{◌≡◌, ◌++◌, ◌∷◌, [], ℕ, List, Ok, Err, Some, None, true, false, length, IfErr, IfOk, IsErrOf, OnOk};
-ghost use Rattle.up_lists.specs.Counts.{HasCause};
+ghost use Rattle.up_lists.specs.Counts.{HasCause, StaysUnless};
 ghost use Rattle.up_journal.specs.Logs.{log_step};
 ghost use Rattle.up_journal.specs.Opened.{IsDamageOf};
 ghost use Rattle.up_journal.specs.Records.{OnlyPayloads, replay};
@@ -53,6 +53,8 @@ pub fn replay<D: Disk>(alloc: Global, journal: &mut Journal<D>) -> Result<Run, O
         (IsDamageOf (replay (log_step entry_of fits) []) journal.old.log) }
     ensures read { OnlyPayloads D.Disk journal.old journal.new }
     ensures counts { HasCause (D.faults journal.old.disk) (D.faults journal.new.disk)
+        (IsErrOf result OpenWhy.Fault) }
+    ensures quiet { StaysUnless (D.faults journal.old.disk) (D.faults journal.new.disk)
         (IsErrOf result OpenWhy.Fault) }
 {
     let mut run = Run {

@@ -5,6 +5,7 @@
 //! `open` opens a device as such a log or says what is wrong with it, `fits` says whether a record fits as the next one, and `apply`
 //! adds it: from then on each crash leaves the log with it, and a crash before that leaves the log, or the log with it or with a record
 //! that was doubtful before, as far as the disk tells what a crash leaves.
+//! The disk's count of faults rises in no call that answers anything but a fault (`quiet`).
 #![tactic(auto)]
 
 mod old;

@@ -1,7 +1,7 @@
 //! The tree of a journal's records.
 ghost use Rattle.std.specs.Prelude.{◌≡◌, ◌++◌, ◌∷◌, [], ℕ, List, Ok, Some, None, true, false, length, IfErr, IfOk, IfSome, IsErrOf, OnOk};
 ghost use Rattle.up_entry.specs.Spelling as spelling;
-ghost use Rattle.up_lists.specs.Counts.{HasCause};
+ghost use Rattle.up_lists.specs.Counts.{HasCause, StaysUnless};
 ghost use Rattle.up_journal.specs.Logs.{log_step};
 ghost use Rattle.up_journal.specs.Opened.{IsDamageOf};
 ghost use Rattle.up_journal.specs.Records.{OnlyPayloads, replay};
@@ -102,6 +102,8 @@ fn take_all<D: Disk>(
     ensures read { OnlyPayloads D.Disk journal.old journal.new }
     ensures counts { HasCause (D.faults journal.old.disk) (D.faults journal.new.disk)
         (IsErrOf result OpenWhy.Fault) }
+    ensures quiet { StaysUnless (D.faults journal.old.disk) (D.faults journal.new.disk)
+        (IsErrOf result OpenWhy.Fault) }
 {
     for n in 0..journal.len() {
         let payload = journal.payload(n + 1)?;
@@ -127,6 +129,8 @@ pub fn replay<D: Disk>(
         (IsDamageOf (replay (log_step record_in (fits owner)) []) journal.old.log) }
     ensures read { OnlyPayloads D.Disk journal.old journal.new }
     ensures counts { HasCause (D.faults journal.old.disk) (D.faults journal.new.disk)
+        (IsErrOf result OpenWhy.Fault) }
+    ensures quiet { StaysUnless (D.faults journal.old.disk) (D.faults journal.new.disk)
         (IsErrOf result OpenWhy.Fault) }
 {
     let mut tree = MemTree::new(alloc, owner);

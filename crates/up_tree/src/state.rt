@@ -1,11 +1,11 @@
 //! A tree over its log.
-ghost use Rattle.std.specs.Prelude.{◌≡◌, ◌≤◌, false, length, option_map, slice_get, is_some, IfErr, IfOk, IsErr, IsOk, IsSome, Ok, OnOk, Some};
+ghost use Rattle.std.specs.Prelude.{◌≡◌, ◌≤◌, false, length, option_map, slice_get, is_some, IfErr, IfOk, IsErr, IsErrOf, IsOk, IsSome, Ok, OnOk, Some};
 ghost use Rattle.std.specs.Option.{option_copied};
 ghost use Rattle.up_ends.specs.Growing.{OnlyGrows};
 ghost use Rattle.up_entry.specs.Reading.{rec_of};
 ghost use Rattle.up_entry.specs.Spelling as spelling;
 ghost use Rattle.up_entry.specs.Spelling.{IsSpelledRec};
-ghost use Rattle.up_lists.specs.Counts.{HasCause};
+ghost use Rattle.up_lists.specs.Counts.{HasCause, StaysUnless};
 ghost use Rattle.up_disk.specs.Leaving.{LeavesNow};
 ghost use Rattle.up_journal.specs.Crashes.{IsOpened};
 ghost use Rattle.up_journal.specs.Journal.{AreLimits};
@@ -90,6 +90,8 @@ impl<D: Disk> TreeState<D> {
         ensures opened { IsOpened D.Disk limits.largest disk (disk_after result)
             (IsRefusedFor result OpenWhy.Fault) }
         ensures counts { HasCause (D.faults disk) (D.faults (disk_after result))
+            (IsRefusedFor result OpenWhy.Fault) }
+        ensures quiet { StaysUnless (D.faults disk) (D.faults (disk_after result))
             (IsRefusedFor result OpenWhy.Fault) }
     {
         let mut journal = match Journal::open(alloc, disk, limits) {
@@ -270,6 +272,8 @@ impl<D: Disk> TreeState<D> {
         requires fits { Fits self.old.owner self.old.log rec }
         requires size { size_of rec ≤ self.old.limits.largest }
         ensures applies { Applies D.Disk rec self.old self.new result }
+        ensures quiet { StaysUnless (D.faults self.old.disk) (D.faults self.new.disk)
+            (IsErrOf result AppendWhy.Fault) }
         ensures grows { OnlyGrows entries_of
             (λ state. D.faults state.disk) fixed_of self.old self.new }
     {
@@ -280,7 +284,9 @@ impl<D: Disk> TreeState<D> {
     fn add(&mut self, rec: Rec) -> Result<u64, AppendWhy>
         requires fits { Fits self.old.owner self.old.log rec }
         requires size { size_of rec ≤ self.old.limits.largest }
-        ensures { Applies D.Disk rec self.old self.new result }
+        ensures applies { Applies D.Disk rec self.old self.new result }
+        ensures quiet { StaysUnless (D.faults self.old.disk) (D.faults self.new.disk)
+            (IsErrOf result AppendWhy.Fault) }
     {
         let payload = made_ready(&mut self.tree, rec)?;
         let position = self.journal.append(payload.as_slice())?;
@@ -293,6 +299,7 @@ impl<D: Disk> TreeState<D> {
         ensures resolves { Resolves D.Disk self.old self.new result }
         ensures untouched { self.old.doubtful ≡ false → IsOk result × (self.new ≡ self.old) }
         ensures cause { HasCause (D.faults self.old.disk) (D.faults self.new.disk) (IsErr result) }
+        ensures quiet { StaysUnless (D.faults self.old.disk) (D.faults self.new.disk) (IsErr result) }
         ensures grows { OnlyGrows entries_of
             (λ state. D.faults state.disk) fixed_of self.old self.new }
     {

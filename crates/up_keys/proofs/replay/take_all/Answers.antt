@@ -6,7 +6,7 @@ use Rattle.up_journal.specs.Records.{replay}
 use Rattle.up_keys.proofs.Damages.{memory_damage, read_damage}
 use Rattle.up_journal.proofs.Logs.{fits_step}
 use Rattle.up_journal.proofs.Records.{next_damaged, next_read, payload_read, size_seen, take_next}
-use Rattle.up_lists.proofs.Causes.{HasCause-then, HasCause-weaker}
+use Rattle.up_lists.proofs.Causes.{HasCause-then, HasCause-weaker, StaysUnless-more, StaysUnless-then}
 use Rattle.up_keys.specs.Records.{decoded, fits}
 use Rattle.up_keys.specs.Keys.{sizes_of}
 use Rattle.up_keys.proofs.replay.take_all.Goals as goal
@@ -39,6 +39,8 @@ loop-n-preserved g c =
       read = payload_read g.D.Disk old mid c.payload.new.self i.read e.unchanged e.content e.fewer e.crash;
       counts = HasCause-then (g.D.Disk.faults old.disk) (g.D.Disk.faults mid.disk) (g.D.Disk.faults c.payload.new.self.disk) ⊥ ⊥ i.counts
           (HasCause-weaker (g.D.Disk.faults mid.disk) (g.D.Disk.faults c.payload.new.self.disk) (IsErrOf c.payload.result read_why.Fault) ⊥ e.counts (λ none. absurd none));
+      quiet = StaysUnless-then (g.D.Disk.faults old.disk) (g.D.Disk.faults mid.disk) (g.D.Disk.faults c.payload.new.self.disk) ⊥ ⊥ ⊥ i.quiet (λ none. none)
+          (StaysUnless-more (g.D.Disk.faults mid.disk) (g.D.Disk.faults c.payload.new.self.disk) (IsErrOf c.payload.result read_why.Fault) ⊥ e.quiet (λ is. let both = sym c.in_ok-payload.was ∙ is in cc)) (λ none. none);
       fitting = fits_step fits decoded c.loop-n.known.records.items payload c.take.new.known.records.items i.fitting fit;
       last = c.in_ok-take.ensures.last;
       sizes = c.take.ensures.sizes taken ∙ ap (λ (l : List ℕ). sizes_of c.loop-n.known.records.items ++ length l ∷ []) c.as_slice.ensures

@@ -4,7 +4,7 @@ use Rattle.up_journal.specs.Journal.{State}
 use Rattle.up_journal.specs.declared.fault.ReadWhy.TheVariants as read_why
 use Rattle.up_journal.specs.Logs.{log_step}
 use Rattle.up_journal.proofs.Records.{next_damaged, next_read, payload_read, size_seen, take_next}
-use Rattle.up_lists.proofs.Causes.{HasCause-then, HasCause-weaker}
+use Rattle.up_lists.proofs.Causes.{HasCause-then, HasCause-weaker, StaysUnless-more, StaysUnless-then}
 use Rattle.up_ledger.specs.Entries.{entry_of, fits}
 use Rattle.up_ledger.specs.Ledger.{sizes_of}
 use Rattle.up_ledger.proofs.replay.replay.Goals as goal
@@ -37,6 +37,8 @@ loop-n-preserved g c =
       read = payload_read g.D.Disk old mid c.payload.new.self i.read e.unchanged e.content e.fewer e.crash;
       counts = HasCause-then (g.D.Disk.faults old.disk) (g.D.Disk.faults mid.disk) (g.D.Disk.faults c.payload.new.self.disk) ⊥ ⊥ i.counts
           (HasCause-weaker (g.D.Disk.faults mid.disk) (g.D.Disk.faults c.payload.new.self.disk) (IsErrOf c.payload.result read_why.Fault) ⊥ e.counts (λ none. absurd none));
+      quiet = StaysUnless-then (g.D.Disk.faults old.disk) (g.D.Disk.faults mid.disk) (g.D.Disk.faults c.payload.new.self.disk) ⊥ ⊥ ⊥ i.quiet (λ none. none)
+          (StaysUnless-more (g.D.Disk.faults mid.disk) (g.D.Disk.faults c.payload.new.self.disk) (IsErrOf c.payload.result read_why.Fault) ⊥ e.quiet (λ is. let both = sym c.in_ok-payload.was ∙ is in cc)) (λ none. none);
       run = c.in_ok-take.ensures.run;
       sizes = c.take.ensures.sizes taken ∙ ap (λ (l : List ℕ). sizes_of c.loop-n.run.entries.items ++ length l ∷ []) c.as_slice.ensures
           ∙ ap (λ (l : List ℕ). l ++ length payload ∷ []) i.sizes ∙ sym (take_next old.sizes c.loop-n.n (length payload) size);

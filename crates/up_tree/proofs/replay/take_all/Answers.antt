@@ -1,5 +1,5 @@
 use Rattle.std.proofs.Common.{◌≡◌, None, Some, Ok, true, IsErrOf, ℕ, List, [], ◌∷◌, ◌++◌, ◌≤◌, ◌∙◌, ap, sym, length, take, arith}
-use Rattle.up_lists.proofs.Causes.{HasCause-then, HasCause-weaker}
+use Rattle.up_lists.proofs.Causes.{HasCause-then, HasCause-weaker, StaysUnless-more, StaysUnless-then}
 use Rattle.up_journal.specs.Journal.{State, gate_behind}
 use Rattle.up_journal.specs.Logs.{log_step}
 use Rattle.up_journal.specs.Records.{replay}
@@ -48,6 +48,8 @@ loop-n-preserved g c =
       read = payload_read g.D.Disk old mid c.payload.new.self i.read e.unchanged e.content e.fewer e.crash;
       counts = HasCause-then (g.D.Disk.faults old.disk) (g.D.Disk.faults mid.disk) (g.D.Disk.faults c.payload.new.self.disk) ⊥ ⊥ i.counts
           (HasCause-weaker (g.D.Disk.faults mid.disk) (g.D.Disk.faults c.payload.new.self.disk) (IsErrOf c.payload.result read_why.Fault) ⊥ e.counts (λ none. absurd none));
+      quiet = StaysUnless-then (g.D.Disk.faults old.disk) (g.D.Disk.faults mid.disk) (g.D.Disk.faults c.payload.new.self.disk) ⊥ ⊥ ⊥ i.quiet (λ none. none)
+          (StaysUnless-more (g.D.Disk.faults mid.disk) (g.D.Disk.faults c.payload.new.self.disk) (IsErrOf c.payload.result read_why.Fault) ⊥ e.quiet (λ is. let both = sym c.in_ok-payload.was ∙ is in cc)) (λ none. none);
       owner = c.take.ensures.owner ∙ i.owner;
       sizes = c.take.ensures.sizes taken ∙ ap (λ (l : List ℕ). sizes_of c.loop-n.tree.log ++ length l ∷ []) c.as_slice.ensures
           ∙ ap (λ (l : List ℕ). l ++ length payload ∷ []) i.sizes ∙ sym (take_next old.sizes c.loop-n.n (length payload) size);

@@ -1,5 +1,5 @@
 use Rattle.std.proofs.Common.{◌≡◌, take, []}
-use Rattle.up_lists.specs.Counts.{HasCause}
+use Rattle.up_lists.specs.Counts.{HasCause, StaysUnless}
 use Rattle.up_journal.specs.Journal.{gate_behind}
 use Rattle.up_journal.specs.Logs.{log_step}
 use Rattle.up_journal.specs.Records.{OnlyPayloads, ReadUpTo}
@@ -13,6 +13,7 @@ invariant-loop-n g l = record {
   so_far : ReadUpTo (log_step record_in (fits l.fn.tree.owner)) [] l.fn.journal.log l.n (gate_behind (take l.n l.fn.journal.sizes)) l.tree.log;
   read : OnlyPayloads g.D.Disk l.fn.journal l.journal;
   counts : HasCause (g.D.Disk.faults l.fn.journal.disk) (g.D.Disk.faults l.journal.disk) ⊥;
+  quiet : StaysUnless (g.D.Disk.faults l.fn.journal.disk) (g.D.Disk.faults l.journal.disk) ⊥;
   owner : l.tree.owner ≡ l.fn.tree.owner;
   sizes : sizes_of l.tree.log ≡ take l.n l.fn.journal.sizes;
 }

@@ -13,14 +13,14 @@ failed a = Err a
 err_inj : (a b : AppendWhy) → failed a ≡ failed b → a ≡ b
 err_inj a b is = cc
 
-pub returns-in_err-user : goal.returns-in_err-user
-returns-in_err-user g c =
+pub returns-in_err-user-clause-puts : goal.returns-in_err-user-clause-puts
+returns-in_err-user-clause-puts g c =
     let i = c.self.inside in
     rw (c.made_ready.ensures.records, ← c.self.view_is) (no_memory g.D.Disk g.met.D.Disk.only_now i.journal i.records.items i.last.entries c.args.card c.from_residual.result c.self.invariant
     (err_is c.from_residual.result _ c.from_residual.ensures.1))
 
-pub returns-in_err-position : goal.returns-in_err-position
-returns-in_err-position g c =
+pub returns-in_err-position-clause-puts : goal.returns-in_err-position-clause-puts
+returns-in_err-position-clause-puts g c =
     let i = c.self.inside in
     let a = c.in_err-position.field-0.0 in
     let e = c.in_err-position.ensures in
@@ -47,8 +47,8 @@ invariant_of-self-2 g c =
     (λ full. absurd (let both = sym was ∙ c.append.ensures.full full in cc))
     (HasCause-weaker (g.D.Disk.faults i.journal.disk) (g.D.Disk.faults c.append.new.self.disk) (IsErrOf c.append.result append.Fault) ⊥ c.append.ensures.counts (λ none. absurd none))).0
 
-pub returns : goal.returns
-returns g c =
+pub returns-clause-puts : goal.returns-clause-puts
+returns-clause-puts g c =
     let i = c.self.inside in
     let e = c.in_ok-position.ensures in
     let m = c.in_ok-user.ensures in

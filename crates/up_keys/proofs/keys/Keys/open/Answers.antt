@@ -1,7 +1,7 @@
 use Rattle.std.proofs.Common.{◌≡◌}
-use Rattle.up_journal.proofs.Records.{opened_and_read}
-use Rattle.up_journal.specs.declared.fault.OpenWhy.TheVariants as why
 use Rattle.up_journal.proofs.Logs.{opens_log, refuses_opened, refuses_read}
+use Rattle.up_journal.proofs.Records.{opened_and_read}
+use Rattle.up_journal.specs.declared.fault.OpenWhy.TheVariants as open_why
 use Rattle.up_keys.specs.Records.{decoded, fits}
 use Rattle.up_wire.specs.Keys.{logged}
 use Rattle.up_keys.proofs.keys.Keys.open.Goals as goal
@@ -32,4 +32,4 @@ pub returns-in-Err-replay-clause-opened : goal.returns-in-Err-replay-clause-open
 returns-in-Err-replay-clause-opened g c =
     let e = c.in-Ok.ensures in
     rw c.into_disk.ensures.disk
-    (opened_and_read g.D.Disk c.args.disk c.in-Ok.journal c.replay.new.journal c.args.limits (c.in-Err-replay.why ≡ why.Fault) e.log e.settled.nothing e.limits e.opened c.replay.ensures.read)
+    (opened_and_read g.D.Disk c.args.disk c.in-Ok.journal c.replay.new.journal c.args.limits (c.in-Err-replay.why ≡ open_why.Fault) e.log e.settled.nothing e.limits e.opened c.replay.ensures.read)

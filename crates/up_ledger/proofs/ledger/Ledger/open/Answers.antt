@@ -1,4 +1,7 @@
+use Rattle.std.proofs.Common.{◌≡◌}
 use Rattle.up_journal.proofs.Logs.{opens_log, refuses_opened, refuses_read}
+use Rattle.up_journal.proofs.Records.{opened_and_read}
+use Rattle.up_journal.specs.declared.fault.OpenWhy.TheVariants as open_why
 use Rattle.up_ledger.specs.Entries.{entry_of, fits, record_of}
 use Rattle.up_ledger.proofs.ledger.Ledger.open.Goals as goal
 
@@ -18,3 +21,14 @@ returns-in-Err-replay-clause-refuses g c =
     let e = c.in-Ok.ensures in
     rw c.into_disk.ensures.disk
     (refuses_read g.D.Disk entry_of fits c.args.disk c.args.limits c.in-Ok.journal c.replay.new.journal c.in-Err-replay.why e.log e.safe c.in-Err-replay.ensures.damaged c.replay.ensures.read)
+
+pub returns-in-Ok-replay-clause-opened : goal.returns-in-Ok-replay-clause-opened
+returns-in-Ok-replay-clause-opened g c =
+    let e = c.in-Ok.ensures in
+    opened_and_read g.D.Disk c.args.disk c.in-Ok.journal c.replay.new.journal c.args.limits ⊥ e.log e.settled.nothing e.limits e.opened c.replay.ensures.read
+
+pub returns-in-Err-replay-clause-opened : goal.returns-in-Err-replay-clause-opened
+returns-in-Err-replay-clause-opened g c =
+    let e = c.in-Ok.ensures in
+    rw c.into_disk.ensures.disk
+    (opened_and_read g.D.Disk c.args.disk c.in-Ok.journal c.replay.new.journal c.args.limits (c.in-Err-replay.why ≡ open_why.Fault) e.log e.settled.nothing e.limits e.opened c.replay.ensures.read)

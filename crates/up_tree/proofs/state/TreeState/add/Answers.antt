@@ -12,8 +12,8 @@ use Rattle.up_tree.proofs.Applying.{applied, err_is, log_entered, no_memory, not
 use Rattle.up_tree.proofs.state.TreeState.add.Given.{Over}
 use Rattle.up_tree.proofs.state.TreeState.add.Goals as goal
 
-pub returns-in_err-payload : goal.returns-in_err-payload
-returns-in_err-payload g c =
+pub returns-in_err-payload-clause-applies : goal.returns-in_err-payload-clause-applies
+returns-in_err-payload-clause-applies g c =
     let i = c.self.inside in
     rw (c.made_ready.ensures.owner, c.made_ready.ensures.log, ← c.self.view_is) (no_memory g.D.Disk i.tree.owner g.met.D.Disk.only_now i.journal i.tree.log c.args.rec c.from_residual.result c.self.invariant.keeps
     (err_is c.from_residual.result _ c.from_residual.ensures.1))
@@ -46,8 +46,8 @@ invariant_of-self-in_err-position g c = rw (c.made_ready.ensures.owner, c.made_r
   limits_are = c.self.invariant.limits_are ∙ sym c.in_err-position.ensures.limits;
 })
 
-pub returns-in_err-position : goal.returns-in_err-position
-returns-in_err-position g c = rw (err_is c.from_residual-in_err-position.result _ c.from_residual-in_err-position.ensures.1, c.made_ready.ensures.owner, c.made_ready.ensures.log, ← c.self.view_is) (after_refusal g c).1
+pub returns-in_err-position-clause-applies : goal.returns-in_err-position-clause-applies
+returns-in_err-position-clause-applies g c = rw (err_is c.from_residual-in_err-position.result _ c.from_residual-in_err-position.ensures.1, c.made_ready.ensures.owner, c.made_ready.ensures.log, ← c.self.view_is) (after_refusal g c).1
 
 -- after it has appended the record
 after_append : (g : Over) (c : goal.After-drop-payload-inside-2 g)
@@ -75,5 +75,5 @@ invariant_of-self-2 g c = rw (c.enter.ensures.owner, c.made_ready.ensures.owner,
   limits_are = c.self.invariant.limits_are ∙ sym c.in_ok-position.ensures.limits;
 })
 
-pub returns : goal.returns
-returns g c = rw (c.enter.ensures.owner, c.made_ready.ensures.owner, entered g c, ← c.self.view_is) (after_append g c).1
+pub returns-clause-applies : goal.returns-clause-applies
+returns-clause-applies g c = rw (c.enter.ensures.owner, c.made_ready.ensures.owner, entered g c, ← c.self.view_is) (after_append g c).1
