@@ -58,11 +58,7 @@ impl Topic for ClientLines {
 }
 
 // `row HEX HEX`: a row of the request and the reply that these messages carry; `nomemory` is the reply that has none.
-fn row_line(
-    alloc: Global,
-    rows: &mut Items<(Request, Reply)>,
-    mut words: Words<'_>,
-) -> Option<()> {
+fn row_line(alloc: Global, rows: &mut Items<(Request, Reply)>, mut words: Words<'_>) -> Option<()> {
     let request = match read_client(alloc, words.digits(alloc)?.as_slice()).ok()? {
         ClientFrame::Ask(request) => request,
         _ => return None,
@@ -100,7 +96,8 @@ fn kept_line(
 fn add_block(alloc: Global, rows: &mut Items<(Request, Reply)>, block: &[u8]) -> Option<()> {
     let reference = Reference::of(block);
     let put = Request::StorePut(copy_of(alloc, block).ok()?);
-    rows.push((put, Reply::Ok(Done::Reference(reference)))).ok()?;
+    rows.push((put, Reply::Ok(Done::Reference(reference))))
+        .ok()?;
     let get = Request::Get(Items::from_vec(reference.text(alloc).ok()?.into_bytes()));
     let given = Reply::Ok(Done::Bytes(copy_of(alloc, block).ok()?));
     rows.push((get, given)).ok()

@@ -331,7 +331,11 @@ fn ask<L: Loader>(
         ("remote", rest) => remote_request(alloc, &user, Words::new(rest))?,
         _ => read_request(alloc, words.spelled(alloc)?.as_slice(), &user).ok()??,
     };
-    add_event(alloc, &event_of(alloc, host, loader, &session, &request), answer);
+    add_event(
+        alloc,
+        &event_of(alloc, host, loader, &session, &request),
+        answer,
+    );
     Some(())
 }
 

@@ -37,7 +37,9 @@ pub fn disk_turn(
             add_content(alloc, disk, answer)
         }
         "raw" => raw_line(alloc, disk, words, answer),
-        "fail" | "crash" | "image" | "note" | "watch" => begin_line(alloc, disk, keyword, words, answer),
+        "fail" | "crash" | "image" | "note" | "watch" => begin_line(
+            alloc, disk, keyword, words, answer,
+        ),
         "kept" | "noted" => {
             for kept in &disk.noted {
                 add_image(alloc, kept.image(0).ok()?, keyword, words, answer)?;
@@ -216,12 +218,7 @@ fn add_image(
 
 // What was counted: `calls`; `reads` with the place and the bytes of the last one; `thrice` whether some byte was read more than twice.
 // `digest`: the digest of all bytes of the disk. `lists` and `hooks` are about a list of disks and a disk with a hook.
-fn count_line(
-    alloc: Global,
-    disk: &mut Watched,
-    keyword: &str,
-    answer: &mut Answer,
-) -> Option<()> {
+fn count_line(alloc: Global, disk: &mut Watched, keyword: &str, answer: &mut Answer) -> Option<()> {
     match keyword {
         "calls" => answer.counted("calls", disk.calls),
         "reads" => {

@@ -137,12 +137,7 @@ fn add_children(tree: &TreeState<Watched>, dir: &Path, answer: &mut Answer) {
     }
 }
 
-fn add_under(
-    tree: &TreeState<Watched>,
-    path: &Path,
-    n: u64,
-    answer: &mut Answer,
-) -> Option<()> {
+fn add_under(tree: &TreeState<Watched>, path: &Path, n: u64, answer: &mut Answer) -> Option<()> {
     answer.word("under");
     let found = tree.changes_under(path, n).ok()?;
     for position in found.as_slice() {

@@ -93,12 +93,7 @@ fn write_line(alloc: Global, words: Words<'_>, answer: &mut Answer) -> Option<()
 }
 
 // `byte:N`, `text:HEX`, `raw:HEX`, and `first:N` to keep the first N bytes alone.
-fn write_field(
-    alloc: Global,
-    kind: &str,
-    mut value: Words<'_>,
-    out: &mut Writer,
-) -> Option<()> {
+fn write_field(alloc: Global, kind: &str, mut value: Words<'_>, out: &mut Writer) -> Option<()> {
     match kind {
         "byte" => out.byte(u8::try_from(value.number()?).ok()?).ok(),
         "text" => out.text(value.digits(alloc)?.as_slice()).ok(),
@@ -118,7 +113,13 @@ fn read_line(alloc: Global, mut words: Words<'_>, answer: &mut Answer) -> Option
     let mut input = Reader::new(bytes.as_slice());
     for field in words.rest?.split(' ') {
         let (kind, size) = field.split_once(':').unwrap_or((field, "0"));
-        if let Err(fault) = take_field(alloc, kind, read_num(size.as_bytes())?, &mut input, answer) {
+        if let Err(fault) = take_field(
+            alloc,
+            kind,
+            read_num(size.as_bytes())?,
+            &mut input,
+            answer,
+        ) {
             answer.spoken(&fault);
         }
         answer.part();
