@@ -12,6 +12,7 @@ use Rattle.up_entry.specs.Showing.{shown_as}
 use Rattle.up_policy.proofs.PathLists.{no_member, Contains-cons, Contains-head, Contains-behind}
 use Rattle.up_wire.specs.declared.replies.Reply.{Reply}
 use Rattle.up_wire.specs.declared.replies.Reply.TheVariants as reply
+use Rattle.up_wire.specs.declared.replies.Done.{Done}
 use Rattle.up_wire.specs.declared.replies.Done.TheVariants as done
 use Rattle.up_replay.specs.declared.node.Node.{Node}
 use Rattle.up_replay.specs.Trees.{Tree, node_at, kind_of}
