@@ -1,19 +1,20 @@
 -- A turn of a connection: a read, all frames that are whole, and a write.
-use Rattle.std.proofs.Common.{◌≡◌, ◌+◌, ◌<◌, ◌≤◌, ℕ, List, [], ◌++◌, length, refl, sym, ap, subst, ◌∙◌, length-append, arith, Option, Result, Ok, Err, OnOk}
+use Rattle.std.proofs.Common.{◌≡◌, ◌+◌, ◌<◌, ◌≤◌, ℕ, List, [], ◌++◌, length, refl, sym, ap, subst, ◌∙◌, length-append, arith, inl, inr, Option, Result, Ok, Err, OnOk}
 use Rattle.std.specs.Io.KnownBytes.{Appends}
 use Rattle.up_ends.specs.Writing.{WritesPart}
 use Rattle.up_ends.specs.declared.ends.Sink as sink
 use Rattle.up_ends.specs.declared.ends.Source as source
+use Rattle.up_ends.specs.declared.fault.Failed.{Failed}
 use Rattle.up_lists.specs.Counts.{HasCause, Rose}
 use Rattle.up_frame.specs.Stream.{IsPartial}
 use Rattle.up_talk.specs.Around.{Around, Parties, World}
 use Rattle.up_talk.specs.Incoming.{Held, ReadMore}
 use Rattle.up_talk.specs.Limits.{longest}
-use Rattle.up_talk.specs.Turns.{GoesOn, IsEndOf, Talked, Talking, Turned, Waiting, ends, standing_at, world}
+use Rattle.up_talk.specs.Turns.{Ending, FlushCame, GoesOn, IsEndOf, Talked, Talking, Turned, Waiting, ends, ends_at, standing_at, world}
 use Rattle.up_talk.specs.declared.end.TalkEnd.{TalkEnd}
 use Rattle.up_talk.specs.declared.end.TalkEnd.TheVariants as talk
 use Rattle.up_talk.specs.declared.stage.Stage.{Stage}
-use Rattle.up_talk.proofs.EndLemmas.{ended_cut, ended_whole, flushed, read_cut, read_ends, talked_cut}
+use Rattle.up_talk.proofs.EndLemmas.{ended_cut, ended_whole, flushed, read_cut, read_ends, talked_cut, write_failed}
 
 module _ {A V C N Q R S K : Type 0} (who : Parties A V C N Q R) (sources : source.Ghosts S) (sinks : sink.Ghosts K) where
   -- the input has ended
@@ -51,6 +52,24 @@ module _ {A V C N Q R S K : Type 0} (who : Parties A V C N Q R) (sources : sourc
       talked_cut who a c (ends sources sinks then to) (sinks.held after) (sinks.faults after) (standing_at stage) new out part cause rose goes
   turn_unwritten a c stage new out then to after (Err end) part cause rose goes =
       ended_cut who a c (ends sources sinks then to) (sinks.held after) (sinks.faults after) out end part cause rose goes
+
+module _ {A V C N Q R K : Type 0} (who : Parties A V C N Q R) (sinks : sink.Ghosts K) where
+  -- what was gathered is written, or kept
+  pub full_done : (a : World A V C N) (c : Around A V C N) (left : Option (List ℕ)) (given faults : ℕ) (stage : Stage) (incoming : Held) (out now : List ℕ) (to after : K) (nothing : Unit {0}) → FlushCame sinks out to (Ok nothing) now after
+      → Talking who a (world c (ends_at left given faults sinks to)) (standing_at stage) incoming out → Talking who a (world c (ends_at left given faults sinks after)) (standing_at stage) incoming now
+  full_done a c left given faults stage incoming out now to after nothing (inl kept) t =
+      subst (λ (k : K). Talking who a (world c (ends_at left given faults sinks k)) (standing_at stage) incoming now) (sym kept.1)
+      (subst (λ (o : List ℕ). Talking who a (world c (ends_at left given faults sinks to)) (standing_at stage) incoming o) (sym kept.0) t)
+  full_done a c left given faults stage incoming out now to after nothing (inr written) t =
+      subst (λ (o : List ℕ). Talking who a (world c (ends_at left given faults sinks after)) (standing_at stage) incoming o) (sym written.0)
+      (flushed who a c (ends_at left given faults sinks to) (sinks.held after) (sinks.faults after) (standing_at stage) incoming out written.1 written.2 t)
+
+  -- a write failed
+  pub full_failed : (a : World A V C N) (c : Around A V C N) (left : Option (List ℕ)) (given faults : ℕ) (stage : Stage) (incoming : Held) (out now : List ℕ) (to after : K) (failed : Failed) → FlushCame sinks out to (Err failed) now after
+      → Talking who a (world c (ends_at left given faults sinks to)) (standing_at stage) incoming out → Ending who a (world c (ends_at left given faults sinks after)) now talk.WriteFault
+  full_failed a c left given faults stage incoming out now to after failed cut t =
+      subst (λ (o : List ℕ). Ending who a (world c (ends_at left given faults sinks after)) o talk.WriteFault) (sym cut.0)
+      (write_failed who a c (ends_at left given faults sinks to) (sinks.held after) (sinks.faults after) (standing_at stage) incoming out cut.1 cut.2 cut.3 t)
 
 -- how many bytes came
 pub read_grown : {S : Type 0} (sources : source.Ghosts S) (old new : Held) (from then : S) (count : ℕ) → ReadMore sources old from count new then → new.handled + length new.bytes ≡ old.handled + length old.bytes + count

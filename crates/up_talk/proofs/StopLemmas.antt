@@ -22,15 +22,15 @@ use Rattle.up_talk.proofs.TurnLemmas.{front_bye, front_failed, front_goes, front
 abbrev pub failed : Stop → Result (Unit {0}) Stop
 failed why = Err why
 
-abbrev pub done : Result (Unit {0}) Stop
-done = Ok tt
+abbrev pub done : Unit {0} → Result (Unit {0}) Stop
+done nothing = Ok nothing
 
 module _ {A V C N Q R : Type 0} (who : Parties A V C N Q R) (joined : (a b c : A) → who.tied a b → who.tied b c → who.tied a c) where
-  pub front_done : (a : World A V C N) (b c : Around A V C N) (at : Ends) (stage : Stage) (then : Standing) (incoming : Held) (n : ℕ) (f : FromClient Q) (out new : List ℕ) → IsBytes incoming.bytes → IsWhole longest incoming.bytes n
+  pub front_done : (a : World A V C N) (b c : Around A V C N) (at : Ends) (stage : Stage) (then : Standing) (incoming : Held) (n : ℕ) (f : FromClient Q) (out new : List ℕ) (nothing : Unit {0}) → IsBytes incoming.bytes → IsWhole longest incoming.bytes n
       → SaysThis who.asking who.fits (standing_at stage) (take n (drop 4 incoming.bytes)) f
-      → StaysUnless (who.verifier_faults b.verifier) (who.verifier_faults c.verifier) (done ≡ failed stop.HelperFault) → who.tied b.answerer c.answerer → Handled who (standing_at stage) b f out done then c new
+      → StaysUnless (who.verifier_faults b.verifier) (who.verifier_faults c.verifier) (done nothing ≡ failed stop.HelperFault) → who.tied b.answerer c.answerer → Handled who (standing_at stage) b f out (done nothing) then c new
       → Talking who a (world b at) (standing_at stage) incoming out → Talking who a (world c at) then (record { handled = incoming.handled + (4 + n); bytes = drop (4 + n) incoming.bytes }) new
-  front_done a b c at stage then incoming n f out new fits whole says quiet tie handled t =
+  front_done a b c at stage then incoming n f out new nothing fits whole says quiet tie handled t =
       front_goes who joined a b c at (standing_at stage) then incoming n f out new fits whole says.spelled says.fit (quiet.stays (λ e. absurd (cc))) tie handled t
 
   pub front_stops : (a : World A V C N) (b c : Around A V C N) (at : Ends) (stage : Stage) (then : Standing) (incoming : Held) (n : ℕ) (f : FromClient Q) (out new : List ℕ) (why : Stop) → IsBytes incoming.bytes → IsWhole longest incoming.bytes n

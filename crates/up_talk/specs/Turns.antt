@@ -2,7 +2,10 @@
 use Rattle.std.specs.Prelude.{◌≡◌, ◌≢◌, ◌<◌, ◌+◌, ◌⊎◌, ℕ, Bool, true, false, List, [], ◌∷◌, ◌++◌, length, Option, Some, None, Result, Ok, Err}
 use Rattle.up_bytes.specs.declared.fields.Fields as fields
 use Rattle.up_ends.specs.Telling.{Coming, Gives, Grew}
-use Rattle.up_ends.specs.Writing.{Going}
+use Rattle.std.specs.Io.KnownBytes.{Appends}
+use Rattle.up_ends.specs.Writing.{Going, WritesPart}
+use Rattle.up_ends.specs.declared.fault.Failed.{Failed}
+use Rattle.up_lists.specs.Counts.{HasCause, Rose}
 use Rattle.up_ends.specs.declared.verifier.Judged.{Judged}
 use Rattle.up_ends.specs.declared.verifier.Verdict.TheVariants.{Yes, No}
 use Rattle.up_ends.specs.declared.clock.Clock as clock
@@ -110,6 +113,12 @@ module _ {Q : Type 0} (asking : Q → List ℕ) (fits : Q → Type 0) where
 -- one frame stands behind what was made
 abbrev pub Puts : List ℕ → List ℕ → List ℕ → Type 0
 Puts out payload new = new ≡ out ++ frame payload
+
+-- what was gathered is written where it is much, and kept where it is not; after a fault none is kept
+abbrev pub FlushCame : {K : Type 0} → sink.Ghosts K → List ℕ → K → Result (Unit {0}) Failed → List ℕ → K → Type 0
+FlushCame sinks out to (Ok done) now after = ((now ≡ out) × (after ≡ to)) ⊎ ((now ≡ []) × Appends (sinks.held to) (sinks.held after) out × (sinks.faults after ≡ sinks.faults to))
+FlushCame sinks out to (Err failed) now after =
+    (now ≡ []) × WritesPart (sinks.held to) (sinks.held after) out × HasCause (sinks.faults to) (sinks.faults after) ⊥ × Rose (sinks.faults to) (sinks.faults after)
 
 -- the user is told that it is refused, unless there is no memory
 abbrev pub Refuses : List ℕ → Result (Unit {0}) Stop → List ℕ → Type 0

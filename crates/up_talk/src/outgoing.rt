@@ -4,6 +4,7 @@ ghost use Rattle.std.specs.Io.KnownBytes.{Appends};
 ghost use Rattle.up_ends.specs.Writing.{WritesPart};
 ghost use Rattle.up_lists.specs.Counts.{HasCause, StaysUnless};
 ghost use Rattle.up_frame.specs.Stream.{frame as framed};
+ghost use Rattle.up_talk.specs.Turns.{FlushCame};
 
 use std::alloc::{AllocError, Global};
 use std::marker::Model;
@@ -50,9 +51,22 @@ impl Outgoing {
         put
     }
 
-    /// Whether so many bytes are there that they are to be written before more frames are made.
-    pub(crate) fn is_full(&self) -> bool {
+    // Whether so many bytes are there that they are to be written before more frames are made.
+    fn is_full(&self) -> bool {
         self.bytes.len() >= PIECE_SIZE
+    }
+
+    /// Writes all of them where they are many, and keeps none then.
+    pub(crate) fn flush_full<K: Sink>(&mut self, sink: &mut K) -> Result<(), Failed>
+        ensures { FlushCame K.Sink self.old sink.old result self.new sink.new }
+    {
+        if !self.is_full() {
+            return Ok(());
+        }
+        match self.flush(sink) {
+            Ok(()) => Ok(()),
+            Err(failed) => Err(failed),
+        }
     }
 
     /// Writes all of them, and keeps none. After a fault a front of them was written.

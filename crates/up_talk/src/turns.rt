@@ -182,11 +182,15 @@ fn handle_all<A: Answers, K: Sink, V: Verifier, C: Clock, N: Nonces>(
             Front::Partial => return Ok(()),
             Front::Bad => return Err(TalkEnd::BadFrame(incoming.handled())),
         };
-        handle_front(
+        match handle_front(
             alloc, answerer, verifier, clock, nonces, incoming, len, stage, out,
-        )?;
-        if out.is_full() && out.flush(sink).is_err() {
-            return Err(TalkEnd::WriteFault);
+        ) {
+            Ok(()) => {}
+            Err(end) => return Err(end),
+        }
+        match out.flush_full(sink) {
+            Ok(()) => {}
+            Err(_) => return Err(TalkEnd::WriteFault),
         }
     }
 }
