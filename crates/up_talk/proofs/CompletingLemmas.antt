@@ -1,31 +1,30 @@
 -- A connection on which nothing is amiss ends well.
-use Rattle.std.proofs.Common.{◌≡◌, ◌≢◌, ◌⊎◌, ◌+◌, ◌<◌, ◌≤◌, ◌^◌, ℕ, Bool, true, false, List, [], ◌∷◌, ◌++◌, length, map, take, drop, refl, sym, ap, subst, ◌∙◌, inl, inr, append_assoc, append-nil, length-append, arith, Option, Some, None, Ok, Err}
+use Rattle.std.proofs.Common.{◌≡◌, ◌≢◌, ◌⊎◌, ◌+◌, ◌<◌, ◌≤◌, ◌^◌, ℕ, true, List, [], ◌∷◌, ◌++◌, length, map, take, drop, refl, sym, ap, subst, ◌∙◌, inl, inr, append_assoc, append-nil, length-append, arith, Option, Some, None, Ok}
 use Rattle.std.specs.Io.KnownBytes.{Consumes, IsAtEnd}
 use Rattle.std.specs.Int.{from_be_bytes, w32}
 use Rattle.std.specs.List.{AllByRecursion}
 use Rattle.std.proofs.lemmas.List.{take-append-le}
 use Rattle.up_ends.specs.Telling.{Grew}
 use Rattle.up_ends.specs.declared.verifier.Judged.{Judged}
-use Rattle.up_ends.specs.declared.verifier.Verdict.TheVariants.{Yes, No}
-use Rattle.up_frame.specs.Stream.{IsBad, IsBegun, IsPartial, IsPayload, frame, frames, told}
+use Rattle.up_ends.specs.declared.verifier.Verdict.TheVariants.{Yes}
+use Rattle.up_frame.specs.Stream.{IsPartial, IsPayload, frame, frames, told}
 use Rattle.up_frame.proofs.Cuts.{cut-frame, length-frame, told-frame}
 use Rattle.up_names.specs.Texts.{UserName}
 use Rattle.up_names.specs.UserNames.{user_of}
-use Rattle.up_sign.specs.SigningOn.{Signing, judged_of}
+use Rattle.up_sign.specs.SigningOn.{Signing}
 use Rattle.up_talk.specs.Around.{Around, Parties, World}
 use Rattle.up_talk.specs.Challenges.{Unmet}
 use Rattle.up_talk.specs.Completing.{Completes, IsInOrder, asks_all}
-use Rattle.up_talk.specs.Limits.{longest, most_turns}
+use Rattle.up_talk.specs.Limits.{longest}
 use Rattle.up_talk.specs.Messages.{Fits, ToClient, payload_from}
-use Rattle.up_talk.specs.Talks.{Begins, IsUnfit, NoFrame, SaysBye, Talks, bytes_from, is_open}
-use Rattle.up_talk.specs.Transcripts.{IsMet, IsRefused, IsServed, Standing, Transcript, may_come}
+use Rattle.up_talk.specs.Talks.{NoFrame, SaysBye, Talks, bytes_from, is_open}
+use Rattle.up_talk.specs.Transcripts.{IsRefused, Standing, Transcript, may_come}
 use Rattle.up_talk.specs.declared.end.TalkEnd.{TalkEnd}
 use Rattle.up_talk.specs.declared.end.TalkEnd.TheVariants as talk
 use Rattle.up_talk.specs.declared.message.FromClient.{FromClient}
 use Rattle.up_talk.specs.declared.message.FromClient.TheVariants as says
 use Rattle.up_talk.proofs.ReadingLemmas.{one_message}
-use Rattle.up_wire.specs.Spelling.{FitsClient, client}
-use Rattle.up_wire.specs.declared.messages.ClientFrame.{ClientFrame}
+use Rattle.up_wire.specs.Spelling.{client}
 use Rattle.up_wire.specs.declared.messages.ClientFrame.TheVariants as clients
 
 -- ---- frames
@@ -33,8 +32,7 @@ use Rattle.up_wire.specs.declared.messages.ClientFrame.TheVariants as clients
 -- bytes that begin with two frames begin with one
 frame_front : (x y r s : List ℕ) → length x < 2 ^ 32 → length y < 2 ^ 32 → frame x ++ r ≡ frame y ++ s → (x ≡ y) × (r ≡ s)
 frame_front x y r s fx fy same =
-    let long : length x ≡ length y = sym (told-frame x r fx) ∙ ap told same ∙ told-frame y s fy in
-    (
+    let long : length x ≡ length y = sym (told-frame x r fx) ∙ ap told same ∙ told-frame y s fy in (
       sym (cut-frame x r).0 ∙ ap (λ (t : List ℕ). take (length x) (drop 4 t)) same ∙ ap (λ (n : ℕ). take n (drop 4 (frame y ++ s))) long ∙ (cut-frame y s).0,
       sym (cut-frame x r).1 ∙ ap (λ (t : List ℕ). drop (4 + length x) t) same ∙ ap (λ (n : ℕ). drop (4 + n) (frame y ++ s)) long ∙ (cut-frame y s).1,
     )
@@ -127,7 +125,7 @@ module _ {A V C N Q R : Type 0} (who : Parties A V C N Q R) (one_question : (one
         absurd (no_more q qs tail last is fine.0 good (sym (append_assoc (frame (who.asking q)) (frames (map payload (map says.Ask qs))) tail) ∙ same))
     asked (q ∷ qs) (r ∷ rs) tail is fine good same =
         let cut = frame_front (who.asking q) (who.asking r) (frames (map payload (map says.Ask qs)) ++ tail) (frames (map payload (map says.Ask rs ++ last))) fine.0.1.counted good.0.1.counted
-            (sym (append_assoc (frame (who.asking q)) (frames (map payload (map says.Ask qs))) tail) ∙ same) in
+        (sym (append_assoc (frame (who.asking q)) (frames (map payload (map says.Ask qs))) tail) ∙ same) in
         let one : q ≡ r = one_question q r fine.0.0 good.0.0 cut.0 in
         let rest = asked qs rs tail is fine.1 good.1 cut.1 in
         record { left = rest.left; asked_is = ap (λ (x : Q). x ∷ rs) (sym one) ∙ ap (λ (xs : List Q). q ∷ xs) rest.asked_is; tail_is = rest.tail_is; good = rest.good }
@@ -149,7 +147,7 @@ module _ {A V C N Q R : Type 0} (who : Parties A V C N Q R) (one_question : (one
         let hello = frame (payload (says.Hello other)) in
         let proved = frame (payload (says.Proof proof)) in
         let one = frame_front (payload (says.Hello other)) (payload (says.Hello text)) ((proved ++ asks) ++ tail) (frame (payload (says.Proof signature)) ++ behind) fine.0.1.counted good.0.1.counted
-            (sym (append_assoc hello (proved ++ asks) tail) ∙ same) in
+        (sym (append_assoc hello (proved ++ asks) tail) ∙ same) in
         let two = frame_front (payload (says.Proof proof)) (payload (says.Proof signature)) (asks ++ tail) behind fine.1.0.1.counted good.1.0.1.counted (sym (append_assoc proved asks tail) ∙ one.1) in
         let rest = asked came questions tail is fine.1.1 good.1.1 two.1 in
         let who_is : other ≡ text = hello_is other good.0 fine.0 one.0 in
@@ -201,7 +199,7 @@ module _ {A V C N Q R : Type 0} (who : Parties A V C N Q R) (one_question : (one
         let tells : told rest ≡ length (payload f) = told_on rest more (length (payload f)) bad.0 (ap told same ∙ told-frame (payload f) (frames (map payload fs)) on.1.1.counted) in
         let some : 0 < length (payload f) = on.1.1.some in
         let most : length (payload f) ≤ longest = on.1.1.most in
-        elim bad.1 [ | inl none ↦ omega (arith, none, tells, some) | inr over ↦ omega (arith, over, tells, most) ]
+        elim bad.1 [ inl none ↦ omega (arith, none, tells, some) | inr over ↦ omega (arith, over, tells, most) ]
     good_frame standing came (f ∷ fs) rest more on same (inr unfit) =
         let begins = unfit.1.0 in
         let cut = frame_front unfit.0 (payload f) (begins.more ++ more) (frames (map payload fs)) begins.fits.counted on.1.1.counted (sym (append_assoc (frame unfit.0) begins.more more) ∙ ap (λ (t : List ℕ). t ++ more) begins.whole ∙ same) in

@@ -1,18 +1,18 @@
 -- How a connection reads and writes, and how it begins and ends.
-use Rattle.std.proofs.Common.{◌≡◌, ◌≢◌, ◌⊎◌, ◌+◌, ◌<◌, ◌≤◌, ◌^◌, ℕ, true, false, List, [], ◌∷◌, ◌++◌, length, refl, sym, ap, subst, ◌∙◌, inl, inr, append_assoc, append-nil, length-append, arith, Option, Result, Ok, Err}
-use Rattle.std.specs.Io.KnownBytes.{Appends, Consumes, IsAtEnd}
+use Rattle.std.proofs.Common.{◌≡◌, ◌+◌, ◌<◌, ◌≤◌, ℕ, List, [], ◌∷◌, ◌++◌, length, refl, sym, ap, subst, ◌∙◌, inl, append_assoc, append-nil, length-append, arith, Option}
+use Rattle.std.specs.Io.KnownBytes.{Appends, Consumes}
 use Rattle.std.proofs.KnownBytes.{Consumes-nil, Consumes-trans, Consumes-kept}
 use Rattle.up_ends.specs.Writing.{Going, WritesPart}
 use Rattle.up_ends.proofs.Going.{Going-all, Going-more, Going-none, WritesPart-step, WritesPart-so_far}
 use Rattle.up_ends.specs.declared.ends.Sink as sink
 use Rattle.up_ends.specs.declared.ends.Source as source
-use Rattle.up_lists.specs.Counts.{HasCause, Rose, StaysUnless, count_after}
+use Rattle.up_lists.specs.Counts.{HasCause, Rose, count_after}
 use Rattle.up_lists.proofs.Causes.{HasCause-then, Rose-after}
 use Rattle.up_frame.specs.Stream.{IsPartial}
 use Rattle.up_talk.specs.Around.{Around, Ends, Parties, World}
 use Rattle.up_talk.specs.Incoming.{Held, ReadFailed, ReadMore}
 use Rattle.up_talk.specs.Limits.{longest, most_turns}
-use Rattle.up_talk.specs.Talks.{CountsSame, CountsStay, EndsBy, HasRead, Talks, bytes_from, bytes_to, is_cut, is_fault, is_open}
+use Rattle.up_talk.specs.Talks.{CountsSame, CountsStay, EndsBy, HasRead, bytes_from, bytes_to}
 use Rattle.up_talk.specs.Transcripts.{Standing}
 use Rattle.up_talk.specs.Turns.{Ending, Talked, Talking, Waiting, ends, standing_at, world}
 use Rattle.up_talk.specs.declared.end.TalkEnd.{TalkEnd}

@@ -1,16 +1,14 @@
 -- One frame more in a connection, by its kind.
-use Rattle.std.proofs.Common.{◌≡◌, ◌⊎◌, ℕ, Bool, true, false, List, [], ◌∷◌, ◌++◌, map, refl, sym, ap, subst, ◌∙◌, inl, inr, Option, None, Result, Ok, Err}
+use Rattle.std.proofs.Common.{◌≡◌, ◌⊎◌, ℕ, Bool, true, false, List, [], ◌∷◌, ◌++◌, map, refl, sym, ap, subst, ◌∙◌, inl, inr, Result, Ok, Err}
 use Rattle.up_ends.specs.Telling.{Grew}
-use Rattle.up_ends.specs.declared.verifier.Verdict.{Verdict}
 use Rattle.up_ends.specs.declared.verifier.Verdict.TheVariants.{Yes, No}
-use Rattle.up_lists.specs.Runs.{Run}
 use Rattle.up_lists.proofs.RunLemmas.{Run-snoc}
 use Rattle.up_sign.specs.SigningOn.{Signing, judged_of}
 use Rattle.up_talk.specs.Around.{Around, Parties}
 use Rattle.up_talk.specs.Challenges.{Greets, Unmet}
 use Rattle.up_talk.specs.Messages.{ToClient}
-use Rattle.up_talk.specs.Transcripts.{Answered, IsChallenged, IsFailed, IsMet, IsRefused, IsServed, IsUnknown, Standing, Transcript, may_come}
-use Rattle.up_talk.specs.Turns.{AskCame, ByeCame, Handled, HandledFrom, HelloCame, ProofCame, Puts, Replied, around, comes, standing_at}
+use Rattle.up_talk.specs.Transcripts.{Answered, IsFailed, IsMet, IsRefused, IsServed, Standing, Transcript, may_come}
+use Rattle.up_talk.specs.Turns.{AskCame, ByeCame, Handled, HelloCame, ProofCame, Replied, around, comes, standing_at}
 use Rattle.up_talk.specs.declared.fault.Stop.{Stop}
 use Rattle.up_talk.specs.declared.fault.Stop.TheVariants as stop
 use Rattle.up_talk.specs.declared.message.FromClient.{FromClient}
@@ -61,18 +59,22 @@ module _ {A V C N Q R : Type 0} (who : Parties A V C N Q R) where
   hello_handled text stage then a b v c n m out new (Ok done) h = λ start came made t.
       let begun = at_stage start (around a v c n) stage stages.Unsaid came made h.0 t in
       let signing = h.1.0 in
-      let nonce = h.1.1.0 in
-      (ToClient.Challenge nonce,
-      (at_stage start (around b v c m) (stages.Challenged signing) then (came ++ says.Hello text ∷ []) (made ++ ToClient.Challenge nonce ∷ []) (sym h.1.1.1.1)
-      (from_start (λ (s : Around A V C N) (fs : List (FromClient Q)) (ms : List (ToClient R)). IsMet who s signing (fs ++ says.Hello text ∷ []) (ms ++ ToClient.Challenge nonce ∷ []) (around b v c m)) start (around a v c n) came made begun
-      (greeted a b n m v c text signing nonce h.1.1.1.0)),
-      h.1.1.1.2))
+      let nonce = h.1.1.0 in (
+        ToClient.Challenge nonce,
+        (
+          at_stage start (around b v c m) (stages.Challenged signing) then (came ++ says.Hello text ∷ []) (made ++ ToClient.Challenge nonce ∷ []) (sym h.1.1.1.1)
+              (from_start (λ (s : Around A V C N) (fs : List (FromClient Q)) (ms : List (ToClient R)). IsMet who s signing (fs ++ says.Hello text ∷ []) (ms ++ ToClient.Challenge nonce ∷ []) (around b v c m)) start (around a v c n) came made begun
+              (greeted a b n m v c text signing nonce h.1.1.1.0)),
+          h.1.1.1.2,
+        ),
+      )
   hello_handled text stage then a b v c n m out new (Err stop.Unfit) h = λ start came made t.
       (hello_late Q stage text h.0, (λ i. around (h.1 i) v c (h.2 i)), h.3)
   hello_handled text stage then a b v c n m out new (Err stop.NotSigned) h = λ start came made t.
-      let begun = at_stage start (around a v c n) stage stages.Unsaid came made h.0 t in
-      (from_start (λ (s : Around A V C N) (fs : List (FromClient Q)) (ms : List (ToClient R)). IsRefused who s (fs ++ says.Hello text ∷ []) (ms ++ ToClient.NotSigned ∷ []) (around b v c m)) start (around a v c n) came made begun (unmet a b n m v c text h.1),
-      h.2)
+      let begun = at_stage start (around a v c n) stage stages.Unsaid came made h.0 t in (
+        from_start (λ (s : Around A V C N) (fs : List (FromClient Q)) (ms : List (ToClient R)). IsRefused who s (fs ++ says.Hello text ∷ []) (ms ++ ToClient.NotSigned ∷ []) (around b v c m)) start (around a v c n) came made begun (unmet a b n m v c text h.1),
+        h.2,
+      )
   hello_handled text stage then a b v c n m out new (Err stop.OutOfMemory) h = λ start came made t.
       let begun = at_stage start (around a v c n) stage stages.Unsaid came made h.0 t in
       (h.1, by start came made begun h.2)
@@ -81,11 +83,21 @@ module _ {A V C N Q R : Type 0} (who : Parties A V C N Q R) where
           → ((b ≡ a) × (m ≡ n)) ⊎ (Unmet who.name who.looked who.challenges text a n b m ⊎ ((signing : Signing) × ((nonce : List ℕ) × Greets who.name who.looked who.challenges text a n signing nonce b m)))
           → (around b v c m ≡ around a v c n) ⊎ ((last : Standing) × ((sent : ToClient R) × Transcript who start last (came ++ says.Hello text ∷ []) (made ++ sent ∷ []) (around b v c m)))
       by start came made begun (inl same) = inl (λ i. around (same.0 i) v c (same.1 i))
-      by start came made begun (inr (inl not_met)) = inr (Standing.Refused, (ToClient.NotSigned,
-          from_start (λ (s : Around A V C N) (fs : List (FromClient Q)) (ms : List (ToClient R)). IsRefused who s (fs ++ says.Hello text ∷ []) (ms ++ ToClient.NotSigned ∷ []) (around b v c m)) start (around a v c n) came made begun (unmet a b n m v c text not_met)))
-      by start came made begun (inr (inr met)) = inr (Standing.Challenged met.0, (ToClient.Challenge met.1.0,
+      by start came made begun (inr (inl not_met)) = inr (
+        Standing.Refused,
+        (
+          ToClient.NotSigned,
+          from_start (λ (s : Around A V C N) (fs : List (FromClient Q)) (ms : List (ToClient R)). IsRefused who s (fs ++ says.Hello text ∷ []) (ms ++ ToClient.NotSigned ∷ []) (around b v c m)) start (around a v c n) came made begun (unmet a b n m v c text not_met),
+        ),
+      )
+      by start came made begun (inr (inr met)) = inr (
+        Standing.Challenged met.0,
+        (
+          ToClient.Challenge met.1.0,
           from_start (λ (s : Around A V C N) (fs : List (FromClient Q)) (ms : List (ToClient R)). IsMet who s met.0 (fs ++ says.Hello text ∷ []) (ms ++ ToClient.Challenge met.1.0 ∷ []) (around b v c m)) start (around a v c n) came made begun
-          (greeted a b n m v c text met.0 met.1.0 met.1.1)))
+              (greeted a b n m v c text met.0 met.1.0 met.1.1),
+        ),
+      )
   hello_handled text stage then a b v c n m out new (Err stop.Bye) h = absurd h
   hello_handled text stage then a b v c n m out new (Err stop.HelperFault) h = absurd h
 
@@ -140,9 +152,10 @@ module _ {A V C N Q R : Type 0} (who : Parties A V C N Q R) where
       → Handled who (standing_at stage) (around a v c n) (says.Proof signature) out result (standing_at then) (around a w c n) new
   proof_handled signature stage then a v w c n out new (Ok done) h = λ start came made t.
       let signing = h.0 in
-      let met = at_stage start (around a v c n) stage (stages.Challenged signing) came made h.1.0 t in
-      (ToClient.Welcome,
-      (at_stage start (around a w c n) (stages.Signed signing) then (came ++ says.Proof signature ∷ []) (made ++ ToClient.Welcome ∷ []) (sym h.1.1) (proved start a v w c n signature signing came made met h.1.2), h.1.3))
+      let met = at_stage start (around a v c n) stage (stages.Challenged signing) came made h.1.0 t in (
+        ToClient.Welcome,
+        (at_stage start (around a w c n) (stages.Signed signing) then (came ++ says.Proof signature ∷ []) (made ++ ToClient.Welcome ∷ []) (sym h.1.1) (proved start a v w c n signature signing came made met h.1.2), h.1.3),
+      )
   proof_handled signature stage then a v w c n out new (Err stop.Unfit) h = λ start came made t. (proof_unfit Q stage signature h.0, (λ i. around a (h.1 i) c n), h.2)
   proof_handled signature stage then a v w c n out new (Err stop.NotSigned) h = λ start came made t.
       let met = at_stage start (around a v c n) stage (stages.Challenged h.0) came made h.1.0 t in
@@ -185,9 +198,10 @@ module _ {A V C N Q R : Type 0} (who : Parties A V C N Q R) where
   pub ask_handled : (question : Q) (stage : Stage) (a b : A) (v : V) (c d : C) (n : N) (out new : List ℕ) (result : Result (Unit {0}) Stop) → AskCame who.answering who.asked who.moments question stage a c out result b d new
       → Handled who (standing_at stage) (around a v c n) (says.Ask question) out result (standing_at stage) (around b v d n) new
   ask_handled question stage a b v c d n out new (Ok done) h = λ start came made t.
-      let served = at_stage start (around a v c n) stage (stages.Signed h.1.0.signing) came made h.1.0.stage_is t in
-      (ToClient.Answer h.0,
-      (at_stage start (around b v d n) (stages.Signed h.1.0.signing) stage (came ++ says.Ask question ∷ []) (made ++ ToClient.Answer h.0 ∷ []) (sym h.1.0.stage_is) (answered start a b v c d n question h.0 stage came made h.1.0 served), h.1.1))
+      let served = at_stage start (around a v c n) stage (stages.Signed h.1.0.signing) came made h.1.0.stage_is t in (
+        ToClient.Answer h.0,
+        (at_stage start (around b v d n) (stages.Signed h.1.0.signing) stage (came ++ says.Ask question ∷ []) (made ++ ToClient.Answer h.0 ∷ []) (sym h.1.0.stage_is) (answered start a b v c d n question h.0 stage came made h.1.0 served), h.1.1),
+      )
   ask_handled question stage a b v c d n out new (Err stop.Unfit) h = λ start came made t. (h.0, (λ i. around (h.1 i) v (h.2 i) n), h.3)
   ask_handled question stage a b v c d n out new (Err stop.OutOfMemory) h = λ start came made t.
       let served = at_stage start (around a v c n) stage (stages.Signed h.1.0.signing) came made h.1.0.stage_is t in

@@ -1,5 +1,5 @@
 -- The same connection, seen of who answers through a part of it.
-use Rattle.std.proofs.Common.{◌≡◌, ◌⊎◌, ℕ, List, [], ◌∷◌, refl, ap, inl, inr}
+use Rattle.std.proofs.Common.{ℕ, List, ap, inl, inr}
 use Rattle.up_lists.proofs.RunLemmas.{Run-image}
 use Rattle.up_names.specs.Texts.{UserName}
 use Rattle.up_sign.specs.SigningOn.{Signing}
@@ -7,8 +7,8 @@ use Rattle.up_ends.specs.declared.verifier.Verdict.{Verdict}
 use Rattle.up_talk.specs.Around.{Around, Parties, World}
 use Rattle.up_talk.specs.Challenges.{Greets, Unmet}
 use Rattle.up_talk.specs.Messages.{ToClient}
-use Rattle.up_talk.specs.Talks.{CountsSame, CountsStay, EndsBy, HasRead, Talks, bytes_from}
-use Rattle.up_talk.specs.Transcripts.{Answered, IsChallenged, IsFailed, IsJudged, IsMet, IsRefused, IsServed, IsUnjudged, IsUnknown, Standing, Transcript}
+use Rattle.up_talk.specs.Talks.{CountsSame, EndsBy, Talks, bytes_from}
+use Rattle.up_talk.specs.Transcripts.{Answered, IsChallenged, IsJudged, IsRefused, Standing, Transcript}
 use Rattle.up_talk.specs.declared.end.TalkEnd.{TalkEnd}
 use Rattle.up_talk.specs.declared.end.TalkEnd.TheVariants as talk
 use Rattle.up_talk.specs.declared.message.FromClient.{FromClient}

@@ -1,5 +1,5 @@
 -- How a connection ends at a frame.
-use Rattle.std.proofs.Common.{◌≡◌, ◌+◌, ℕ, Bool, true, false, List, take, drop, refl, sym, ap, subst, ◌∙◌, Result, Ok, Err}
+use Rattle.std.proofs.Common.{◌≡◌, ◌+◌, ℕ, List, take, drop, refl, Result, Ok, Err}
 use Rattle.up_bytes.specs.Forms.{IsBytes}
 use Rattle.up_lists.specs.Counts.{HasCause, StaysUnless}
 use Rattle.up_lists.proofs.Causes.{HasCause-weaker}
@@ -7,9 +7,8 @@ use Rattle.up_frame.specs.Cutting.{IsWhole}
 use Rattle.up_talk.specs.Around.{Around, Ends, Parties, World}
 use Rattle.up_talk.specs.Incoming.{Held}
 use Rattle.up_talk.specs.Limits.{longest}
-use Rattle.up_talk.specs.Messages.{Fits, payload_from}
 use Rattle.up_talk.specs.Talks.{IsUnfit}
-use Rattle.up_talk.specs.Transcripts.{Standing, may_come}
+use Rattle.up_talk.specs.Transcripts.{Standing}
 use Rattle.up_talk.specs.Turns.{Ending, Handled, SaysThis, Talking, end_at, standing_at, world}
 use Rattle.up_talk.specs.declared.end.TalkEnd.TheVariants as talk
 use Rattle.up_talk.specs.declared.fault.Stop.{Stop}

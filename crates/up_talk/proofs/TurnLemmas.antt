@@ -1,17 +1,16 @@
 -- How a connection goes on by a frame, and how it ends at one.
-use Rattle.std.proofs.Common.{◌≡◌, ◌⊎◌, ◌+◌, ◌<◌, ◌≤◌, ◌^◌, ℕ, true, false, List, [], ◌∷◌, ◌++◌, length, map, take, drop, refl, sym, ap, subst, ◌∙◌, inl, inr, append_assoc, append-nil, arith, Option, Result, Ok, Err}
+use Rattle.std.proofs.Common.{◌≡◌, ◌⊎◌, ◌+◌, ℕ, true, false, List, [], ◌∷◌, ◌++◌, length, take, drop, refl, sym, ap, subst, ◌∙◌, inl, inr, append_assoc, append-nil, arith, Option, Ok, Err}
 use Rattle.std.specs.Io.KnownBytes.{Consumes}
-use Rattle.std.specs.List.{AllByRecursion}
 use Rattle.up_bytes.specs.Forms.{IsBytes}
 use Rattle.up_ends.specs.Writing.{Going}
 use Rattle.up_lists.specs.Counts.{HasCause, Rose, count_after}
 use Rattle.up_frame.specs.Cutting.{IsWhole}
-use Rattle.up_frame.specs.Stream.{IsBad, IsPayload, frame, frames}
+use Rattle.up_frame.specs.Stream.{IsBad, frame}
 use Rattle.up_talk.specs.Around.{Around, Ends, Parties, World}
 use Rattle.up_talk.specs.Incoming.{Held}
 use Rattle.up_talk.specs.Limits.{longest}
 use Rattle.up_talk.specs.Messages.{Fits, ToClient, payload_from, payload_to}
-use Rattle.up_talk.specs.Talks.{Begins, CountsSame, CountsStay, EndsBy, HasRead, IsUnfit, SaysBye, bytes_from, bytes_to, is_cut, is_fault, is_open}
+use Rattle.up_talk.specs.Talks.{Begins, CountsSame, CountsStay, EndsBy, HasRead, IsUnfit, SaysBye, bytes_from, bytes_to, is_cut, is_open}
 use Rattle.up_talk.specs.Transcripts.{Standing, Transcript, may_come}
 use Rattle.up_talk.specs.Turns.{Ending, Handled, Talking, standing_at, world}
 use Rattle.up_talk.specs.declared.end.TalkEnd.{TalkEnd}

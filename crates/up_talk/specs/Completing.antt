@@ -1,5 +1,5 @@
 -- A connection on which nothing is amiss ends well. This project's own.
-use Rattle.std.specs.Prelude.{◌≡◌, ◌≢◌, ◌<◌, ◌⊎◌, ℕ, List, [], ◌∷◌, ◌++◌, length, map, Some, None, Ok}
+use Rattle.std.specs.Prelude.{◌≡◌, ◌<◌, ◌⊎◌, ℕ, List, [], ◌∷◌, ◌++◌, length, map, Some, None, Ok}
 use Rattle.std.specs.List.{AllByRecursion}
 use Rattle.up_ends.specs.Telling.{Grew}
 use Rattle.up_ends.specs.declared.verifier.Judged.{Judged}

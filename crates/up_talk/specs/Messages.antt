@@ -1,5 +1,5 @@
 -- What a client and who answers it say to each other on a connection. This project's own.
-use Rattle.std.specs.Prelude.{◌≡◌, ◌≢◌, ℕ, List, Option, Some, None, ⊤}
+use Rattle.std.specs.Prelude.{◌≡◌, ◌≢◌, ℕ, List, Option, Some, None}
 use Rattle.up_talk.specs.declared.message.FromClient.{FromClient}
 use Rattle.up_talk.specs.declared.message.FromClient.TheVariants as says
 use Rattle.up_wire.specs.Spelling.{FitsClient, client, server}

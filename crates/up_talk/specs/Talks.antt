@@ -5,7 +5,7 @@ use Rattle.std.specs.Io.KnownBytes.{Appends, Consumes, IsAtEnd}
 use Rattle.up_ends.specs.Writing.{WritesPart}
 use Rattle.up_lists.specs.Counts.{HasCause, Rose, count_after}
 use Rattle.up_frame.specs.Stream.{IsBad, IsPartial, IsPayload, frame, frames}
-use Rattle.up_talk.specs.Around.{Ends, Parties, World}
+use Rattle.up_talk.specs.Around.{Parties, World}
 use Rattle.up_talk.specs.Limits.{longest, most_turns}
 use Rattle.up_talk.specs.Messages.{Fits, ToClient, payload_from, payload_to}
 use Rattle.up_talk.specs.Transcripts.{Standing, Transcript, may_come}

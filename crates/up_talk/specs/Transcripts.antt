@@ -1,5 +1,5 @@
 -- What was said on a connection, and what came of it. This project's own.
-use Rattle.std.specs.Prelude.{◌≡◌, ◌⊎◌, ℕ, Bool, true, false, List, [], ◌∷◌, ◌++◌, map, Option, Some, None}
+use Rattle.std.specs.Prelude.{◌≡◌, ℕ, Bool, true, false, List, [], ◌∷◌, map}
 use Rattle.up_ends.specs.Telling.{Gives, Grew}
 use Rattle.up_ends.specs.declared.verifier.Verdict.{Verdict}
 use Rattle.up_ends.specs.declared.verifier.Verdict.TheVariants.{Yes, No}

@@ -37,29 +37,27 @@ pub fn talk_to<A: Answers, S: Source, K: Sink, V: Verifier, C: Clock, N: Nonces>
 ) -> TalkEnd
     ensures talks { Talks (parties A.Answers A.Answer.Fields V.Verifier C.Clock N.Nonces)
         (world (around answerer.old verifier.old clock.old nonces.old)
-            (ends S.Source K.Sink source.old sink.old))
+        (ends S.Source K.Sink source.old sink.old))
         (world (around answerer.new verifier.new clock.new nonces.new)
-            (ends S.Source K.Sink source.new sink.new)) result }
+        (ends S.Source K.Sink source.new sink.new)) result }
     // A client that signs on, asks, and perhaps says Bye, all of it in order, whose user is known and judged Yes, gets all answers
     // where nothing fails, or there was no memory.
     ensures complete { (text signature : List ℕ) (questions : List A.Question)
         (last : List (FromClient A.Question))
         → IsInOrder (parties A.Answers A.Answer.Fields V.Verifier C.Clock N.Nonces)
-            (world (around answerer.old verifier.old clock.old nonces.old)
-                (ends S.Source K.Sink source.old sink.old))
-            (world (around answerer.new verifier.new clock.new nonces.new)
-                (ends S.Source K.Sink source.new sink.new)) text signature questions last
+        (world (around answerer.old verifier.old clock.old nonces.old)
+        (ends S.Source K.Sink source.old sink.old))
+        (world (around answerer.new verifier.new clock.new nonces.new)
+        (ends S.Source K.Sink source.new sink.new)) text signature questions last
         → Completes (parties A.Answers A.Answer.Fields V.Verifier C.Clock N.Nonces)
-            (world (around answerer.old verifier.old clock.old nonces.old)
-                (ends S.Source K.Sink source.old sink.old))
-            (world (around answerer.new verifier.new clock.new nonces.new)
-                (ends S.Source K.Sink source.new sink.new))
-            (asks_all text signature questions) result }
+        (world (around answerer.old verifier.old clock.old nonces.old)
+        (ends S.Source K.Sink source.old sink.old))
+        (world (around answerer.new verifier.new clock.new nonces.new)
+        (ends S.Source K.Sink source.new sink.new))
+        (asks_all text signature questions) result }
     ensures tie { A.tied answerer.old answerer.new }
 {
-    talk(
-        alloc, answerer, source, sink, verifier, clock, nonces,
-    )
+    talk(alloc, answerer, source, sink, verifier, clock, nonces)
 }
 
 // The connection.
@@ -74,9 +72,9 @@ fn talk<A: Answers, S: Source, K: Sink, V: Verifier, C: Clock, N: Nonces>(
 ) -> TalkEnd
     ensures { Talked (parties A.Answers A.Answer.Fields V.Verifier C.Clock N.Nonces)
         (world (around answerer.old verifier.old clock.old nonces.old)
-            (ends S.Source K.Sink source.old sink.old))
+        (ends S.Source K.Sink source.old sink.old))
         (world (around answerer.new verifier.new clock.new nonces.new)
-            (ends S.Source K.Sink source.new sink.new)) result }
+        (ends S.Source K.Sink source.new sink.new)) result }
 {
     let Ok(mut incoming) = Incoming::new(alloc) else {
         return TalkEnd::OutOfMemory;
@@ -85,7 +83,15 @@ fn talk<A: Answers, S: Source, K: Sink, V: Verifier, C: Clock, N: Nonces>(
     let mut stage = Stage::Unsaid;
     for _turn in 0..MOST_TURNS {
         match turn(
-            alloc, answerer, source, sink, verifier, clock, nonces, &mut incoming, &mut stage,
+            alloc,
+            answerer,
+            source,
+            sink,
+            verifier,
+            clock,
+            nonces,
+            &mut incoming,
+            &mut stage,
             &mut out,
         ) {
             Ok(()) => {}
@@ -111,13 +117,13 @@ fn turn<A: Answers, S: Source, K: Sink, V: Verifier, C: Clock, N: Nonces>(
     requires count { incoming.old.handled + length incoming.old.bytes + 65536 < 2 ^ 64 }
     ensures turned { (a : World A V C N)
         → Waiting (parties A.Answers A.Answer.Fields V.Verifier C.Clock N.Nonces) a
-            (world (around answerer.old verifier.old clock.old nonces.old)
-                (ends S.Source K.Sink source.old sink.old))
-            (standing_at stage.old) incoming.old out.old
+        (world (around answerer.old verifier.old clock.old nonces.old)
+        (ends S.Source K.Sink source.old sink.old))
+        (standing_at stage.old) incoming.old out.old
         → Turned (parties A.Answers A.Answer.Fields V.Verifier C.Clock N.Nonces) a
-            (world (around answerer.new verifier.new clock.new nonces.new)
-                (ends S.Source K.Sink source.new sink.new))
-            (standing_at stage.new) incoming.new out.new result }
+        (world (around answerer.new verifier.new clock.new nonces.new)
+        (ends S.Source K.Sink source.new sink.new))
+        (standing_at stage.new) incoming.new out.new result }
     ensures more { OnOk result (incoming.old.handled + length incoming.old.bytes
         < incoming.new.handled + length incoming.new.bytes) }
     ensures most { OnOk result (incoming.new.handled + length incoming.new.bytes
@@ -165,13 +171,13 @@ fn handle_all<A: Answers, K: Sink, V: Verifier, C: Clock, N: Nonces>(
     requires count { incoming.old.handled + length incoming.old.bytes < 2 ^ 64 }
     ensures goes { (a : World A V C N) (left : Option (List ℕ)) (given faults : ℕ)
         → Talking (parties A.Answers A.Answer.Fields V.Verifier C.Clock N.Nonces) a
-            (world (around answerer.old verifier.old clock.old nonces.old)
-                (ends_at left given faults K.Sink sink.old))
-            (standing_at stage.old) incoming.old out.old
+        (world (around answerer.old verifier.old clock.old nonces.old)
+        (ends_at left given faults K.Sink sink.old))
+        (standing_at stage.old) incoming.old out.old
         → GoesOn (parties A.Answers A.Answer.Fields V.Verifier C.Clock N.Nonces) a
-            (world (around answerer.new verifier.new clock.new nonces.new)
-                (ends_at left given faults K.Sink sink.new))
-            (standing_at stage.new) incoming.new out.new result }
+        (world (around answerer.new verifier.new clock.new nonces.new)
+        (ends_at left given faults K.Sink sink.new))
+        (standing_at stage.new) incoming.new out.new result }
     ensures partial { OnOk result (IsPartial longest incoming.new.bytes) }
     ensures count { OnOk result (incoming.new.handled + length incoming.new.bytes
         ≡ incoming.old.handled + length incoming.old.bytes) }
@@ -212,11 +218,11 @@ fn handle_front<A: Answers, V: Verifier, C: Clock, N: Nonces>(
     requires whole { IsWhole longest incoming.old.bytes len }
     ensures goes { (a : World A V C N) (at : Ends)
         → Talking (parties A.Answers A.Answer.Fields V.Verifier C.Clock N.Nonces) a
-            (world (around answerer.old verifier.old clock.old nonces.old) at)
-            (standing_at stage.old) incoming.old out.old
+        (world (around answerer.old verifier.old clock.old nonces.old) at)
+        (standing_at stage.old) incoming.old out.old
         → GoesOn (parties A.Answers A.Answer.Fields V.Verifier C.Clock N.Nonces) a
-            (world (around answerer.new verifier.new clock.new nonces.new) at)
-            (standing_at stage.new) incoming.new out.new result }
+        (world (around answerer.new verifier.new clock.new nonces.new) at)
+        (standing_at stage.new) incoming.new out.new result }
     ensures count { OnOk result (incoming.new.handled + length incoming.new.bytes
         ≡ incoming.old.handled + length incoming.old.bytes) }
     ensures less { OnOk result (length incoming.new.bytes < length incoming.old.bytes) }

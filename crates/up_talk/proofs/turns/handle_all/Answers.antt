@@ -1,4 +1,4 @@
-use Rattle.std.proofs.Common.{rules, ◌≡◌, ◌∙◌, refl, sym, subst, ℕ, arith}
+use Rattle.std.proofs.Common.{rules, ◌∙◌, refl, sym, subst, ℕ, arith}
 use Rattle.up_talk.specs.Turns.{Ending, around, ends_at, parties, standing_at, world}
 use Rattle.up_talk.specs.declared.end.TalkEnd.TheVariants as talk
 use Rattle.up_talk.proofs.ReadTurnLemmas.{full_done, full_failed}

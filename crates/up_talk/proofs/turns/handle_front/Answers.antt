@@ -1,4 +1,4 @@
-use Rattle.std.proofs.Common.{rules, ◌≡◌, ◌∙◌, sym, ap, subst, ℕ, List, take, drop, Option}
+use Rattle.std.proofs.Common.{rules, ◌∙◌, sym, ap, subst, ℕ, List, Option}
 use Rattle.up_talk.specs.Incoming.{Held}
 use Rattle.up_talk.specs.Talks.{IsUnfit}
 use Rattle.up_talk.specs.Turns.{Ending, Says, SaysThis, Talking, around, end_at, parties, standing_at, world}
@@ -39,7 +39,7 @@ returns-in-Ok-clause-goes g c =
     let says = subst (λ (payload : List ℕ). SaysThis g.A.Answers.asking g.A.Answers.fits standing payload c.in-Ok-Some.said) c.payload.ensures some in
     λ a at t. subst (λ (held : Held). Talking who a (world after at) (standing_at c.handle.new.stage) held c.handle.new.out) (sym c.pass.ensures)
     (front_done who joined a b after at c.args.stage.now (standing_at c.handle.new.stage) c.args.incoming.now c.args.len c.in-Ok-Some.said c.args.out.now c.handle.new.out c.in-Ok.field-0 c.requires.bytes c.requires.whole says c.in-Ok.ensures.quiet
-        c.in-Ok.ensures.tie c.in-Ok.ensures.handled t)
+    c.in-Ok.ensures.tie c.in-Ok.ensures.handled t)
 
 pub returns-in-Err-handle-clause-goes : goal.returns-in-Err-handle-clause-goes
 returns-in-Err-handle-clause-goes g c =
@@ -53,4 +53,4 @@ returns-in-Err-handle-clause-goes g c =
     let says = subst (λ (payload : List ℕ). SaysThis g.A.Answers.asking g.A.Answers.fits standing payload c.in-Ok-Some.said) c.payload.ensures some in
     λ a at t. subst (λ (end : TalkEnd). Ending who a (world after at) c.handle.new.out end) (sym (c.end_by.ensures ∙ ap (end_at c.in-Err-handle.stop) c.handled-in-Err-handle.ensures))
     (front_stops who joined a b after at c.args.stage.now (standing_at c.handle.new.stage) c.args.incoming.now c.args.len c.in-Ok-Some.said c.args.out.now c.handle.new.out c.in-Err-handle.stop c.requires.bytes c.requires.whole says
-        c.in-Err-handle.ensures.counts c.in-Err-handle.ensures.quiet c.in-Err-handle.ensures.tie c.in-Err-handle.ensures.handled t)
+    c.in-Err-handle.ensures.counts c.in-Err-handle.ensures.quiet c.in-Err-handle.ensures.tie c.in-Err-handle.ensures.handled t)

@@ -1,8 +1,7 @@
-use Rattle.std.proofs.Common.{rules, ◌≡◌, ◌+◌, ◌≤◌, ℕ, List, [], sym, ap, subst, length, arith}
+use Rattle.std.proofs.Common.{rules, ◌≡◌, ◌+◌, ℕ, List, [], sym, ap, subst, length, arith}
 use Rattle.up_talk.specs.Incoming.{Held}
-use Rattle.up_talk.specs.Limits.{most_turns}
 use Rattle.up_talk.specs.Transcripts.{Standing}
-use Rattle.up_talk.specs.Turns.{Waiting, around, ends, parties, standing_at, world}
+use Rattle.up_talk.specs.Turns.{Waiting, around, ends, parties, world}
 use Rattle.up_talk.proofs.EndLemmas.{at_first, turns_spent, wants_at_first}
 use Rattle.up_talk.proofs.turns.talk.Goals as goal
 

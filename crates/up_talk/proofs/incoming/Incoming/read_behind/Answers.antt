@@ -1,7 +1,7 @@
-use Rattle.std.proofs.Common.{◌≡◌, ◌≤◌, ◌<◌, ◌+◌, ◌-◌, ◌++◌, ℕ, List, take, drop, refl, sym, ap, ◌∙◌, arith, length, rules}
+use Rattle.std.proofs.Common.{◌≡◌, ◌≤◌, ◌<◌, ◌+◌, ◌-◌, ◌++◌, ℕ, List, take, drop, ap, ◌∙◌, arith, length, rules}
 use Rattle.std.proofs.lemmas.List.{length-drop, length-take-le}
 use Rattle.up_lists.proofs.Causes.{HasCause-weaker}
-use Rattle.up_talk.specs.Incoming.{Held, ReadCame}
+use Rattle.up_talk.specs.Incoming.{Held}
 use Rattle.up_talk.proofs.WindowLemmas.{held_is, window_kept, window_more, window_put}
 use Rattle.up_talk.proofs.incoming.Incoming.read_behind.Goals as goal
 
