@@ -11,6 +11,7 @@ mod opening;
 mod peers;
 mod requests;
 mod sessions;
+mod talking;
 mod words;
 
 pub use hosts::Hosts;
