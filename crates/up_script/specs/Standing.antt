@@ -28,7 +28,7 @@ world state peers verifier clock nonces = record { state = state; around = aroun
 
 -- limits that the trees and keys of a script's hosts may have
 pub record AreHostLimits (limits : Limits) : Type 0 where
-  pub limits : AreLimits limits
+  pub of_journal : AreLimits limits
   pub least : largest_room ≤ limits.largest
   pub most : limits.largest ≤ 1048000
 
