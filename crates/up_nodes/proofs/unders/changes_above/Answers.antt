@@ -1,7 +1,7 @@
 use Rattle.std.proofs.Common.{sym, ◌∙◌}
 use Rattle.up_nodes.specs.Kept.{slots_of}
 use Rattle.up_nodes.proofs.Noted.{front_low, front_of, none_above, rest_high, split_at, unders_unnamed}
-use Rattle.up_nodes.proofs.unders.changes_under.Goals as goal
+use Rattle.up_nodes.proofs.unders.changes_above.Goals as goal
 
 pub returns-in-Some : goal.returns-in-Some
 returns-in-Some c =
@@ -14,4 +14,4 @@ pub returns-in-None : goal.returns-in-None
 returns-in-None c =
     let kept = c.args.kept.now in
     let path = c.args.path.now in
-    c.new.ensures ∙ sym (none_above kept.log.items path c.args.above (unders_unnamed kept.owner kept.log.items (slots_of kept) c.requires.stands.linked path c.in-None.ensures))
+    sym (none_above kept.log.items path c.args.above (unders_unnamed kept.owner kept.log.items (slots_of kept) c.requires.stands.linked path c.in-None.ensures))

@@ -1,6 +1,6 @@
 use Rattle.std.proofs.Common.{◌+◌, ◌-◌, ◌≡◌, ℕ, ◌<◌, ◌≤◌, length, get_or, List}
 use Rattle.up_nodes.specs.declared.history.Change.{Change}
-use Rattle.up_nodes.proofs.history.text_at.Given as goal
+use Rattle.up_nodes.proofs.history.last_at.Given as goal
 
 -- the change before `low` is not later than record n, that at `high` is
 pub record Bisected {X : Type 0} (changes : List (Change X)) (n low high : ℕ) : Type 0 where
