@@ -67,6 +67,7 @@ module _ {D L : Type 0} (disks : disk.Ghosts D) (loader : Ghosts L) (host mid af
     gathers = is_loaded.gathers;
     names = is_loaded.names;
     enough = is_loaded.enough;
+    rounds = is_loaded.rounds;
     few = is_loaded.few;
     steps = steps;
     grows = a.grows;

@@ -1,5 +1,5 @@
 -- What a caller learns of a call, by what it came to.
-use Rattle.std.proofs.Common.{◌≡◌, ◌≢◌, ◌≤◌, ℕ, Bool, true, false, List, length, refl, sym, ap, subst, ◌∙◌, arith, Option, Some, None, option_map, bytes_eq}
+use Rattle.std.proofs.Common.{◌≡◌, ◌≢◌, ◌≤◌, ℕ, Bool, true, false, List, [], length, refl, sym, ap, subst, ◌∙◌, arith, Option, Some, None, option_map, bytes_eq}
 use Rattle.std.proofs.lemmas.Bool.{false≢true}
 use Rattle.std.proofs.lemmas.Slice.Eq.{bytes_eq-Decides}
 use Rattle.up_changes.specs.Routes.{route_of}
@@ -13,11 +13,13 @@ use Rattle.up_host.specs.Alone.{AddsOwn, HostState, IsAlone, ends_at, tree_view,
 use Rattle.up_host.specs.Calls.{Asked}
 use Rattle.up_host.specs.Came.{Came}
 use Rattle.up_host.specs.Done.{IsDone, is_invalid}
+use Rattle.up_answers.specs.Needs.{needs}
+use Rattle.up_host.specs.Rounds.{InRounds}
 use Rattle.up_host.specs.Routes.{LogName, Question, log_by, refusal, refusal_by, service_of}
 use Rattle.up_host.specs.Serves.{KeysServe, StoreServes, position_by}
 use Rattle.up_host.specs.Services.{Leads, key_fault, store_fault}
 use Rattle.up_host.specs.TreeCalls.{TreeCame, TreeServes}
-use Rattle.up_host.specs.Views.{SeenTree, Views}
+use Rattle.up_host.specs.Views.{SeenTree, Views, log_seen}
 use Rattle.up_host.specs.declared.event.Event.{Event}
 use Rattle.up_host.specs.declared.service.Service.{Service}
 use Rattle.up_host.specs.declared.service.Service.TheVariants as service
@@ -40,6 +42,7 @@ alone_refused a q e is = record {
       subst (AddsOwn v) same refl;
   store_grown = refl;
   keys_grown = refl;
+  rounds = λ owner v none asks there enough. let k : Some e.reply ≡ None = sym is ∙ none in absurd (cc);
 }
 
 -- ---- a tree was asked
@@ -83,6 +86,12 @@ module _ {D L : Type 0} (disks : disk.Ghosts D) (loader : Ghosts L) (joined : (x
         let l = ap length (of_tree.store_own disks loader joined host after old new q e p) in
         omega (arith, k, l);
     keys_grown = subst (AddsOwn (views disks host).keys) (sym (of_tree.keys_same disks loader joined host after old new q e p)) refl;
+    rounds = λ owner v none asks there enough.
+        let k : Some (LogName.OfTree p.owner) ≡ Some (LogName.OfTree owner) = sym (of_tree.to_tree disks loader joined host after old new q e p) ∙ asks in
+        let owner_is : p.owner ≡ owner = cc in
+        let l : Some (tree_view disks p.before) ≡ Some v = sym (of_tree.view_before disks loader joined host after old new q e p) ∙ ap (λ o. (views disks host).tree o) owner_is ∙ there in
+        let view_is : tree_view disks p.before ≡ v = cc in
+        subst (λ (x : SeenTree). InRounds (λ so_far. needs (log_seen x) so_far q.user q.request) [] e.loaded) view_is p.rounds;
   }
 
 -- ---- the store or the keys were asked
@@ -125,6 +134,8 @@ module _ {D : Type 0} (disks : disk.Ghosts D) (host after : HostState D) (q : Qu
         subst (λ (h : HostState D). AddsOwn (views disks host).store (views disks h).store) (sym p.whole)
         (grown_own host.store.state.log p.new.log host.store.base (disks.faults host.store.state.disk) (disks.faults p.new.disk) host.store.state.limits p.new.limits fits (omega (arith, fits, grown)));
     keys_grown = subst (λ (h : HostState D). AddsOwn (views disks host).keys (views disks h).keys) (sym p.whole) refl;
+    rounds = λ owner v none asks there enough.
+        let k : Some LogName.OfStore ≡ Some (LogName.OfTree owner) = sym (ap (λ (s : Service). log_by s (route_of q.user q.request)) serves) ∙ asks in absurd (cc);
   }
 
   alone_keys : service_of q.request ≡ service.Keys → KeysServe disks host after q.user q.request e → IsAlone (views disks host) (views disks after) q e
@@ -140,6 +151,8 @@ module _ {D : Type 0} (disks : disk.Ghosts D) (host after : HostState D) (q : Qu
         let fits = p.fits in
         subst (λ (h : HostState D). AddsOwn (views disks host).keys (views disks h).keys) (sym p.whole)
         (grown_own host.keys.state.log p.new.log host.keys.base (disks.faults host.keys.state.disk) (disks.faults p.new.disk) host.keys.state.limits p.new.limits fits (omega (arith, fits, grown)));
+    rounds = λ owner v none asks there enough.
+        let k : Some LogName.OfKeys ≡ Some (LogName.OfTree owner) = sym (ap (λ (s : Service). log_by s (route_of q.user q.request)) serves) ∙ asks in absurd (cc);
   }
 
 -- ---- any request

@@ -69,6 +69,7 @@ module _ {D : Type 0} (disks : disk.Ghosts D) (host after : HostState D) (t : To
         subst (AddsOwn v) same refl;
     store_grown = let k = ap length touched_log in let l = ap length touched_own in omega (arith, k, l);
     keys_grown = subst (AddsOwn (views disks host).keys) (sym touched_keys) refl;
+    rounds = λ owner v none asks there enough. absurd (enough wants);
   }
 
 -- ---- nothing was done

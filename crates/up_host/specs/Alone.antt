@@ -6,8 +6,10 @@ use Rattle.std.specs.Option.{option_map}
 use Rattle.std.specs.Str.{bytes_eq}
 use Rattle.up_blocks.specs.declared.record.BlockRecord.{BlockRecord}
 use Rattle.up_disk.specs.declared.disk.Disk.{Ghosts}
+use Rattle.up_answers.specs.Needs.{needs}
+use Rattle.up_host.specs.Rounds.{InRounds}
 use Rattle.up_host.specs.Routes.{LogName, Question, log_asked, refusal}
-use Rattle.up_host.specs.Views.{Seen, SeenKeys, SeenStore, SeenTree, Views}
+use Rattle.up_host.specs.Views.{Seen, SeenKeys, SeenStore, SeenTree, Views, log_seen}
 use Rattle.up_host.specs.declared.event.Event.{Event}
 use Rattle.up_host.specs.declared.held.Held.{Held}
 use Rattle.up_ends.specs.Growing.{OnlyGrows}
@@ -76,7 +78,8 @@ ends_at (Some LogName.OfStore) a = Some (length a.store.seen)
 ends_at (Some LogName.OfKeys) a = Some (length a.keys.seen)
 
 -- Nobody else writes: the answer is at the end of its log, nothing but own records comes to a log, and no other log's disk is touched
--- but the store's, which a fetch may read.
+-- but the store's, which a fetch may read. What is loaded is loaded in rounds, each of all the groups that are needed with what was
+-- loaded by then.
 pub record IsAlone (a b : Views) (q : Question) (e : Event) : Type 0 where
   pub at_end : refusal a q ≡ None → e.reply ≢ reply.OutOfMemory → ends_at (log_asked q) a ≡ Some e.position
   pub trees : (owner : UserName) → log_asked q ≢ Some (LogName.OfTree owner) → b.tree owner ≡ a.tree owner
@@ -84,6 +87,8 @@ pub record IsAlone (a b : Views) (q : Question) (e : Event) : Type 0 where
   pub tree_grown : (owner : UserName) (v w : SeenTree) → a.tree owner ≡ Some v → b.tree owner ≡ Some w → AddsOwn v w
   pub store_grown : AddsOwn a.store b.store
   pub keys_grown : AddsOwn a.keys b.keys
+  pub rounds : (owner : UserName) (v : SeenTree) → refusal a q ≡ None → log_asked q ≡ Some (LogName.OfTree owner) → a.tree owner ≡ Some v → e.reply ≢ reply.OutOfMemory
+      → InRounds (λ so_far. needs (log_seen v) so_far q.user q.request) [] e.loaded
 
 -- what a host keeps: no base is past the end of its log, and there is room for the disk of each log
 abbrev pub IsBase : {D : Type 0} → Held (State D) → Type 0

@@ -1,5 +1,6 @@
 -- How the loading of group texts goes on, name by name. This project's own.
-use Rattle.std.specs.Prelude.{◌≡◌, ◌⊎◌, ℕ, true, List, [], ◌∷◌, ◌++◌, length, Contains, Option, Some, None, IfSome}
+use Rattle.std.specs.Prelude.{◌≡◌, ◌≢◌, ◌⊎◌, ◌<◌, ◌-◌, ℕ, true, List, [], ◌∷◌, ◌++◌, length, map, take, Contains, Option, Some, None, IfSome}
+use Rattle.std.specs.List.{flat_map}
 use Rattle.up_answers.specs.Needs.{needs}
 use Rattle.up_lists.specs.Counts.{HasCause}
 use Rattle.up_host.specs.Asks.{Asks, EachAfter}
@@ -45,6 +46,41 @@ IsNeeded log user request so_far name = Contains (needs log so_far user request)
 -- a whole loading: nothing is missing, or the bound is reached
 pub record IsWhole (missing : List PathName) (loaded : Loading) : Type 0 where
   pub enough : (missing ≡ []) ⊎ (length loaded ≡ bound)
+
+-- ---- rounds
+
+-- none of these names has an answer yet
+abbrev pub AreNew : List PathName → Loading → Type 0
+AreNew names loaded = (name : PathName) → Contains names name → answer_for loaded name ≡ None
+
+-- what one round loads of these names: all of them, in order, as far as the bound allows
+abbrev pub AreRound : List PathName → Loading → Loading → Type 0
+AreRound names before round = map (λ (pair : Pair). pair.0) round ≡ take (bound - length before) names
+
+-- it was loaded behind what was loaded before
+pub record LoadsRound (names : List PathName) (before after : Loading) : Type 0 where
+  pub round : Loading
+  pub whole : after ≡ before ++ round
+  pub names_are : AreRound names before round
+
+-- A round: something is missing and the bound is not reached, and all that is missing is loaded.
+pub record IsRound (missing : List PathName) (before round : Loading) : Type 0 where
+  pub some : missing ≢ []
+  pub room : length before < bound
+  pub names_are : AreRound missing before round
+
+-- Round after round, each for what is missing after those before it, until nothing is missing or the bound is reached.
+abbrev pub AreRounds : (Loading → List PathName) → Loading → List Loading → Type 0
+AreRounds missing before [] = IsWhole (missing before) before
+AreRounds missing before (round ∷ rounds) = IsRound (missing before) before round × AreRounds missing (before ++ round) rounds
+
+-- so more was loaded behind what was loaded before
+pub record InRounds (missing : Loading → List PathName) (before after : Loading) : Type 0 where
+  pub rounds : List Loading
+  pub whole : after ≡ before ++ flat_map (λ (round : Loading). round) rounds
+  pub each : AreRounds missing before rounds
+
+-- ---- one name
 
 -- the loader was asked for one group
 pub record AsksGroup {L : Type 0} (loader : Ghosts L) (old new : L) (question : GroupQuestion) (given : Option LoadAnswer) : Type 0 where

@@ -18,7 +18,7 @@ use Rattle.up_host.specs.Calls.{IsPlain, IsTried}
 use Rattle.up_host.specs.Fetches.{Fetches, StoreReads}
 use Rattle.up_answers.specs.Fetching.{Fetched}
 use Rattle.up_host.specs.Routes.{Question, refusal, route_refusal, service_of}
-use Rattle.up_host.specs.Rounds.{Gathers, IsNeeded, bound}
+use Rattle.up_host.specs.Rounds.{Gathers, InRounds, IsNeeded, bound}
 use Rattle.up_host.specs.Views.{Views}
 use Rattle.up_host.specs.declared.event.Event.{Event}
 use Rattle.up_host.specs.declared.held.Held.{Held}
@@ -55,6 +55,7 @@ pub record TreeServes {D L : Type 0} (disks : disk.Ghosts D) (loader : Ghosts L)
   pub gathers : Gathers loader host.operator (views disks host) (IsNeeded (log_of before.state) q.user q.request) between new [] e.loaded
   pub names : IsDistinct path_eq (keys_of e.loaded)
   pub enough : (needs (log_of before.state) e.loaded q.user q.request ≡ []) ⊎ (length e.loaded ≡ bound)
+  pub rounds : InRounds (λ so_far. needs (log_of before.state) so_far q.user q.request) [] e.loaded
   pub few : length e.loaded ≤ bound
   pub steps : Steps disks (answer (log_of before.state) e.loaded e.fetched q.user q.request e.moment) (added (log_of before.state) e.loaded e.fetched q.user q.request e.moment) before.state state e.reply
   pub grows : OnlyGrows entries_of (λ (s : State D). disks.faults s.disk) fixed_of before.state state
@@ -93,6 +94,7 @@ pub record IsLoaded {L : Type 0} (loader : Ghosts L) (operator : UserName) (a : 
   pub gathers : Gathers loader operator a (IsNeeded log user request) old new [] loaded
   pub names : IsDistinct path_eq (keys_of loaded)
   pub enough : (needs log loaded user request ≡ []) ⊎ (length loaded ≡ bound)
+  pub rounds : InRounds (λ so_far. needs log so_far user request) [] loaded
   pub few : length loaded ≤ bound
 
 -- the groups were loaded for a request to the tree at a place

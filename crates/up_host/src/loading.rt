@@ -7,7 +7,7 @@ ghost use Rattle.up_group.specs.GroupTexts.{group_of};
 ghost use Rattle.up_host.specs.Alone.{is_of, tree_for, views};
 ghost use Rattle.up_host.specs.Asks.{Tries};
 ghost use Rattle.up_host.specs.Loads.{group_text_answer, load_of};
-ghost use Rattle.up_host.specs.Rounds.{Gathers, IsFirst, IsMissing, IsNeeded, IsWhole, LoadsName, bound};
+ghost use Rattle.up_host.specs.Rounds.{AreNew, Gathers, InRounds, IsFirst, IsMissing, IsNeeded, IsWhole, LoadsName, LoadsRound, bound};
 ghost use Rattle.up_peer.specs.Loading.{text_answer};
 ghost use Rattle.up_policy.specs.Loadings.{answer_for};
 ghost use Rattle.up_replay.specs.Rights.{is_group};
@@ -47,6 +47,8 @@ impl<D: Disk> Host<D> {
         ensures few { IfOk result (λ loaded. length loaded ≤ bound) }
         ensures whole { IfOk result (λ loaded. IsWhole
             (needs (log_of state.now) loaded user.now request.now) loaded) }
+        ensures rounds { IfOk result (InRounds
+            (λ so_far. needs (log_of state.now) so_far user.now request.now) []) }
         ensures tried { Tries L.loads L.faults L.tied loader.old loader.new }
     {
         let mut loaded = Loaded::new(alloc, self.random);
@@ -68,11 +70,13 @@ impl<D: Disk> Host<D> {
         loaded: &mut Loaded,
     ) -> Result<(), AllocError>
         requires room { length loaded.old < bound }
+        requires new { AreNew missing.now loaded.old }
         ensures gathers { OnOk result (Gathers L.Loader self.now.operator
             (views D.Disk self.now) (IsMissing missing.now)
             loader.old loader.new loaded.old loaded.new) }
         ensures more { OnOk result (IsFirst missing.now loaded.old
             → length loaded.old < length loaded.new) }
+        ensures round { OnOk result (LoadsRound missing.now loaded.old loaded.new) }
         ensures few { OnOk result (length loaded.new ≤ bound) }
         ensures tried { Tries L.loads L.faults L.tied loader.old loader.new }
     {

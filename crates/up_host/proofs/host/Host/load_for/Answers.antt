@@ -24,6 +24,6 @@ returns g c =
     record {
       before = c.index.result.now;
       there = ap (λ h. slice_get h.trees c.args.place) (sym c.self.view_is) ∙ slice_get-get_or c.self.inside.trees.items c.args.place c.index.result.now within ∙ ap Some (sym c.index.ensures);
-      loaded = record { gathers = c.in_ok-loaded.ensures.gathers; names = c.len-names.ensures.names; enough = c.in_ok-loaded.ensures.whole.enough; few = c.in_ok-loaded.ensures.few };
+      loaded = record { gathers = c.in_ok-loaded.ensures.gathers; names = c.len-names.ensures.names; enough = c.in_ok-loaded.ensures.whole.enough; rounds = c.in_ok-loaded.ensures.rounds; few = c.in_ok-loaded.ensures.few };
       tried = c.load_all.ensures.tried;
     }

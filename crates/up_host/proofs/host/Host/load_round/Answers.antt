@@ -2,7 +2,7 @@ use Rattle.std.proofs.Common.{◌≡◌, ◌≢◌, Some, None, refl, length, ar
 use Rattle.std.specs.Option.{option_copied}
 use Rattle.up_host.proofs.AsksLemmas.{Tries-Asks, Tries-trans}
 use Rattle.up_host.proofs.LoadLemmas.{gathers_for, gathers_none, gathers_trans}
-use Rattle.up_host.proofs.RoundLemmas.{grows_by, name_missing}
+use Rattle.up_host.proofs.RoundLemmas.{grows_by, name_missing, none_loaded, one_up, round_full}
 use Rattle.up_host.specs.Alone.{views}
 use Rattle.up_host.specs.Loads.{group_answer, group_question, load_failed}
 use Rattle.up_host.specs.Rounds.{IsMissing}
@@ -14,7 +14,8 @@ loop-i-init g c = record {
   gathered = gathers_none g.L.Loader c.args.self.now.operator (views g.D.Disk c.args.self.now) g.met.L.Loader.same (IsMissing c.args.missing.now) c.args.loader.now c.args.loaded.now;
   first = λ z. refl;
   more = λ z. absurd (omega (arith, z));
-  few = omega (arith, c.requires);
+  round = none_loaded c.args.missing.now c.args.loaded.now;
+  few = omega (arith, c.requires.room);
 }
 
 pub returns-in_err-load_missing-clause-tried : goal.returns-in_err-load_missing-clause-tried
@@ -36,5 +37,10 @@ loop-i-preserved g c =
           c.in_ok-load_missing.ensures.gathers);
       first = λ z. absurd (omega (arith, z));
       more = λ z. grows_by c.args.missing.now c.loop-i.i c.in-Some.name.now c.args.loaded.now c.loop-i.loaded c.load_missing.new.loaded at c.loop-i.invariant.first c.loop-i.invariant.more c.in_ok-load_missing.ensures.one c.in_ok-load_missing.ensures.more;
+      round = one_up g.L.Loader c.args.self.now.operator (views g.D.Disk c.args.self.now) c.loop-i.loader c.load_missing.new.loader c.args.missing.now c.args.loaded.now c.loop-i.i c.in-Some.name.now c.loop-i.loaded c.load_missing.new.loaded
+          c.len-i-end.ensures.names c.requires.new at c.loop-i.invariant.round c.in_ok-load_missing.ensures.gathers c.in_ok-load_missing.ensures.one;
       few = let full : length c.loop-i.loaded ≢ 1024 = omega (arith, c.if-len-eq-BOUND.false, c.len.ensures.len) in omega (arith, full, c.loop-i.invariant.few, c.in_ok-load_missing.ensures.few);
     }
+
+pub returns-then-len-eq-BOUND-clause-round : goal.returns-then-len-eq-BOUND-clause-round
+returns-then-len-eq-BOUND-clause-round g c = round_full c.args.missing.now c.args.loaded.now c.loop-i.loaded c.loop-i.i c.loop-i.invariant.round (omega (arith, c.if-len-eq-BOUND.true, c.len.ensures.len))

@@ -36,6 +36,7 @@ returns-clause-prepared g c =
         };
         names = l.names;
         enough = l.enough;
+        rounds = l.rounds;
         few = l.few;
       };
     })
