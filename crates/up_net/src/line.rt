@@ -1,4 +1,6 @@
 //! Messages over a stream.
+ghost use Rattle.std.specs.Prelude.{◌≤◌, IfOk};
+
 use crate::call_fault::CallFault;
 use std::alloc::Global;
 use std::io::{BufReader, Read, Write};
@@ -81,12 +83,24 @@ impl<S: Read + Write + Drop> Line<S> {
         let mut room = vec![in self.alloc; 0; PIECE]?;
         let mut left = length;
         for _ in 0..length.div_ceil(PIECE) {
-            let count = left.min(PIECE);
-            let piece = &mut room.as_mut_slice()[..count];
-            self.reader.read_exact(piece)?;
-            payload.extend_from_slice(piece)?;
-            left -= count;
+            left -= read_piece(&mut self.reader, room.as_mut_slice(), left, &mut payload)?;
         }
         Ok(payload)
     }
+}
+
+// Reads so many bytes, or as many as there is room for, and puts them behind others: how many these are.
+fn read_piece<S: Read + Write + Drop>(
+    reader: &mut BufReader<S>,
+    room: &mut [u8],
+    left: usize,
+    payload: &mut Vec<u8>,
+) -> Result<usize, CallFault>
+    ensures { IfOk result (λ count. count ≤ left) }
+{
+    let count = left.min(room.len());
+    let piece = &mut room[..count];
+    reader.read_exact(piece)?;
+    payload.extend_from_slice(piece)?;
+    Ok(count)
 }
