@@ -1,6 +1,7 @@
 //! What a request does to a tree over its log, once it is known what it leads to.
 ghost use Rattle.std.specs.Prelude.{◌≡◌, ◌-◌, ◌<◌, IfOk, Result, Ok};
 ghost use Rattle.up_ends.specs.Growing.{OnlyGrows};
+ghost use Rattle.up_lists.specs.Counts.{StaysUnless};
 ghost use Rattle.up_list.specs.Changes.{added_by, answer_of};
 ghost use Rattle.up_replay.specs.Fits.{Fits};
 ghost use Rattle.up_replay.specs.Sizes.{size_of};
@@ -35,6 +36,8 @@ pub fn change<D: Disk>(
     ensures steps { (meant : Result Rec Reply) → IfOk led (λ led. led ≡ meant) → Steps D.Disk
         (answer_of (log_of state.old) meant) (added_by (log_of state.old) meant)
         state.old state.new result }
+    ensures quiet { StaysUnless (D.faults state.old.disk) (D.faults state.new.disk)
+        (result ≡ Reply.Io) }
     ensures grows { OnlyGrows entries_of (λ state. D.faults state.disk) fixed_of state.old state.new }
 {
     match led {
@@ -49,6 +52,8 @@ fn add<D: Disk>(state: &mut TreeState<D>, rec: Rec) -> Reply
     requires { Fits state.old.owner state.old.log rec }
     ensures steps { Steps D.Disk (answer_of (log_of state.old) (Ok rec)) (added_by (log_of state.old) (Ok rec))
         state.old state.new result }
+    ensures quiet { StaysUnless (D.faults state.old.disk) (D.faults state.new.disk)
+        (result ≡ Reply.Io) }
     ensures grows { OnlyGrows entries_of (λ state. D.faults state.disk) fixed_of state.old state.new }
 {
     let _records = state.position();

@@ -1,5 +1,5 @@
 -- What rows of Glob and items of Watch show is seen.
-use Rattle.std.proofs.Common.{◌≡◌, ◌-◌, Bool, true, false, cond, ◌&&◌, ◌||◌, List, [], ◌∷◌, length, refl, sym, ap, subst, ◌∙◌, inl, inr, Option, Some, None, is_some}
+use Rattle.std.proofs.Common.{◌≡◌, ◌-◌, Bool, true, false, cond, ◌&&◌, ◌||◌, List, [], ◌∷◌, length, refl, sym, ap, subst, ◌∙◌, inl, inr, ◌⊎◌, Option, Some, None, is_some}
 use Rattle.std.specs.Prelude.{if◌then◌else◌, Contains, MatchOption, ◌==◌, unwrap_or}
 use Rattle.std.specs.FinMap.Entries.{find}
 use Rattle.std.specs.List.{cons_option}

@@ -67,7 +67,8 @@ pub fn histories_agree()
     ensures { HistoriesAgree }
 {}
 
-/// The entry of a row of Glob is seen at its path, or among the children of its parent.
+/// The entry of a row of Glob is seen at its path, or, where the last element that it matches is not literal, among the children of its
+/// parent. A pattern that is all literal has one row, whose entry is seen at its path.
 pub fn rows_are_shown()
     ensures { RowsAreShown }
 {}

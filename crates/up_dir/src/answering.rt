@@ -12,6 +12,7 @@ ghost use Rattle.up_list.specs.Changes.{added_by, answer_of};
 ghost use Rattle.up_list.specs.Globs.{glob_reply};
 ghost use Rattle.up_list.specs.Looks.{look_now};
 ghost use Rattle.up_list.specs.Reads.{access_reply, group_text_reply, lookup_reply};
+ghost use Rattle.up_lists.specs.Counts.{StaysUnless};
 ghost use Rattle.up_tree.specs.States.{entries_of, fixed_of, log_of};
 ghost use Rattle.up_wire.specs.Bounds.{bounded};
 
@@ -47,6 +48,8 @@ pub fn step<D: Disk>(
         (answer (log_of state.old) loaded.now fetched.now user.now request.now now)
         (added (log_of state.old) loaded.now fetched.now user.now request.now now)
         state.old state.new result }
+    ensures quiet { StaysUnless (D.faults state.old.disk) (D.faults state.new.disk)
+        (result ≡ Reply.Io) }
     ensures grows { OnlyGrows entries_of
         (λ state. D.faults state.disk) fixed_of state.old state.new }
     ensures crash { Survives D.Disk
@@ -75,6 +78,8 @@ fn step_request<D: Disk>(
         (answer (log_of state.old) loaded.now fetched.now user.now request.now now)
         (added (log_of state.old) loaded.now fetched.now user.now request.now now)
         state.old state.new result }
+    ensures quiet { StaysUnless (D.faults state.old.disk) (D.faults state.new.disk)
+        (result ≡ Reply.Io) }
     ensures grows { OnlyGrows entries_of
         (λ state. D.faults state.disk) fixed_of state.old state.new }
 {
@@ -104,6 +109,8 @@ fn step_asked<D: Disk>(
         (added_by (log_of state.old)
         (asked_outcome (log_of state.old) loaded.now fetched.now user.now asked now))
         state.old state.new result }
+    ensures quiet { StaysUnless (D.faults state.old.disk) (D.faults state.new.disk)
+        (result ≡ Reply.Io) }
     ensures grows { OnlyGrows entries_of
         (λ state. D.faults state.disk) fixed_of state.old state.new }
 {
@@ -148,6 +155,8 @@ fn step_in_tree<D: Disk>(
         (added_by (log_of state.old)
         (tree_outcome (log_of state.old) loaded.now fetched.now user.now asked))
         state.old state.new result }
+    ensures quiet { StaysUnless (D.faults state.old.disk) (D.faults state.new.disk)
+        (result ≡ Reply.Io) }
     ensures grows { OnlyGrows entries_of
         (λ state. D.faults state.disk) fixed_of state.old state.new }
 {

@@ -2,8 +2,9 @@
 //!
 //! [`step`] is all that a tree ever does for a user: it answers exactly as `answer` of `up_answers` says over the log, with what was
 //! loaded and fetched for the request, and adds exactly the record that `added` says where the reply is its position (`Steps` of
-//! `up_adding`). Want of memory may come in place of any answer, `Io` in place of a position alone where the disk failed, and what a
-//! crash leaves is told of every moment of the call (`Survives` of `specs/Crashes.antt`).
+//! `up_adding`). Want of memory may come in place of any answer, `Io` in place of a position alone where the disk failed, and the
+//! disk's count of faults rises at no other answer (`quiet`). What a crash leaves is told of every moment of the call (`Survives` of
+//! `specs/Crashes.antt`).
 //!
 //! What comes before it is handed on here: [`route_of`] says where a request goes and which blocks have to be fetched for it,
 //! [`foreign`] which groups of other owners have to be loaded.

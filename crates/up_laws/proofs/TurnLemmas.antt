@@ -2,6 +2,7 @@
 use Rattle.std.proofs.Common.{◌≡◌, ◌≢◌, ℕ, ◌+◌, Bool, true, false, ◌||◌, List, [], ◌∷◌, ◌++◌, length, refl, sym, ap, subst, ◌∙◌, ◌⊎◌, inl, inr, Result, Ok, Err}
 use Rattle.std.specs.Prelude.{if◌then◌else◌, nat_lt}
 use Rattle.std.proofs.lemmas.Bool.{false≢true}
+use Rattle.up_dir.specs.Crashes.{Survives}
 use Rattle.up_disk.specs.declared.disk.Disk.{Ghosts}
 use Rattle.up_ends.specs.Growing.{OnlyGrows}
 use Rattle.up_lists.specs.Counts.{Rose}
@@ -209,11 +210,13 @@ hindered false h = refl
 
 module _ {D : Type 0} (disks : Ghosts D) (turn : Turn) (old new : State D) (replied : Reply) where
   -- a step makes a turn
-  pub is_made : IsWhole (log_of old) → Steps disks (answer_in (log_of old) turn) (added_in (log_of old) turn) old new replied → OnlyGrows entries_of (λ state. disks.faults state.disk) fixed_of old new → IsMade disks turn old new replied
-  is_made whole steps grows = record {
+  pub is_made : IsWhole (log_of old) → Steps disks (answer_in (log_of old) turn) (added_in (log_of old) turn) old new replied → OnlyGrows entries_of (λ state. disks.faults state.disk) fixed_of old new → Survives disks (added_in (log_of old) turn) old new
+      → IsMade disks turn old new replied
+  is_made whole steps grows crash = record {
     log = whole;
     steps = steps;
     grows = grows;
+    crash = crash;
     answered = λ goes. by (kinds replied) goes;
     fault = λ stopped io. from (steps.failed io) (hindered (fetch_failed turn) (subst (λ r. is_hindered (fetch_failed turn) r ≡ true) io stopped));
   }

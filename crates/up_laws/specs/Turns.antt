@@ -3,6 +3,7 @@ use Rattle.std.specs.Prelude.{◌≡◌, ℕ, Bool, true, false, not, ◌||◌, 
 use Rattle.std.specs.List.{list_any}
 use Rattle.std.specs.Map.{lookup}
 use Rattle.up_names.specs.Texts.{UserName}
+use Rattle.up_dir.specs.Crashes.{Survives}
 use Rattle.up_disk.specs.declared.disk.Disk.{Ghosts}
 use Rattle.up_ends.specs.Growing.{OnlyGrows}
 use Rattle.up_entry.specs.declared.entries.Location.{Location}
@@ -65,11 +66,12 @@ stops turn replied = is_hindered (fetch_failed turn) replied
 abbrev pub one_stops : Turn × Turn → Reply × Reply → Bool
 one_stops turns replies = stops turns.0 replies.0 || stops turns.1 replies.1
 
--- A turn was made on a tree, whose log is one, by its step. Unless it stops a run, its reply is the answer over the log; and an Io that
--- stops one comes only where the disk failed.
+-- A turn was made on a tree, whose log is one, by its step, and a crash left at any moment of it what a step leaves. Unless it stops a
+-- run, its reply is the answer over the log; and an Io that stops one comes only where the disk failed.
 pub record IsMade {D : Type 0} (disks : Ghosts D) (turn : Turn) (old new : State D) (replied : Reply) : Type 0 where
   pub log : IsWhole (log_of old)
   pub steps : Steps disks (answer_in (log_of old) turn) (added_in (log_of old) turn) old new replied
   pub grows : OnlyGrows entries_of (λ state. disks.faults state.disk) fixed_of old new
+  pub crash : Survives disks (added_in (log_of old) turn) old new
   pub answered : stops turn replied ≡ false → replied ≡ answer_in (log_of old) turn
   pub fault : stops turn replied ≡ true → replied ≡ reply.Io → Rose (disks.faults old.disk) (disks.faults new.disk)

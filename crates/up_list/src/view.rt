@@ -280,14 +280,14 @@ fn named_in<'a>(
     tree: &'a MemTree,
     dir: &Path,
     name: &str,
-    joined: Result<Path, NameFault>,
+    made: Result<Path, NameFault>,
 ) -> Result<Option<Found<'a>>, AllocError>
-    requires { Gives (λ path. path) joined (joined dir.now name.now) }
+    requires { Gives (λ path. path) made (joined dir.now name.now) }
     ensures found { IfOk result (λ found. option_map entry_found found
         ≡ entry_at (tree_of tree.now.log) (extended dir.now name.now)) }
-    ensures memory { IsErr result → path_made joined ≡ Err alloc_error }
+    ensures memory { IsErr result → path_made made ≡ Err alloc_error }
 {
-    match path_made(joined)? {
+    match path_made(made)? {
         Some(path) => Ok(kept(tree.node(&path))),
         None => Ok(kept(child_named(tree, dir, name))),
     }

@@ -1,15 +1,16 @@
 -- The needed groups of a request, over a tree in memory.
-use Rattle.std.specs.Prelude.{ℕ, ◌+◌, List, [], ◌∷◌, if◌then◌else◌, slice_get, Some, None}
+use Rattle.std.specs.Prelude.{◌≡◌, ◌≤◌, ℕ, List, [], ◌∷◌, length, Some, None}
 use Rattle.std.specs.Option.{option_and_then}
 use Rattle.up_names.specs.Texts.{UserName}
-use Rattle.up_names.specs.PathNames.{PathName, is_under}
+use Rattle.up_names.specs.PathNames.{PathName}
 use Rattle.up_entry.specs.declared.records.Rec.{Rec}
 use Rattle.up_policy.specs.Loadings.{Loading}
 use Rattle.up_policy.specs.Reached.{needed}
-use Rattle.up_replay.specs.Changes.{path_of_change}
+use Rattle.up_replay.specs.Changes.{path_of_change, record_at}
 use Rattle.up_replay.specs.Rights.{facts_of, group_paths}
 use Rattle.up_replay.specs.Trees.{Tree, tree_at, tree_of}
 use Rattle.up_answers.specs.Needs.{Place}
+use Rattle.up_nodes.specs.MemTrees.{TreeLog}
 
 -- the needed groups of a place in this owner's tree
 abbrev pub needed_in : UserName → Loading → Place → List PathName
@@ -18,10 +19,14 @@ needed_in owner loaded place = needed (facts_of owner place.0) (group_paths plac
 abbrev pub in_tree : Tree → PathName → Place
 in_tree tree path = (tree, path)
 
--- the places of the path that the record behind the first n changes, where it is under a path: as the tree is now, and directly
--- after the record
-abbrev pub places_under : List Rec → PathName → ℕ → List Place
-places_under records above n = elim (option_and_then path_of_change (slice_get records n)) [
+-- the places of the path that record n, from 1, changes: as the tree is now, and directly after the record
+abbrev pub places_at : List Rec → ℕ → List Place
+places_at records n = elim (option_and_then path_of_change (record_at records n)) [
   | None ↦ []
-  | Some path ↦ if is_under path above then (tree_of records, path) ∷ (tree_at records (n + 1), path) ∷ [] else []
+  | Some path ↦ (tree_of records, path) ∷ (tree_at records n, path) ∷ []
 ]
+
+-- a position, and what the record at it changes is the owner's
+pub record IsOwnChange (tree : TreeLog) (n : ℕ) : Type 0 where
+  pub within : n ≤ length tree.log
+  pub owned : (path : PathName) → option_and_then path_of_change (record_at tree.log n) ≡ Some path → path.owner ≡ tree.owner

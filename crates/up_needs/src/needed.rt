@@ -1,6 +1,6 @@
 //! Which groups have to be loaded for a request.
-ghost use Rattle.std.specs.Prelude.{◌≡◌, ◌≤◌, ◌<◌, ◌+◌, ◌∷◌, IfOk, OnOk, length, map};
-ghost use Rattle.std.specs.List.{flat_map};
+ghost use Rattle.std.specs.Prelude.{◌≡◌, ◌≤◌, ◌∷◌, IfOk, OnOk, length, map};
+ghost use Rattle.std.specs.List.{AllByRecursion, flat_map};
 ghost use Rattle.std.specs.Map.{keys_of};
 ghost use Rattle.up_answers.specs.Needs.{event_places_to, items_where, needs, needs_asked, owner_places, places, places_for, watch_places, where_ordinary};
 ghost use Rattle.std.specs.Option.{option_and_then, option_copied};
@@ -13,7 +13,7 @@ ghost use Rattle.up_replay.specs.Logs.{Limits};
 ghost use Rattle.up_list.specs.Asking.{owner_asked};
 ghost use Rattle.up_policy.specs.Reached.{with_paths};
 ghost use Rattle.up_replay.specs.Trees.{tree_at, tree_of};
-ghost use Rattle.up_needs.specs.Foreign.{in_tree, needed_in, places_under};
+ghost use Rattle.up_needs.specs.Foreign.{IsOwnChange, in_tree, needed_in, places_at};
 ghost use Rattle.up_needs.specs.Times.{AreBothNoted};
 ghost use Rattle.up_needs.specs.Trees.{log_over};
 ghost use Rattle.up_tree.specs.States.{log_of};
@@ -366,8 +366,7 @@ fn note_under(
     note_each(alloc, tree, user, &items, loaded, names)
 }
 
-/// Adds what is needed at the paths of the records above a sequence that are under a path. A text is looked at once for each state
-/// of the Group files in which it governed some of them.
+/// Adds what is needed at the paths of the records above a sequence that are under a path. It goes through these records alone.
 fn note_events(
     alloc: Global,
     tree: &MemTree,
@@ -382,44 +381,54 @@ fn note_events(
         ≡ with_paths names.old (flat_map (needed_in tree.now.owner loaded.now)
         (event_places_to (log_over limits tree.now) above path.now (length tree.now.log)))) }
 {
-    let records = tree.position();
+    let _records = tree.position();
+    let positions = tree.positions_under(path, above);
+    note_positions(alloc, tree, user, positions, loaded, names)
+}
+
+/// Adds what is needed at the paths that the records at these positions change. A text is looked at once, and again where it or a Group
+/// file has changed since.
+fn note_positions(
+    alloc: Global,
+    tree: &MemTree,
+    user: &User,
+    positions: &[u64],
+    loaded: &Loaded,
+    names: &mut Names,
+) -> Result<(), AllocError>
+    requires { AllByRecursion (IsOwnChange tree.now) positions.now }
+    ensures { OnOk result (names.new
+        ≡ with_paths names.old (flat_map (needed_in tree.now.owner loaded.now)
+        (flat_map (places_at tree.now.log) positions.now))) }
+{
     let mut times = Times::new(alloc);
-    for n in above.min(records)..records {
-        note_record(alloc, tree, user, path, n, loaded, &mut times, names)?;
+    for position in positions {
+        note_record(alloc, tree, user, *position, loaded, &mut times, names)?;
     }
     Ok(())
 }
 
-/// Adds what is needed at the path that the record behind the first `n` changes, where that is under a path: as the tree is now, and
-/// as it was directly after the record.
-#[tactic(auto, using(crate::proofs::EventLemmas::under_owned))]
+/// Adds what is needed at the path that record `n`, from 1, changes: as the tree is now, and as it was directly after the record.
 fn note_record(
     alloc: Global,
     tree: &MemTree,
     user: &User,
-    above: &Path,
     n: u64,
     loaded: &Loaded,
     times: &mut Times,
     names: &mut Names,
 ) -> Result<(), AllocError>
-    requires owned { above.now.owner ≡ tree.now.owner }
-    requires within { n < length tree.now.log }
-    requires noted { AreBothNoted tree.now loaded.now n times.old names.old }
+    requires change { IsOwnChange tree.now n }
+    requires noted { AreBothNoted tree.now loaded.now times.old names.old }
     ensures added { OnOk result (names.new
         ≡ with_paths names.old (flat_map (needed_in tree.now.owner loaded.now)
-        (places_under tree.now.log above.now n))) }
-    ensures noted { OnOk result (AreBothNoted tree.now loaded.now (n + 1) times.new names.new) }
+        (places_at tree.now.log n))) }
+    ensures noted { OnOk result (AreBothNoted tree.now loaded.now times.new names.new) }
 {
-    let _records = tree.position();
-    let Some(path) = changed_path(tree.rec_at(n + 1)) else {
+    let Some(path) = changed_path(tree.rec_at(n)) else {
         return Ok(());
     };
-    times.past.pass(alloc, path)?;
-    if !path.is_under(above) {
-        return Ok(());
-    }
-    times.note_both(alloc, tree, n + 1, user, path, loaded, names)
+    times.note_both(alloc, tree, n, user, path, loaded, names)
 }
 
 /// The path that a record changes.

@@ -1,5 +1,5 @@
 -- A list cut where its numbers pass a bound.
-use Rattle.std.proofs.Common.{◌≡◌, ℕ, zero, suc, ◌-◌, ◌<◌, ◌≤◌, List, [], ◌∷◌, ◌++◌, length, get_or, ap, ◌∙◌, arith, inl, inr}
+use Rattle.std.proofs.Common.{◌≡◌, ℕ, zero, suc, ◌+◌, ◌<◌, ◌≤◌, List, [], ◌∷◌, ◌++◌, length, get_or, ap, ◌∙◌, arith, inl, inr}
 use Rattle.std.proofs.lemmas.Bool.{cases_lt}
 use Rattle.std.proofs.lemmas.List.{length-append}
 use Rattle.std.specs.List.{AllByRecursion}
@@ -19,23 +19,23 @@ high_at [] (n ∷ rest) above (suc i) high le lt = high_at [] rest above i high.
 high_at (n ∷ front) rest above zero high le lt = absurd (omega (arith, le))
 high_at (n ∷ front) rest above (suc i) high le lt = high_at front rest above i high (omega (arith, le)) (omega (arith, lt))
 
--- a number above the bound is none of the front
-pub above_front : (all front rest : List ℕ) (above first : ℕ) → all ≡ front ++ rest → AllByRecursion (λ n. n ≤ above) front → 0 < first → above < get_or all (first - 1) 0 → length front ≤ first → length front ≤ first - 1
-above_front all front rest above first is low some passes le = elim (cases_lt (first - 1) (length front)) [
-  | inl lt ↦
-      let not_above : get_or (front ++ rest) (first - 1) 0 ≤ above = low_at front rest above (first - 1) low lt in
-      let same : get_or all (first - 1) 0 ≡ get_or (front ++ rest) (first - 1) 0 = ap (λ l. get_or l (first - 1) 0) is in
-      absurd (omega (arith, not_above, same, passes))
-  | inr ge ↦ omega (arith, ge)
+-- a number that is not above the bound is one of the front
+pub low_front : (all front rest : List ℕ) (above i : ℕ) → all ≡ front ++ rest → AllByRecursion (λ n. above < n) rest → i < length all → get_or all i 0 ≤ above → i + 1 ≤ length front
+low_front all front rest above i is high within early = elim (cases_lt i (length front)) [
+  | inl lt ↦ omega (arith, lt)
+  | inr ge ↦
+      let same : get_or all i 0 ≡ get_or (front ++ rest) i 0 = ap (λ l. get_or l i 0) is in
+      let long : length all ≡ length (front ++ rest) = ap length is in
+      let late : above < get_or (front ++ rest) i 0 = high_at front rest above i high ge (omega (arith, within, long)) in
+      absurd (omega (arith, same, late, early))
 ]
 
--- and one that is not is none of the rest
-pub all_rest : (all front rest : List ℕ) (above first : ℕ) → all ≡ front ++ rest → AllByRecursion (λ n. above < n) rest → first ≤ length all → 0 < first → get_or all (first - 1) 0 ≤ above → length front ≤ first → first ≡ length front
-all_rest all front rest above first is high within some fails le = elim (cases_lt (length front) first) [
+-- and one that is above it is one of the rest
+pub above_rest : (all front rest : List ℕ) (above i : ℕ) → all ≡ front ++ rest → AllByRecursion (λ n. n ≤ above) front → above < get_or all i 0 → length front ≤ i
+above_rest all front rest above i is low late = elim (cases_lt i (length front)) [
   | inl lt ↦
-      let same : get_or all (first - 1) 0 ≡ get_or (front ++ rest) (first - 1) 0 = ap (λ l. get_or l (first - 1) 0) is in
-      let long : length all ≡ length (front ++ rest) = ap length is in
-      let passes : above < get_or (front ++ rest) (first - 1) 0 = high_at front rest above (first - 1) high (omega (arith, lt)) (omega (arith, within, some, long)) in
-      absurd (omega (arith, same, passes, fails))
-  | inr ge ↦ omega (arith, ge, le)
+      let early : get_or (front ++ rest) i 0 ≤ above = low_at front rest above i low lt in
+      let same : get_or all i 0 ≡ get_or (front ++ rest) i 0 = ap (λ l. get_or l i 0) is in
+      absurd (omega (arith, early, same, late))
+  | inr ge ↦ omega (arith, ge)
 ]

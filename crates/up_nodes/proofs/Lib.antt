@@ -30,4 +30,6 @@ pub mod Placed
 pub mod SnapUsers
 pub mod SnapTimes
 pub mod Within
+pub mod Grouped
+pub mod Quiet
 pub mod Nameds

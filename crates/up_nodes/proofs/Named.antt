@@ -82,7 +82,7 @@ positions-push test n (first ∷ records) rec = go (test first) (test rec) (posi
     go false true rest = rest ∙ ap (λ p. positions_of test (suc n) records ++ p ∷ []) place
     go false false rest = rest
 
-last_or-push : (o : Option ℕ) (ns : List ℕ) (n : ℕ) → last_or o (ns ++ n ∷ []) ≡ Some n
+pub last_or-push : (o : Option ℕ) (ns : List ℕ) (n : ℕ) → last_or o (ns ++ n ∷ []) ≡ Some n
 last_or-push o [] n = refl
 last_or-push o (m ∷ ns) n = last_or-push (Some m) ns n
 

@@ -26,12 +26,12 @@ use Rattle.up_nodes.proofs.Walks.{slot_there}
 -- ---- lists with one item more
 
 module _ {X : Type 0} where
-  get_front : (xs ys : List X) (n : ℕ) → n < length xs → slice_get (xs ++ ys) n ≡ slice_get xs n
+  pub get_front : (xs ys : List X) (n : ℕ) → n < length xs → slice_get (xs ++ ys) n ≡ slice_get xs n
   get_front [] ys n lt = absurd (omega (arith, lt))
   get_front (x ∷ xs) ys zero lt = refl
   get_front (x ∷ xs) ys (suc n) lt = get_front xs ys n (omega (arith, lt))
 
-  get_last : (xs : List X) (x : X) → slice_get (xs ++ x ∷ []) (length xs) ≡ Some x
+  pub get_last : (xs : List X) (x : X) → slice_get (xs ++ x ∷ []) (length xs) ≡ Some x
   get_last [] x = refl
   get_last (y ∷ xs) x = get_last xs x
 

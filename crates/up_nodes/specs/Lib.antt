@@ -4,4 +4,5 @@ pub mod Edits
 pub mod Steps
 pub mod Kept
 pub mod Unders
+pub mod Groups
 pub mod MemTrees

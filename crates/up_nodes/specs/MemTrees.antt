@@ -1,7 +1,9 @@
 -- What contracts see of a tree in memory. This project's own.
-use Rattle.std.specs.Prelude.{List, Option, Some, None, option_map, ⊤}
+use Rattle.std.specs.Prelude.{◌<◌, ℕ, List, Option, Some, None, Vec, option_map, ⊤}
+use Rattle.std.specs.Vec.{vec_capacity, vec_len}
 use Rattle.up_names.specs.Texts.{UserName}
 use Rattle.up_entry.specs.declared.records.Rec.{Rec}
+use Rattle.up_nodes.specs.Groups.{AreGroupChanges}
 use Rattle.up_nodes.specs.Kept.{IsReadyFor, Stands, slots_of}
 use Rattle.up_nodes.specs.Unders.{AreNoted, CanNoteRecord, noted_all}
 use Rattle.up_nodes.specs.declared.kept.Kept.{Kept}
@@ -29,9 +31,16 @@ abbrev pub CanBeNoted : Kept → List Under → Option Ready → Type 0
 CanBeNoted kept unders None = ⊤
 CanBeNoted kept unders (Some made) = CanNoteRecord unders (slots_of kept) made.rec
 
+-- and the last change of a Group file be kept for it
+abbrev pub HasRoomFor : {A : Type 0} → Vec ℕ A → Option Ready → Type 0
+HasRoomFor groups None = ⊤
+HasRoomFor groups (Some made) = vec_len groups < vec_capacity groups
+
 -- all that is kept stands for the log, and what was made ready can be entered and noted
-pub record IsMemTree (kept : Kept) (unders : List Under) (ready : Option Ready) : Type 0 where
+pub record IsMemTree {A : Type 0} (kept : Kept) (unders : List Under) (groups : Vec ℕ A) (ready : Option Ready) : Type 0 where
   pub stands : Stands kept
   pub noted : AreNoted kept.log.items (slots_of kept) (noted_all unders)
+  pub grouped : AreGroupChanges kept.log.items groups.items
   pub can : CanEnter kept ready
   pub note : CanBeNoted kept unders ready
+  pub room : HasRoomFor groups ready

@@ -1,10 +1,11 @@
 //! A tree in memory.
-ghost use Rattle.std.specs.Prelude.{◌≡◌, ◌≤◌, [], ◌∷◌, ◌++◌, false, None, Some, filter, length, option_map, slice_get, IfOk, IfSome, IsSome, OnOk};
+ghost use Rattle.std.specs.Prelude.{◌≡◌, ◌≤◌, [], ◌∷◌, ◌++◌, false, true, None, Some, filter, length, option_map, slice_get, IfOk, IfSome, IsSome, OnOk};
 ghost use Rattle.std.specs.Option.{option_copied};
 ghost use Rattle.up_policy.specs.Trees.{owns_snapshots};
 ghost use Rattle.std.specs.Map.{keys_of};
 ghost use Rattle.up_names.specs.PathNames.{cut};
 ghost use Rattle.up_policy.specs.Governors.{first_text, prefixes};
+ghost use Rattle.up_nodes.specs.Groups.{StayTexts};
 ghost use Rattle.up_nodes.specs.Kept.{IsReadyFor, IsSameKept, Stands, slots_of};
 ghost use Rattle.up_nodes.specs.Slots.{named_paths};
 ghost use Rattle.up_nodes.specs.Unders.{AreNoted, CanNoteRecord, noted_all};
@@ -14,9 +15,10 @@ ghost use Rattle.up_replay.specs.Rights.{facts_of, governing_prefix};
 ghost use Rattle.up_replay.specs.Snapshots.{snap_at, snapshots_of};
 ghost use Rattle.up_replay.specs.Trees.{children, is_parent, node_at, tree_at, tree_of};
 
+use crate::groups::{group_change_at, note_group};
 use crate::kept::Kept;
 use crate::steps::Step;
-use crate::unders::{Under, changes_under, make_room, note};
+use crate::unders::{Under, changes_above, make_room, note, reserve_one};
 use std::alloc::{AllocError, Global};
 use std::marker::Model;
 use std::mem;
@@ -41,6 +43,8 @@ pub struct MemTree {
     kept: Kept,
     /// At the number of each slot the changes at and below its path.
     unders: Vec<Under>,
+    /// For each record the position of the last one up to it that changes a Group path, or 0.
+    groups: Vec<u64>,
     ready: Option<Ready>,
 }
 
@@ -51,7 +55,7 @@ impl Model for MemTree {
 
     ghost view = { λ tree. record { owner = tree.kept.owner; log = tree.kept.log.items; ready = ready_record tree.ready } };
 
-    ghost invariant = { λ tree. IsMemTree tree.kept tree.unders.items tree.ready };
+    ghost invariant = { λ tree. IsMemTree tree.kept tree.unders.items tree.groups tree.ready };
 }
 
 /// Puts what was made ready in the place of what is there.
@@ -98,6 +102,7 @@ impl MemTree {
         MemTree {
             kept: Kept::new(alloc, owner),
             unders: Vec::new(alloc),
+            groups: Vec::new(alloc),
             ready: None,
         }
     }
@@ -173,6 +178,21 @@ impl MemTree {
         self.kept.nearest_at(path, n)
     }
 
+    /// Whether no record behind the first `m`, up to record `n`, changes the Access file in a directory or any Group file: then their
+    /// texts are the same after the first `m` records as after the first `n`. It takes no memory, and goes through no records.
+    pub fn texts_stay(&self, dir: &Path, m: u64, n: u64) -> bool
+        requires { n ≤ length self.now.log }
+        ensures { result ≡ true → StayTexts self.now.owner self.now.log dir.now m n }
+    {
+        if n < m {
+            return false;
+        }
+        if group_change_at(self.groups.as_slice(), &self.kept, n) > m {
+            return false;
+        }
+        self.kept.access_stays(dir, m, n)
+    }
+
     /// The path `i`, from 0, in the order of paths, of those in a directory that some record changes: what stands there now, and what
     /// stood there once.
     pub fn named(&self, dir: &Path, i: u64) -> Option<&Path>
@@ -196,11 +216,19 @@ impl MemTree {
         self.kept.change_before(n)
     }
 
-    /// The positions above `above` of the records that change a path under this one, in order.
+    /// The positions above `above` of the records that change a path under this one, in order. It takes no memory.
+    pub fn positions_under(&self, path: &Path, above: u64) -> &[u64]
+        ensures { result.now ≡ changes_under self.now.log path.now above }
+    {
+        changes_above(self.unders.as_slice(), &self.kept, path, above)
+    }
+
+    /// The same in a list of its own.
     pub fn changes_under(&self, path: &Path, above: u64) -> Result<Items<u64>, AllocError>
         ensures { IfOk result (λ found. found ≡ changes_under self.now.log path.now above) }
     {
-        changes_under(self.unders.as_slice(), &self.kept, path, above)
+        let positions = self.positions_under(path, above);
+        Ok(Items::from_vec(Vec::from_slice(*self.groups.allocator(), positions)?))
     }
 
     /// The position of the snapshot of that time.
@@ -232,6 +260,10 @@ impl MemTree {
         ensures ready { OnOk result (self.new.ready ≡ Some rec) }
     {
         hold(&mut self.ready, None);
+        if let Err(fault) = reserve_one(&mut self.groups) {
+            drop(rec);
+            return Err(fault);
+        }
         match made_ready(&mut self.kept, &mut self.unders, rec) {
             Ok(ready) => {
                 hold(&mut self.ready, Some(ready));
@@ -249,6 +281,7 @@ impl MemTree {
     {
         if let Some(made) = self.ready.take() {
             note(&mut self.unders, &self.kept, &made.rec);
+            note_group(&mut self.groups, &self.kept, &made.rec);
             self.kept.enter(made.rec, made.step);
         }
     }

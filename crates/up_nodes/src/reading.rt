@@ -1,5 +1,5 @@
 //! What stands at each path, and what stood there.
-ghost use Rattle.std.specs.Prelude.{◌≡◌, ◌≤◌, filter, length, slice_get};
+ghost use Rattle.std.specs.Prelude.{◌≡◌, ◌≤◌, true, filter, length, slice_get};
 ghost use Rattle.std.specs.Option.{option_copied};
 ghost use Rattle.up_nodes.specs.Kept.{IsOwnSlot, Stands, paths_of, slots_of};
 ghost use Rattle.up_names.specs.PathNames.{PathName};
@@ -8,7 +8,7 @@ ghost use Rattle.up_replay.specs.Changes.{last_change};
 ghost use Rattle.up_replay.specs.Rights.{facts_of};
 ghost use Rattle.up_replay.specs.Trees.{children, is_parent, node_at, tree_at, tree_of};
 
-use crate::history::text_at;
+use crate::history::{stays, text_at};
 use crate::kept::Kept;
 use crate::positions::if_any;
 use crate::slots::{Slot, path_in, slot_at};
@@ -103,6 +103,21 @@ impl Kept {
         match self.own_slot(dir) {
             Some(slot) => text_at(slot.access.as_slice(), n, self.log.len() as u64),
             None => None,
+        }
+    }
+
+    /// Whether no record behind the first `m`, up to record `n`, changes the Access file in a directory.
+    pub(crate) fn access_stays(&self, dir: &Path, m: u64, n: u64) -> bool
+        requires stands { Stands self.now }
+        requires order { m ≤ n }
+        requires within { n ≤ length self.now.log.items }
+        ensures { result ≡ true
+            → (facts_of self.now.owner (tree_at self.now.log.items m)).access dir.now
+            ≡ (facts_of self.now.owner (tree_at self.now.log.items n)).access dir.now }
+    {
+        match self.own_slot(dir) {
+            Some(slot) => stays(slot.access.as_slice(), m, n, self.log.len() as u64),
+            None => true,
         }
     }
 

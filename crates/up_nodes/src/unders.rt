@@ -1,5 +1,5 @@
 //! The changes at and below each path.
-ghost use Rattle.std.specs.Prelude.{◌≡◌, ◌≢◌, ◌≤◌, ◌<◌, ◌+◌, ◌++◌, ◌∷◌, [], ℕ, List, IfOk, IfSome, OnOk, None, length, slice_get};
+ghost use Rattle.std.specs.Prelude.{◌≡◌, ◌≢◌, ◌≤◌, ◌<◌, ◌+◌, ◌++◌, ◌∷◌, [], ℕ, List, IfSome, OnOk, None, length, slice_get};
 ghost use Rattle.std.specs.List.{AllByRecursion};
 ghost use Rattle.std.specs.Option.{option_copied};
 ghost use Rattle.std.specs.Vec.{vec_capacity, vec_len};
@@ -9,9 +9,8 @@ ghost use Rattle.up_replay.specs.Changes.{changes_under, path_of_change};
 ghost use Rattle.up_replay.specs.Orders.{has_path};
 
 use crate::kept::Kept;
-use std::alloc::{AllocError, Global};
+use std::alloc::AllocError;
 use up_entry::Rec;
-use up_lists::Items;
 use up_names::Path;
 
 /// The positions of the records that change a path or one below it, in order. It stands at the number of the path's slot.
@@ -21,7 +20,7 @@ pub(crate) struct Under {
 }
 
 /// The path that a record changes.
-fn path_of_change(rec: &Rec) -> Option<&Path>
+pub(crate) fn path_of_change(rec: &Rec) -> Option<&Path>
     ensures { option_copied result ≡ path_of_change rec.now }
 {
     match rec {
@@ -34,7 +33,7 @@ fn path_of_change(rec: &Rec) -> Option<&Path>
 // ---- room
 
 /// Makes room for one more position.
-fn reserve_one(positions: &mut Vec<u64>) -> Result<(), AllocError>
+pub(crate) fn reserve_one(positions: &mut Vec<u64>) -> Result<(), AllocError>
     ensures items { positions.new.items ≡ positions.old.items }
     ensures room { OnOk result (vec_len positions.new < vec_capacity positions.new) }
 {
@@ -209,21 +208,20 @@ pub(crate) fn note(unders: &mut Vec<Under>, kept: &Kept, rec: &Rec)
 
 // ---- what was noted
 
-/// The positions above `above` of the records that change a path or one below it, in order. It costs a logarithm, and what it gives.
-pub(crate) fn changes_under(
-    unders: &[Under],
+/// The positions above `above` of the records that change a path or one below it, in order. They are found by bisection.
+pub(crate) fn changes_above<'a>(
+    unders: &'a [Under],
     kept: &Kept,
     path: &Path,
     above: u64,
-) -> Result<Items<u64>, AllocError>
+) -> &'a [u64]
     requires stands { Stands kept.now }
     requires noted { AreNoted kept.now.log.items (slots_of kept.now) (noted_all unders.now) }
-    ensures { IfOk result (λ found. found ≡ changes_under kept.now.log.items path.now above) }
+    ensures { result.now ≡ changes_under kept.now.log.items path.now above }
 {
-    let alloc = *kept.log.allocator();
     match kept.id_of(path) {
-        Some(id) => positions_above(alloc, positions_at(unders, id), above),
-        None => Ok(Items::new(alloc)),
+        Some(id) => positions_above(positions_at(unders, id), above),
+        None => &[],
     }
 }
 
@@ -238,14 +236,14 @@ fn positions_at(unders: &[Under], id: usize) -> &[u64]
 }
 
 /// Those of some positions that are above `above`: the last ones.
-fn positions_above(alloc: Global, positions: &[u64], above: u64) -> Result<Items<u64>, AllocError>
+fn positions_above(positions: &[u64], above: u64) -> &[u64]
     ensures { (front rest : List ℕ) → positions.now ≡ front ++ rest
         → AllByRecursion (λ position. position ≤ above) front
         → AllByRecursion (λ position. above < position) rest
-        → IfOk result (λ found. found ≡ rest) }
+        → result.now ≡ rest }
 {
     let first = first_above(positions, above);
-    Ok(Items::from_vec(Vec::from_slice(alloc, &positions[first..])?))
+    &positions[first..]
 }
 
 /// The place from which on they are above `above`.
@@ -256,9 +254,15 @@ fn first_above(positions: &[u64], above: u64) -> usize
         → AllByRecursion (λ position. above < position) rest
         → result ≡ length front }
 {
-    let mut first = positions.len();
-    while first > 0 && positions[first - 1] > above {
-        first -= 1;
+    let mut low = 0;
+    let mut high = positions.len();
+    while low < high {
+        let middle = low + (high - low) / 2;
+        if positions[middle] <= above {
+            low = middle + 1;
+        } else {
+            high = middle;
+        }
     }
-    first
+    low
 }

@@ -3,7 +3,7 @@ use Rattle.std.proofs.Common.{◌≡◌, ℕ, suc, ◌-◌, ◌<◌, ◌≤◌, 
 use Rattle.std.specs.Prelude.{if◌then◌else◌, nat_lt, slice_get, Result, Ok, Err}
 use Rattle.up_names.specs.Faults.{Gives}
 use Rattle.up_names.specs.declared.fault.NameFault.{NameFault}
-use Rattle.up_names.specs.declared.fault.NameFault.TheVariants.{Element, OutOfMemory, TooLong}
+use Rattle.up_names.specs.declared.fault.NameFault.TheVariants.{AtSigns, Domain, Element, Local, OutOfMemory, Suffix, TooLong}
 use Rattle.std.specs.FinMap.Entries.{find}
 use Rattle.std.specs.List.{filter_map, list_all}
 use Rattle.std.specs.Option.{option_map}
@@ -24,7 +24,7 @@ use Rattle.up_replay.specs.declared.node.Node.{Node}
 use Rattle.up_replay.proofs.Paths.{extended_last, is_parent_of, last_extended, parent_extended, parent_passes}
 use Rattle.up_replay.proofs.Rising.{has-filter, rising-filter}
 use Rattle.up_answers.specs.SnapshotTrees.{snapshots_to}
-use Rattle.up_snap.specs.Listed.{IsTaken, kept_entry}
+use Rattle.up_snap.specs.Listed.{IsTaken, kept_entry, short_path}
 use Rattle.up_snap.specs.Shown.{first_to, is_short, old_path, renamed, shown_root}
 use Rattle.up_snap.specs.declared.shown.Shown.{Shown}
 use Rattle.up_snap.proofs.ListedLemmas.{listed_is, under_elsewhere, under_found, under_names, under_sorted, under_values}
@@ -174,6 +174,22 @@ module _ (records : List Rec) (dir : PathName) (n : ℕ) (old : PathName) where
       ap (λ e. Some e) (is ∙ ap (λ p. record (node.entry) { name = p }) ok.0)
       ∙ sym (ap (λ b. if b then option_map (λ node. entry_of (renamed (extended dir (last_element old)) node)) (node_at (tree_at records n) old) else None) ok.1
       ∙ ap (option_map (λ node. entry_of (renamed (extended dir (last_element old)) node))) (sym there))
+
+  -- the entry under the name that was made, or none
+  pub entry_made : (node : Node) (made : Result PathName NameFault) (path : Option PathName) → Some node ≡ node_at (tree_at records n) old → Gives (λ p. p) made (joined dir (last_element old)) → short_path made ≡ Ok path
+      → option_map (λ name. record (node.entry) { name = name }) path ≡ kept_entry records dir n old
+  entry_made node (Ok p) path there gives is =
+      let same : Some p ≡ path = cc in
+      ap (option_map (λ (name : PathName). record (node.entry) { name = name })) (sym same) ∙ entry_some node p (record (node.entry) { name = p }) there gives refl
+  entry_made node (Err (TooLong m)) path there gives is =
+      let same : None ≡ path = cc in
+      ap (option_map (λ (name : PathName). record (node.entry) { name = name })) (sym same) ∙ entry_long m (gives (λ memory. cc))
+  entry_made node (Err (AtSigns k)) path there gives is = absurd (cc)
+  entry_made node (Err Local) path there gives is = absurd (cc)
+  entry_made node (Err Suffix) path there gives is = absurd (cc)
+  entry_made node (Err Domain) path there gives is = absurd (cc)
+  entry_made node (Err (Element k)) path there gives is = absurd (cc)
+  entry_made node (Err OutOfMemory) path there gives is = absurd (cc)
 
 -- ---- the first snapshot that bears on a path
 

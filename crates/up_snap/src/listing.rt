@@ -14,7 +14,7 @@ ghost use Rattle.up_nodes.specs.Slots.{named_paths};
 ghost use Rattle.up_replay.specs.Trees.{is_parent, last_element};
 ghost use Rattle.up_answers.specs.SnapshotTrees.{snapshots_to};
 ghost use Rattle.up_snap.specs.Firsts.{IsMoment, sooner};
-ghost use Rattle.up_snap.specs.Listed.{IsNaming, IsTaken, kept_entry};
+ghost use Rattle.up_snap.specs.Listed.{IsNaming, IsTaken, kept_entry, short_path};
 ghost use Rattle.up_snap.specs.Shown.{first_to, shown_root};
 ghost use Rattle.up_snap.specs.declared.shown.Shown.{Shown};
 
@@ -25,9 +25,9 @@ use crate::standing::{earlier, first_to, item_by, moved_to};
 use crate::written::may_bear;
 use std::alloc::{AllocError, Global};
 use up_entry::Entry;
-use up_list::{Found, path_made};
+use up_list::Found;
 use up_maps::OrderedMap;
-use up_names::{Path, User};
+use up_names::{NameFault, Path, User};
 use up_nodes::MemTree;
 
 /// The items in a directory of the snapshot tree, in order of paths.
@@ -117,7 +117,6 @@ fn kept_item<'a>(
     old: &Path,
     n: u64,
 ) -> Result<Option<Found<'a>>, AllocError>
-    requires { 0 < length old.now.elements }
     ensures { IfOk result (λ found. option_map entry_found found
         ≡ kept_entry tree.now.log dir.now n old.now) }
 {
@@ -131,14 +130,25 @@ fn kept_item<'a>(
 ///
 /// The last element of a path is a name; so this one can only be too long.
 fn kept_entry(tree: &MemTree, dir: &Path, old: &Path, n: u64) -> Result<Option<Entry>, AllocError>
-    requires { 0 < length old.now.elements }
     ensures { IfOk result (λ entry. entry ≡ kept_entry tree.now.log dir.now n old.now) }
 {
     let Some(node) = node_then(tree, old, n)? else {
         return Ok(None);
     };
-    let path = path_made(dir.join(last_element(old)))?;
+    let path = short_path(dir.join(last_element(old)))?;
     moved_if(node.entry, path)
+}
+
+/// The path that was made of a directory and a path's last element, or `None` where it would be too long.
+fn short_path(joined: Result<Path, NameFault>) -> Result<Option<Path>, AllocError>
+    ensures { result ≡ short_path joined }
+{
+    match joined {
+        Ok(path) => Ok(Some(path)),
+        Err(NameFault::TooLong(_)) => Ok(None),
+        // A path's last element is one: what is left is want of memory.
+        Err(_) => Err(AllocError),
+    }
 }
 
 /// A copy of an entry under this name, if there is one. Without one no memory is wanting.

@@ -28,6 +28,8 @@ fn snapshot_user(alloc: Global, owner: &User) -> Result<User, AllocError>
     requires short { length (snapshot_user owner.now) ≤ 254 }
     ensures { IfOk result (λ user. user ≡ snapshot_user owner.now) }
 {
+    // That the owner's name is one is told with its text.
+    let _name = owner.text();
     let text = shower_text(alloc, owner)?;
     match parse_user(alloc, text.as_slice()) {
         Ok(user) => Ok(user),

@@ -9,6 +9,7 @@ ghost use Rattle.up_journal.specs.declared.limits.Limits.{Limits};
 ghost use Rattle.up_list.specs.Asking.{asked_of, owner_asked};
 ghost use Rattle.up_list.specs.Changes.{added_by, answer_of};
 ghost use Rattle.up_list.specs.declared.asking.Asked.{Asked};
+ghost use Rattle.up_lists.specs.Counts.{StaysUnless};
 ghost use Rattle.up_policy.specs.Loadings.{Loading};
 ghost use Rattle.up_replay.specs.Fits.{Fits};
 ghost use Rattle.up_snap.specs.Firsts.{IsMoment};
@@ -44,6 +45,8 @@ pub fn snap_step<D: Disk>(
         (answer (log_of state.old) loaded fetched user.now request.now now)
         (added (log_of state.old) loaded fetched user.now request.now now)
         state.old state.new result }
+    ensures quiet { StaysUnless (D.faults state.old.disk) (D.faults state.new.disk)
+        (result ≡ Reply.Io) }
     ensures grows { OnlyGrows entries_of (λ state. D.faults state.disk) fixed_of state.old state.new }
 {
     match asked_of(alloc, user, request) {
@@ -76,6 +79,8 @@ pub fn snap_asked<D: Disk>(
         (answer_of (log_of state.old) (snapshot_outcome (log_of state.old) user.now asked now))
         (added_by (log_of state.old) (snapshot_outcome (log_of state.old) user.now asked now))
         state.old state.new result }
+    ensures quiet { StaysUnless (D.faults state.old.disk) (D.faults state.new.disk)
+        (result ≡ Reply.Io) }
     ensures grows { OnlyGrows entries_of (λ state. D.faults state.disk) fixed_of state.old state.new }
 {
     let led = asked_in_memory(alloc, state.memory(), user, &asked, now);

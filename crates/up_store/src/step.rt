@@ -4,7 +4,7 @@ ghost use Rattle.std.specs.Str.{bytes_eq};
 ghost use Rattle.up_blocks.specs.Blocks.{limits_of, log_of};
 ghost use Rattle.up_blocks.specs.Records.{largest_block};
 ghost use Rattle.up_ends.specs.Growing.{OnlyGrows};
-ghost use Rattle.up_lists.specs.Counts.{HasCause};
+ghost use Rattle.up_lists.specs.Counts.{HasCause, StaysUnless};
 ghost use Rattle.up_store.specs.Answers.{DeletesAsked, GetsAsked, IsAsked, PutsAsked, StoreSteps, deleted_reply, given_reply, put_reply, refused_reply};
 
 use up_blocks::{BlockWhy, Blocks, MAX_BLOCK};
@@ -31,6 +31,8 @@ pub fn store_step<D: Disk>(
         operator.now user.now request.now blocks.old blocks.new result }
     ensures cause { HasCause (D.faults blocks.old.disk) (D.faults blocks.new.disk)
         (result ≡ Reply.Io) }
+    ensures quiet { StaysUnless (D.faults blocks.old.disk) (D.faults blocks.new.disk)
+        (result ≡ Reply.Io) }
     ensures grows { OnlyGrows log_of
         (λ blocks. D.faults blocks.disk) limits_of blocks.old blocks.new }
 {
@@ -55,6 +57,8 @@ fn get<D: Disk>(blocks: &mut Blocks<D>, text: &[u8]) -> Reply
     ensures gets { GetsAsked D.Disk text.now blocks.old blocks.new result }
     ensures cause { HasCause (D.faults blocks.old.disk) (D.faults blocks.new.disk)
         (result ≡ Reply.Io) }
+    ensures quiet { StaysUnless (D.faults blocks.old.disk) (D.faults blocks.new.disk)
+        (result ≡ Reply.Io) }
     ensures grows { OnlyGrows log_of
         (λ blocks. D.faults blocks.disk) limits_of blocks.old blocks.new }
 {
@@ -68,6 +72,8 @@ fn get<D: Disk>(blocks: &mut Blocks<D>, text: &[u8]) -> Reply
 fn put<D: Disk>(blocks: &mut Blocks<D>, bytes: &[u8]) -> Reply
     ensures puts { PutsAsked D.Disk bytes.now blocks.old blocks.new result }
     ensures cause { HasCause (D.faults blocks.old.disk) (D.faults blocks.new.disk)
+        (result ≡ Reply.Io) }
+    ensures quiet { StaysUnless (D.faults blocks.old.disk) (D.faults blocks.new.disk)
         (result ≡ Reply.Io) }
     ensures grows { OnlyGrows log_of
         (λ blocks. D.faults blocks.disk) limits_of blocks.old blocks.new }
@@ -83,6 +89,8 @@ fn delete<D: Disk>(blocks: &mut Blocks<D>, operator: &User, user: &User, text: &
     ensures deletes { DeletesAsked D.Disk
         operator.now user.now text.now blocks.old blocks.new result }
     ensures cause { HasCause (D.faults blocks.old.disk) (D.faults blocks.new.disk)
+        (result ≡ Reply.Io) }
+    ensures quiet { StaysUnless (D.faults blocks.old.disk) (D.faults blocks.new.disk)
         (result ≡ Reply.Io) }
     ensures grows { OnlyGrows log_of
         (λ blocks. D.faults blocks.disk) limits_of blocks.old blocks.new }

@@ -1,5 +1,5 @@
 -- What comes of a journal that was opened, once its records are read as a tree, or are not.
-use Rattle.std.proofs.Common.{◌≡◌, ℕ, List, [], Some, Result, Ok, Err, IfErr, IfOk, sym, ap, ◌∙◌, subst}
+use Rattle.std.proofs.Common.{◌≡◌, ℕ, List, [], Some, Result, Ok, Err, IfErr, IfOk, sym, ap, ◌∙◌}
 use Rattle.up_disk.specs.declared.disk.Disk.{Ghosts}
 use Rattle.up_disk.specs.Leaving.{LeavesNow}
 use Rattle.up_entry.specs.Spelling as spelling

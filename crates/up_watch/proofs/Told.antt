@@ -1,6 +1,7 @@
 -- The events of a log above a sequence, on paths under one, are what is told of the records that change such paths.
-use Rattle.std.proofs.Common.{◌≡◌, ◌≢◌, ℕ, zero, suc, ◌+◌, ◌-◌, ◌<◌, ◌≤◌, Bool, true, false, not, ◌&&◌, List, [], ◌∷◌, length, take, drop, refl, sym, ap, ◌∙◌, arith, Option, Some, None}
-use Rattle.std.specs.Prelude.{pos, if◌then◌else◌, filter, nat_lt, slice_get, MatchOption}
+use Rattle.std.proofs.Common.{◌≡◌, ◌≢◌, ℕ, zero, suc, ◌+◌, ◌-◌, ◌<◌, ◌≤◌, Bool, true, false, not, ◌&&◌, List, [], ◌∷◌, length, take, drop, refl, sym, ap, subst, ◌∙◌, arith, Option, Some, None}
+use Rattle.std.specs.Prelude.{pos, if◌then◌else◌, filter, nat_lt, slice_get, IfOk, MatchOption, Result}
+use Rattle.std.specs.declared.alloc.AllocError.{AllocError}
 use Rattle.std.specs.List.{AllByRecursion, filter_map}
 use Rattle.std.specs.Option.{option_and_then, option_map}
 use Rattle.std.proofs.lemmas.Bool.{false≢true, le-ltb, lt-ltb}
@@ -175,6 +176,10 @@ watched_above tree is limits loaded user path above within =
 
 pub owned_of : (watching : Watching) (owner : List ℕ) (log : List Rec) → owner ≡ watching.owner → log ≡ watching.log → IsLog owner log → (n : ℕ) (change : Change) → Some change ≡ change_at watching.log (n - 1) → change.entry.name.owner ≡ watching.owner
 owned_of watching owner log same same' is n change at = change_owned owner log is (n - 1) change (ap (λ l. change_at l (n - 1)) same' ∙ sym at) ∙ same
+
+-- rights that were read are those of an equal set
+pub on_held : (result : Result Rights AllocError) (a b : Rights) → a ≡ b → IfOk result (λ held. held ≡ a) → IfOk result (λ held. held ≡ b)
+on_held result a b same held = subst (λ r. IfOk result (λ held. held ≡ r)) same held
 
 pub none_of : (r b : Bool) → r ≡ not b → r ≡ true → b ≡ false
 none_of r true is none = absurd (false≢true (sym is ∙ none))

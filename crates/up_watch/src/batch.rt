@@ -5,10 +5,11 @@ ghost use Rattle.up_answers.specs.Watches.{batch, position_at};
 ghost use Rattle.up_wire.specs.declared.replies.Done.TheVariants.{Events};
 ghost use Rattle.up_wire.specs.declared.replies.Reply.TheVariants.{Ok};
 ghost use Rattle.up_watch.specs.Batches.{IsPosition, Takes};
+ghost use Rattle.up_watch.specs.Decided.{Remembers};
 ghost use Rattle.up_watch.specs.Watching.{told};
 
 use crate::events::event_by;
-use crate::watcher::Watcher;
+use crate::watcher::{Known, Reader};
 use std::alloc::{AllocError, Global};
 use up_lists::Items;
 use up_wire::{Done, Reply, WatchEvent};
@@ -19,21 +20,23 @@ const MOST: usize = 256;
 /// The events of the records at these positions, in order: the first 256, and the sequence to go on from.
 pub(crate) fn batch(
     alloc: Global,
-    watcher: &mut Watcher,
+    reader: &Reader,
+    known: &mut Known,
     positions: &[u64],
 ) -> Result<Reply, AllocError>
-    requires { AllByRecursion (IsPosition watcher.old.log) positions.now }
+    requires positions { AllByRecursion (IsPosition reader.now.log) positions.now }
+    requires known { Remembers reader.now known.old }
     ensures { IfOk result (λ reply. reply
-        ≡ batch (length watcher.old.log) (filter_map (told watcher.old) positions.now)) }
+        ≡ batch (length reader.now.log) (filter_map (told reader.now) positions.now)) }
 {
     let mut found = Vec::new(alloc);
     for position in positions {
-        let event = event_by(alloc, watcher, *position)?;
+        let event = event_by(alloc, reader, known, *position)?;
         if !take_event(&mut found, event)? {
             return Ok(full(found));
         }
     }
-    let records = watcher.tree().position();
+    let records = reader.tree().position();
     Ok(Reply::Ok(Done::Events(Items::from_vec(found), records)))
 }
 

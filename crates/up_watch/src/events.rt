@@ -1,36 +1,42 @@
 //! The event of a record, to who watches.
-ghost use Rattle.std.specs.Prelude.{◌≡◌, ◌≢◌, ◌≤◌, IfOk, length};
-ghost use Rattle.up_watch.specs.Watching.{told};
+ghost use Rattle.std.specs.Prelude.{◌≡◌, ◌≢◌, ◌≤◌, true, IfOk, length};
+ghost use Rattle.up_list.specs.Looks.{rights};
+ghost use Rattle.up_rights.specs.RightSets.{has_any};
+ghost use Rattle.up_watch.specs.Decided.{Remembers};
+ghost use Rattle.up_watch.specs.Watching.{after, now, told};
 
 use crate::changed::changed_by;
-use crate::watcher::Watcher;
+use crate::watcher::{Known, Reader};
 use std::alloc::{AllocError, Global};
 use up_entry::shown;
-use up_rights::Right;
+use up_names::Path;
+use up_rights::{Right, RightSet};
 use up_wire::WatchEvent;
 
 /// The event of record `n`, from 1: where the user has any right on the path that it changes now, and had any directly after it.
 /// Its entry is shown by the rights of now.
 pub(crate) fn event_by(
     alloc: Global,
-    watcher: &mut Watcher,
+    reader: &Reader,
+    known: &mut Known,
     n: u64,
 ) -> Result<Option<WatchEvent>, AllocError>
     requires first { n ≢ 0 }
-    requires within { n ≤ length watcher.old.log }
-    ensures event { IfOk result (λ event. event ≡ told watcher.old n) }
-    ensures same { watcher.new ≡ watcher.old }
+    requires within { n ≤ length reader.now.log }
+    requires known { Remembers reader.now known.old }
+    ensures event { IfOk result (λ event. event ≡ told reader.now n) }
+    ensures known { Remembers reader.now known.new }
 {
-    let tree = watcher.tree();
+    let tree = reader.tree();
     let _records = tree.position();
     let Some(changed) = changed_by(tree, n) else {
         return Ok(None);
     };
-    let held = watcher.rights_now(alloc, &changed.entry.name)?;
+    let both = rights_on(alloc, reader, known, &changed.entry.name, n)?;
+    let (held, earlier) = both;
     if held.is_empty() {
         return Ok(None);
     }
-    let earlier = watcher.rights_after(alloc, &changed.entry.name, n)?;
     if earlier.is_empty() {
         return Ok(None);
     }
@@ -39,4 +45,28 @@ pub(crate) fn event_by(
         delete: changed.delete,
         entry: shown(alloc, changed.entry, held.has(Right::Read))?,
     }))
+}
+
+/// The user's rights on a path: as the tree is now, and, where these are any, as it was directly after record `n`.
+fn rights_on(
+    alloc: Global,
+    reader: &Reader,
+    known: &mut Known,
+    path: &Path,
+    n: u64,
+) -> Result<(RightSet, RightSet), AllocError>
+    requires owned { path.now.owner ≡ reader.now.owner }
+    requires within { n ≤ length reader.now.log }
+    requires known { Remembers reader.now known.old }
+    ensures held { IfOk result (λ both. both.0 ≡ rights (now reader.now) path.now) }
+    ensures earlier { IfOk result (λ both. has_any both.0 ≡ true
+        → both.1 ≡ rights (after reader.now n) path.now) }
+    ensures known { Remembers reader.now known.new }
+{
+    let held = known.rights_now(alloc, reader, path)?;
+    if held.is_empty() {
+        return Ok((held, held));
+    }
+    let earlier = known.rights_after(alloc, reader, path, n)?;
+    Ok((held, earlier))
 }

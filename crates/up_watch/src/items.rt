@@ -7,9 +7,11 @@ ghost use Rattle.up_answers.specs.Watches.{items_under};
 ghost use Rattle.up_list.specs.Founds.{entry_found};
 ghost use Rattle.up_list.specs.Places.{IsOwned};
 ghost use Rattle.up_list.specs.Rooted.{IsRooted};
+ghost use Rattle.up_watch.specs.Decided.{Remembers};
 ghost use Rattle.up_watch.specs.Items.{IsClosed, entries_below};
-ghost use Rattle.up_watch.specs.Watching.{is_before, item_told};
+ghost use Rattle.up_watch.specs.Watching.{is_before, item_told, now};
 
+use crate::watcher::{Known, Reader};
 use std::alloc::{AllocError, Global};
 use up_list::{Found, Onlooker};
 use up_names::Path;
@@ -20,13 +22,16 @@ use up_wire::WatchEvent;
 pub(crate) fn items_under<O: Onlooker>(
     alloc: Global,
     onlooker: &O,
+    reader: &Reader,
+    known: &mut Known,
     path: &Path,
 ) -> Result<Vec<WatchEvent>, AllocError>
-    requires { path.now.owner ≡ (O.look onlooker.now).owner }
-    ensures { IfOk result (λ events. events.items ≡ items_under (O.look onlooker.now) path.now) }
+    requires look { O.look onlooker.now ≡ now reader.now }
+    requires known { Remembers reader.now known.old }
+    ensures { IfOk result (λ events. events.items ≡ items_under (now reader.now) path.now) }
 {
     let found = walk(alloc, onlooker, path)?;
-    let mut events = items_told(alloc, onlooker, &found)?;
+    let mut events = items_told(alloc, reader, known, &found)?;
     sort_events(&mut events)?;
     Ok(events)
 }
@@ -92,36 +97,41 @@ fn first<'a>(alloc: Global, item: Option<Found<'a>>) -> Result<Vec<Found<'a>>, A
 }
 
 /// The events of those items on which the user has any right, in their order.
-fn items_told<O: Onlooker>(
+fn items_told(
     alloc: Global,
-    onlooker: &O,
+    reader: &Reader,
+    known: &mut Known,
     found: &[Found],
 ) -> Result<Vec<WatchEvent>, AllocError>
-    requires { AllByRecursion (IsOwned (O.look onlooker.now)) (map entry_found found.now) }
+    requires owned { AllByRecursion (IsOwned (now reader.now)) (map entry_found found.now) }
+    requires known { Remembers reader.now known.old }
     ensures { IfOk result (λ events. events.items
-        ≡ filter_map (item_told (O.look onlooker.now)) (map entry_found found.now)) }
+        ≡ filter_map (item_told (now reader.now)) (map entry_found found.now)) }
 {
     let mut events = Vec::new(alloc);
     for item in found {
-        tell_item(alloc, onlooker, item, &mut events)?;
+        tell_item(alloc, reader, known, item, &mut events)?;
     }
     Ok(events)
 }
 
 /// Adds the event of an item, where the user has any right on it.
-fn tell_item<O: Onlooker>(
+fn tell_item(
     alloc: Global,
-    onlooker: &O,
+    reader: &Reader,
+    known: &mut Known,
     item: &Found,
     events: &mut Vec<WatchEvent>,
 ) -> Result<(), AllocError>
-    requires { IsOwned (O.look onlooker.now) (entry_found item.now) }
-    ensures { OnOk result (events.new.items
+    requires owned { IsOwned (now reader.now) (entry_found item.now) }
+    requires known { Remembers reader.now known.old }
+    ensures told { OnOk result (events.new.items
         ≡ events.old.items
-        ++ option_to_list (item_told (O.look onlooker.now) (entry_found item.now))) }
+        ++ option_to_list (item_told (now reader.now) (entry_found item.now))) }
+    ensures known { Remembers reader.now known.new }
 {
     let entry = item.entry();
-    let held = onlooker.rights(alloc, &entry.name)?;
+    let held = known.rights_now(alloc, reader, &entry.name)?;
     if held.is_empty() {
         return Ok(());
     }

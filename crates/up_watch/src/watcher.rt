@@ -2,9 +2,9 @@
 ghost use Rattle.std.specs.Prelude.{◌≡◌, ◌≤◌, IfOk, length};
 ghost use Rattle.up_list.specs.Looks.{rights};
 ghost use Rattle.up_watch.specs.Decided.{Remembers};
-ghost use Rattle.up_watch.specs.Watching.{after, now};
+ghost use Rattle.up_watch.specs.Watching.{Watching, after, now};
 
-use crate::decided::{Decided, Past};
+use crate::decided::Decided;
 use std::alloc::{AllocError, Global};
 use std::marker::Model;
 use up_list::MemView;
@@ -35,27 +35,24 @@ impl<'a> Model for Reader<'a> {
 }
 
 impl<'a> Reader<'a> {
+    /// A user before a tree.
+    pub(crate) fn new(tree: &'a MemTree, loaded: &'a Loaded, user: &'a User) -> Reader<'a>
+        ensures { result ≡ record {
+          owner = tree.now.owner;
+          log = tree.now.log;
+          loaded = loaded.now;
+          user = user.now;
+        } }
+    {
+        Reader { tree, loaded, user }
+    }
+
     /// The tree.
     pub(crate) fn tree(&self) -> &'a MemTree
         ensures owner { result.now.owner ≡ self.now.owner }
         ensures log { result.now.log ≡ self.now.log }
     {
         self.tree
-    }
-
-    /// The user's rights on a path in the tree as it is.
-    #[tactic(auto, unfolding(up_list::specs::Looks::rights, up_replay::specs::Rights::facts_of))]
-    pub(crate) fn rights_now(&self, alloc: Global, path: &Path) -> Result<RightSet, AllocError>
-        requires { path.now.owner ≡ self.now.owner }
-        ensures { IfOk result (λ held. held ≡ rights (now self.now) path.now) }
-    {
-        rights_of(
-            alloc,
-            &MemView::new(self.tree),
-            self.loaded,
-            self.user,
-            path,
-        )
     }
 
     /// The user's rights on a path in the tree as it was directly after record `n`.
@@ -80,80 +77,55 @@ impl<'a> Reader<'a> {
     }
 }
 
-/// A user who watches a tree, and what was decided of the user's rights so far.
+/// What was decided so far of a user's rights, in the tree as it is and in the tree as it was.
 #[derive(Drop)]
-pub(crate) struct Watcher<'a> {
-    reader: Reader<'a>,
-    current: Decided,
-    past: Past,
+pub(crate) struct Known {
+    pub(crate) current: Decided,
+    pub(crate) past: Decided,
 }
 
-impl<'a> Model for Watcher<'a> {
-    ghost use Rattle.up_watch.specs.Decided.{Remembers};
-    ghost use Rattle.up_watch.specs.Watching.{Watching};
-
-    ghost Value = { Watching };
-
-    ghost view = { λ watcher. watcher.reader };
-
-    ghost invariant = { λ watcher. Remembers watcher.reader
-        watcher.current watcher.past.decided watcher.past.at };
-}
-
-impl<'a> Watcher<'a> {
-    /// A user before a tree, of whose rights nothing was decided yet. It takes no memory.
+impl Known {
+    /// Nothing was decided yet. It takes no memory.
     #[tactic(auto, using(crate::proofs::DecidedLemmas::remembers_none))]
-    pub(crate) fn new(
-        alloc: Global,
-        tree: &'a MemTree,
-        loaded: &'a Loaded,
-        user: &'a User,
-    ) -> Watcher<'a>
-        ensures { result ≡ record {
-          owner = tree.now.owner;
-          log = tree.now.log;
-          loaded = loaded.now;
-          user = user.now;
-        } }
+    pub(crate) fn new(alloc: Global) -> Known
+        ensures { (watching : Watching) → Remembers watching result }
     {
-        Watcher {
-            reader: Reader { tree, loaded, user },
+        Known {
             current: Decided::new(alloc),
-            past: Past::new(alloc),
+            past: Decided::new(alloc),
         }
     }
 
-    /// The tree.
-    pub(crate) fn tree(&self) -> &'a MemTree
-        ensures owner { result.now.owner ≡ self.now.owner }
-        ensures log { result.now.log ≡ self.now.log }
-    {
-        self.reader.tree()
-    }
-
     /// The user's rights on a path in the tree as it is.
-    #[tactic(auto, using(crate::proofs::DecidedLemmas::remembers_now))]
-    pub(crate) fn rights_now(&mut self, alloc: Global, path: &Path) -> Result<RightSet, AllocError>
-        requires { path.now.owner ≡ self.old.owner }
-        ensures held { IfOk result (λ held. held ≡ rights (now self.old) path.now) }
-        ensures same { self.new ≡ self.old }
+    pub(crate) fn rights_now(
+        &mut self,
+        alloc: Global,
+        reader: &Reader,
+        path: &Path,
+    ) -> Result<RightSet, AllocError>
+        requires owned { path.now.owner ≡ reader.now.owner }
+        requires known { Remembers reader.now self.old }
+        ensures held { IfOk result (λ held. held ≡ rights (now reader.now) path.now) }
+        ensures known { Remembers reader.now self.new }
     {
-        self.current.rights_now(alloc, &self.reader, path)
+        let records = reader.tree().position();
+        self.current.rights_after(alloc, reader, path, records)
     }
 
     /// The user's rights on a path in the tree as it was directly after record `n`.
-    #[tactic(auto, using(crate::proofs::DecidedLemmas::remembers_then))]
     pub(crate) fn rights_after(
         &mut self,
         alloc: Global,
+        reader: &Reader,
         path: &Path,
         n: u64,
     ) -> Result<RightSet, AllocError>
-        requires owned { path.now.owner ≡ self.old.owner }
-        requires within { n ≤ length self.old.log }
-        ensures held { IfOk result (λ held. held ≡ rights (after self.old n) path.now) }
-        ensures same { self.new ≡ self.old }
+        requires owned { path.now.owner ≡ reader.now.owner }
+        requires within { n ≤ length reader.now.log }
+        requires known { Remembers reader.now self.old }
+        ensures held { IfOk result (λ held. held ≡ rights (after reader.now n) path.now) }
+        ensures known { Remembers reader.now self.new }
     {
-        self.past.rights(alloc, &self.reader, path, n)
+        self.past.rights_after(alloc, reader, path, n)
     }
 }

@@ -1,7 +1,8 @@
 //! The reply to Watch.
 ghost use Rattle.std.specs.Prelude.{◌≡◌, ◌≢◌, IfOk, pos};
-ghost use Rattle.up_answers.specs.Watches.{watch_reply, watched};
+ghost use Rattle.up_answers.specs.Watches.{items_under, watch_reply, watched};
 ghost use Rattle.up_replay.specs.Logs.{Limits as Bounds};
+ghost use Rattle.up_replay.specs.Trees.{tree_of};
 ghost use Rattle.up_tree.specs.States.{log_of};
 ghost use Rattle.up_wire.specs.Bounds.{bounded};
 ghost use Rattle.up_wire.specs.declared.replies.Reply.TheVariants.{OutOfMemory};
@@ -9,7 +10,7 @@ ghost use Rattle.up_watch.specs.Watching.{log_in};
 
 use crate::batch::batch;
 use crate::items::items_under;
-use crate::watcher::Watcher;
+use crate::watcher::{Known, Reader};
 use std::alloc::{AllocError, Global};
 use up_disk::Disk;
 use up_entry::What;
@@ -19,7 +20,7 @@ use up_names::{Path, User};
 use up_nodes::MemTree;
 use up_policy::Loaded;
 use up_tree::TreeState;
-use up_wire::{Done, Reply, bounded};
+use up_wire::{Done, Reply, WatchEvent, bounded};
 
 /// The reply to Watch of a path of the tree's owner: what happened under it above a sequence, or what there is. Want of memory is
 /// a reply too.
@@ -101,7 +102,7 @@ fn told(
     }
     let records = tree.position();
     let items = if sequence == -1 {
-        items_under(alloc, &TreeLook::new(tree, loaded, user), path)?
+        items_now(alloc, tree, loaded, user, path)?
     } else {
         Vec::new(alloc)
     };
@@ -125,9 +126,38 @@ fn told_above(
     if sequence > tree.position() {
         return Ok(Reply::Invalid(What::Sequence));
     }
-    let positions = tree.changes_under(path, sequence)?;
-    let mut watcher = Watcher::new(alloc, tree, loaded, user);
-    let reply = batch(alloc, &mut watcher, positions.as_slice());
-    drop(watcher);
+    let reader = Reader::new(tree, loaded, user);
+    let mut known = Known::new(alloc);
+    let positions = tree.positions_under(path, sequence);
+    let reply = batch(alloc, &reader, &mut known, positions);
+    drop(known);
     reply
+}
+
+/// The items under a path on which the user has any right, as they are now.
+fn items_now(
+    alloc: Global,
+    tree: &MemTree,
+    loaded: &Loaded,
+    user: &User,
+    path: &Path,
+) -> Result<Vec<WatchEvent>, AllocError>
+    ensures { IfOk result (λ items. items.items ≡ items_under (record {
+      owner = tree.now.owner;
+      tree = tree_of tree.now.log;
+      loaded = loaded.now;
+      user = user.now;
+    }) path.now) }
+{
+    let reader = Reader::new(tree, loaded, user);
+    let mut known = Known::new(alloc);
+    let items = items_under(
+        alloc,
+        &TreeLook::new(tree, loaded, user),
+        &reader,
+        &mut known,
+        path,
+    );
+    drop(known);
+    items
 }

@@ -1,10 +1,15 @@
-use Rattle.std.proofs.Common.{sym, ap, ◌∙◌}
+use Rattle.std.proofs.Common.{refl, sym, ap, ◌∙◌}
 use Rattle.std.specs.Map.{keys_of}
 use Rattle.std.specs.Option.{option_copied}
 use Rattle.up_replay.specs.Trees.{tree_of}
 use Rattle.up_needs.specs.Foreign.{in_tree, needed_in}
+use Rattle.up_needs.proofs.NotedLemmas.{none_noted}
 use Rattle.up_needs.proofs.PlaceLemmas.{each_next, key_owned}
 use Rattle.up_needs.proofs.needed.note_each.Goals as goal
+
+-- none was looked at yet
+pub loop-i-init : goal.loop-i-init
+loop-i-init c = (none_noted c.args.tree.now c.args.loaded.now c.new-noted.result c.args.names.now c.new-noted.ensures, refl)
 
 pub note_now-requires-clause-owned : goal.note_now-requires-clause-owned
 note_now-requires-clause-owned c = key_owned c.args.tree.now.owner (keys_of c.args.paths.now.entries) c.loop-i.i c.in-Some.path.now c.requires (sym (ap option_copied c.in-Some.is) ∙ c.key_at.ensures)

@@ -10,5 +10,5 @@ use Rattle.up_needs.proofs.needed.note_each.Given as goal
 -- what is needed at the first paths is noted
 abbrev pub invariant-loop-i : goal.invariant-loop-i
 invariant-loop-i l =
-    AreNoted l.tree.owner l.loaded (tree_of l.tree.log) (keys_of l.noted.dirs.entries) l.names
+    AreNoted l.tree l.loaded l.noted l.names
     × (l.names ≡ with_paths l.fn.names (flat_map (needed_in l.tree.owner l.loaded) (map (in_tree (tree_of l.tree.log)) (take l.i (keys_of l.paths.entries)))))

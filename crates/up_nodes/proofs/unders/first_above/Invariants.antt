@@ -1,11 +1,12 @@
-use Rattle.std.proofs.Common.{◌≡◌, ◌≤◌, ◌<◌, ◌++◌, ℕ, List, length}
+use Rattle.std.proofs.Common.{◌≡◌, ◌≤◌, ◌<◌, ◌-◌, ◌++◌, ℕ, List, length}
 use Rattle.std.specs.List.{AllByRecursion}
 use Rattle.up_nodes.proofs.unders.first_above.Given as goal
 
-abbrev pub invariant-loop-first : goal.invariant-loop-first
-invariant-loop-first l =
-    (l.first ≤ length l.positions)
-    × ((front rest : List ℕ) → l.positions ≡ front ++ rest → AllByRecursion (λ position. position ≤ l.above) front → AllByRecursion (λ position. l.above < position) rest → length front ≤ l.first)
+-- all those not above stand before `low` or from there to `high`
+abbrev pub invariant-loop-low : goal.invariant-loop-low
+invariant-loop-low l =
+    (l.low ≤ l.high) × (l.high ≤ length l.positions)
+    × ((front rest : List ℕ) → l.positions ≡ front ++ rest → AllByRecursion (λ position. position ≤ l.above) front → AllByRecursion (λ position. l.above < position) rest → (l.low ≤ length front) × (length front ≤ l.high))
 
-abbrev pub decreases-loop-first : goal.decreases-loop-first
-decreases-loop-first l = l.first
+abbrev pub decreases-loop-low : goal.decreases-loop-low
+decreases-loop-low l = l.high - l.low

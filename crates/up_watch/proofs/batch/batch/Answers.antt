@@ -11,10 +11,10 @@ use Rattle.up_watch.proofs.batch.batch.Goals as goal
 -- a 257th
 pub returns-then-not-branch : goal.returns-then-not-branch
 returns-then-not-branch c =
-    let w : Watching = c.args.watcher.now in
+    let w : Watching = c.args.reader.now in
     let n = get_or c.args.positions.now c.loop-position.position-index 0 in
     let at = slice_get-get_or c.args.positions.now c.loop-position.position-index 0 c.loop-position-test.true in
-    let is : c.in_ok-event.event ≡ told w n = c.in_ok-event.ensures.event ∙ ap (λ (v : Watching). told v n) c.loop-position.invariant.1 in
+    let is : c.in_ok-event.event ≡ told w n = c.in_ok-event.ensures.event in
     let out = left_out c.loop-position.found.items c.take_event.new.found.items c.in_ok-event.event c.in_ok-take_event.field-0 c.if-not-branch.true c.in_ok-take_event.ensures in
     c.full.ensures (length w.log)
     ∙ (ap (λ es. Ok (Events es (unwrap_or (position_at es 255) (length w.log)))) out.0
@@ -23,20 +23,20 @@ returns-then-not-branch c =
 -- one position more
 pub loop-position-preserved : goal.loop-position-preserved
 loop-position-preserved c =
-    let w : Watching = c.args.watcher.now in
+    let w : Watching = c.args.reader.now in
     let n = get_or c.args.positions.now c.loop-position.position-index 0 in
     let at = slice_get-get_or c.args.positions.now c.loop-position.position-index 0 c.loop-position-test.true in
-    let is : c.in_ok-event.event ≡ told w n = c.in_ok-event.ensures.event ∙ ap (λ (v : Watching). told v n) c.loop-position.invariant.1 in
+    let is : c.in_ok-event.event ≡ told w n = c.in_ok-event.ensures.event in
     let took = taken_in c.loop-position.found.items c.take_event.new.found.items c.in_ok-event.event c.in_ok-take_event.field-0 c.if-not-branch.false c.in_ok-take_event.ensures in (
       gathers_next (told w) c.args.positions.now c.loop-position.position-index c.loop-position.found.items n c.in_ok-event.event c.take_event.new.found.items at is c.loop-position.invariant.0 took,
-      c.event_by.ensures.same ∙ c.loop-position.invariant.1,
+      c.event_by.ensures.known,
     )
 
 -- no more positions
 pub returns : goal.returns
 returns c =
-    let w : Watching = c.args.watcher.now in
-    let records : c.position-records.result ≡ length w.log = c.position-records.ensures.count ∙ (ap length c.tree.ensures.log ∙ ap (λ (v : Watching). length v.log) c.loop-position.invariant.1) in
+    let w : Watching = c.args.reader.now in
+    let records : c.position-records.result ≡ length w.log = c.position-records.ensures.count ∙ ap length c.tree.ensures.log in
     ap (λ es. Ok (Events es c.position-records.result)) c.from_vec.ensures
     ∙ (ap (λ k. Ok (Events c.loop-position.found.items k)) records
     ∙ gathers_all (told w) c.args.positions.now c.loop-position.position-index c.loop-position.found.items (length w.log) (omega (arith, c.loop-position-test.false)) c.loop-position.invariant.0)

@@ -1,8 +1,8 @@
-use Rattle.std.proofs.Common.{◌≡◌}
+use Rattle.up_watch.specs.Decided.{Remembers}
 use Rattle.up_watch.specs.Watching.{told}
 use Rattle.up_watch.proofs.Batches.{Gathers}
 use Rattle.up_watch.proofs.batch.batch.Given as goal
 
--- what is told of the first positions is there, and who watches is the same
+-- what is told of the first positions is there
 abbrev pub invariant-loop-position : goal.invariant-loop-position
-invariant-loop-position l = Gathers (told l.initial.watcher) l.positions l.position-index l.found.items × (l.watcher ≡ l.initial.watcher)
+invariant-loop-position l = Gathers (told l.reader) l.positions l.position-index l.found.items × Remembers l.reader l.known

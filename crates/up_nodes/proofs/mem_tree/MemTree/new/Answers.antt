@@ -1,6 +1,7 @@
 use Rattle.std.proofs.Common.{ap}
 use Rattle.up_nodes.specs.Kept.{slots_of}
 use Rattle.up_nodes.specs.Unders.{noted_all}
+use Rattle.up_nodes.proofs.Grouped.{grouped_none}
 use Rattle.up_nodes.proofs.Noted.{noted_empty}
 use Rattle.up_nodes.proofs.Readied.{not_made}
 use Rattle.up_nodes.proofs.mem_tree.MemTree.new.Goals as goal
@@ -8,4 +9,5 @@ use Rattle.up_nodes.proofs.mem_tree.MemTree.new.Goals as goal
 pub invariant_of-result : goal.invariant_of-result
 invariant_of-result c =
     let kept = c.new.result in
-    not_made kept c.new-2.result.items c.new.ensures.stands (noted_empty kept.owner kept.log.items (slots_of kept) (noted_all c.new-2.result.items) c.new.ensures.stands.linked c.new.ensures.log (ap noted_all c.new-2.ensures.items))
+    not_made kept c.new-2.result.items c.new-3.result c.new.ensures.stands (noted_empty kept.owner kept.log.items (slots_of kept) (noted_all c.new-2.result.items) c.new.ensures.stands.linked c.new.ensures.log (ap noted_all c.new-2.ensures.items))
+    (grouped_none kept.log.items c.new-3.result.items c.new.ensures.log c.new-3.ensures.items)

@@ -1,0 +1,10 @@
+pub mod Around
+pub mod Limits
+pub mod Messages
+pub mod Challenges
+pub mod Transcripts
+pub mod Talks
+pub mod Completing
+pub mod Requests
+pub mod Incoming
+pub mod Turns
