@@ -4,7 +4,8 @@ use Rattle.std.specs.List.{AllByRecursion, flat_map, list_any}
 use Rattle.std.proofs.lemmas.Bool.Decides.{nat_tests}
 use Rattle.std.proofs.lemmas.Grind.{flat_map-append}
 use Rattle.std.proofs.lemmas.List.Folds.{list_any-append}
-use Rattle.up_lists.specs.Counts.{HasCause, Rose}
+use Rattle.up_lists.proofs.Causes.{StaysUnless-same}
+use Rattle.up_lists.specs.Counts.{HasCause, Rose, StaysUnless}
 use Rattle.up_host.specs.Asks.{Asks, EachAfter, Tries}
 use Rattle.up_lists.proofs.RunLemmas.{Run-append}
 use Rattle.up_lists.specs.Runs.{Run}
@@ -41,6 +42,18 @@ HasCause-trans a b c p q r is one two = record {
   rose = λ h. or_cases p q (Rose a c) (sym is ∙ h) (λ e. Rose-left a b c (one.rose e) two.later) (λ e. Rose-right a b c one.later (two.rose e) two.later);
 }
 
+or_left : (p q : Bool) → p ≡ true → (p || q) ≡ true
+or_left true q is = refl
+or_left false q is = absurd (cc)
+
+or_right : (p q : Bool) → q ≡ true → (p || q) ≡ true
+or_right true q is = refl
+or_right false q is = is
+
+-- and nowhere else
+pub StaysUnless-trans : (a b c : ℕ) (p q r : Bool) → r ≡ (p || q) → StaysUnless a b (p ≡ true) → StaysUnless b c (q ≡ true) → StaysUnless a c (r ≡ true)
+StaysUnless-trans a b c p q r is one two = record { stays = λ none. two.stays (λ e. none (is ∙ or_right p q e)) ∙ one.stays (λ e. none (is ∙ or_left p q e)) }
+
 pub HasCause-quiet : (a b c : ℕ) → HasCause a b ⊥ → HasCause b c ⊥ → HasCause a c ⊥
 HasCause-quiet a b c one two = record { later = omega (arith, one.later, two.later); bounded = λ h. two.bounded (one.bounded h); rose = λ h. absurd h }
 
@@ -75,7 +88,7 @@ All-map P Q f (x ∷ xs) h = (f x h.0, All-map P Q f xs h.1)
 
 module _ {L Q A X : Type 0} (step : L → Q → A → L → Type 0) (faults : L → ℕ) (tied : L → L → Type 0) (is_failed : A → Bool) (question : X → List Q) (answer : X → List A) where
   pub Asks-none : ((a : L) → tied a a) → (now : L) → Asks step faults tied is_failed question answer now now []
-  Asks-none same now = record { asked = refl; counts = HasCause-same (faults now) _ (λ h. absurd (cc)); tie = same now }
+  Asks-none same now = record { asked = refl; counts = HasCause-same (faults now) _ (λ h. absurd (cc)); quiet = StaysUnless-same (faults now) _; tie = same now }
 
   pub Asks-trans : ((a b c : L) → tied a b → tied b c → tied a c) → (a b c : L) (xs ys : List X)
       → Asks step faults tied is_failed question answer a b xs → Asks step faults tied is_failed question answer b c ys → Asks step faults tied is_failed question answer a c (xs ++ ys)
@@ -85,6 +98,8 @@ module _ {L Q A X : Type 0} (step : L → Q → A → L → Type 0) (faults : L 
         (Run-append step a b c (flat_map question xs) (flat_map question ys) (flat_map answer xs) (flat_map answer ys) one.asked two.asked));
     counts = HasCause-trans (faults a) (faults b) (faults c) (list_any is_failed (flat_map answer xs)) (list_any is_failed (flat_map answer ys)) (list_any is_failed (flat_map answer (xs ++ ys)))
         (ap (list_any is_failed) (flat_map-append answer xs ys) ∙ list_any-append is_failed (flat_map answer xs) (flat_map answer ys)) one.counts two.counts;
+    quiet = StaysUnless-trans (faults a) (faults b) (faults c) (list_any is_failed (flat_map answer xs)) (list_any is_failed (flat_map answer ys)) (list_any is_failed (flat_map answer (xs ++ ys)))
+        (ap (list_any is_failed) (flat_map-append answer xs ys) ∙ list_any-append is_failed (flat_map answer xs) (flat_map answer ys)) one.quiet two.quiet;
     tie = joined a b c one.tie two.tie;
   }
 

@@ -2,6 +2,7 @@
 use Rattle.std.proofs.Common.{◌≡◌, ◌≤◌, ◌||◌, ℕ, Bool, true, false, List, [], ◌∷◌, ◌++◌, refl, sym, ap, subst, ◌∙◌, inl, inr, arith, append_assoc, Option, Some, Result, Ok, Err}
 use Rattle.std.specs.Prelude.{IfSome, is_some}
 use Rattle.std.specs.List.{AllByRecursion}
+use Rattle.std.specs.Result.{result_ok}
 use Rattle.up_answers.specs.Fetching.{Fetched, is_failed}
 use Rattle.up_blocks.specs.Blocks.{GivesBlock}
 use Rattle.up_blocks.specs.Records.{IsTold}
@@ -13,6 +14,7 @@ use Rattle.up_entry.specs.declared.entries.Endpoint.{Endpoint}
 use Rattle.up_entry.specs.declared.entries.Endpoint.TheVariants as endpoint
 use Rattle.up_entry.specs.declared.entries.Location.{Location}
 use Rattle.up_entry.specs.declared.fetch.Fetch.{Fetch}
+use Rattle.up_entry.specs.declared.fetch.Fetch.TheVariants as fetch
 use Rattle.up_host.proofs.AsksLemmas.{All-append, All-map, Asks-trans, HasCause-for, HasCause-same, Rose-left, Rose-right, Tries-none, Tries-one}
 use Rattle.up_host.proofs.SettledLemmas.{gives_settled, settled_same, settled_trans}
 use Rattle.up_host.proofs.StoreDone.{told_bytes}
@@ -20,6 +22,8 @@ use Rattle.up_host.specs.Asks.{Asks, Tries}
 use Rattle.up_host.specs.Blocks.{Got, block_answer, block_question}
 use Rattle.up_host.specs.Fetches.{AreRead, FetchedAs, Fetches, FetchesAt, ReadAt, StoreReads}
 use Rattle.up_journal.specs.Logs.{LogState}
+use Rattle.up_lists.proofs.Causes.{StaysUnless-more, StaysUnless-same}
+use Rattle.up_lists.specs.Counts.{StaysUnless}
 use Rattle.up_peer.specs.declared.loader.Loader.{Ghosts}
 
 or_false : (b : Bool) → (b || false) ≡ true → b ≡ true
@@ -97,13 +101,14 @@ module _ {D L : Type 0} (disks : disk.Ghosts D) (loader : Ghosts L) where
     one_at endpoint.Local reference given h = (
       h.2,
       subst (λ l. let location : Location = record { endpoint = endpoint.Local; reference = reference } in Asks loader.fetches loader.faults loader.tied is_failed block_question block_answer old l ((location, given) ∷ [])) (sym h.0)
-          (record { asked = refl; counts = HasCause-same (loader.faults old) _ (λ e. absurd (cc)); tie = same old }),
+          (record { asked = refl; counts = HasCause-same (loader.faults old) _ (λ e. absurd (cc)); quiet = StaysUnless-same (loader.faults old) _; tie = same old }),
     )
     one_at (endpoint.Address address) reference given h = (
       tt,
       record {
         asked = (new, (h.1.given_is, refl));
         counts = HasCause-for (loader.faults old) (loader.faults new) (is_failed (Some given) ≡ true) _ (or_false (is_failed (Some given))) h.1.counts;
+        quiet = StaysUnless-more (loader.faults old) (loader.faults new) (is_failed (Some given) ≡ true) _ h.1.quiet (ap (λ b. b || false));
         tie = h.1.tie;
       },
     )
@@ -135,3 +140,7 @@ module _ {D L : Type 0} (disks : disk.Ghosts D) (loader : Ghosts L) where
         (subst (λ log. AreRead log (disks.faults t.disk) (disks.faults u.disk) two.more) one.reads.log two.given));
     asks = Asks-trans loader.fetches loader.faults loader.tied is_failed block_question block_answer joined a b c one.more two.more one.asks two.asks;
   }
+
+-- a fetch that failed is one, and the count rose nowhere else
+pub fetch_quiet : {E : Type 0} (before now : ℕ) (result : Result Fetch E) → StaysUnless before now (result ≡ Ok fetch.Failed) → StaysUnless before now (is_failed (result_ok result) ≡ true)
+fetch_quiet before now result quiet = StaysUnless-more before now (result ≡ Ok fetch.Failed) (is_failed (result_ok result) ≡ true) quiet (ap (λ r. is_failed (result_ok r)))

@@ -30,7 +30,7 @@ use Rattle.up_host.specs.Asks.{Asks}
 use Rattle.up_host.specs.Blocks.{GivenBy, Got, OwnBlock, OwnBlocks, block_answer, block_question}
 use Rattle.up_host.specs.Calls.{Asked, AsksLoader, IsReady, Outcome, TreeNeedsDisk, TreeSays, TreeTurn}
 use Rattle.up_host.specs.Fetches.{AreRead, ReadAt}
-use Rattle.up_host.specs.Loads.{IsFromOwn, OwnTexts, Pair, group_answer, group_question, group_text_answer, load_failed, load_of}
+use Rattle.up_host.specs.Loads.{IsFromOwn, IsOld, IsOwn, OwnTexts, Pair, group_answer, group_question, group_text_answer, load_failed, load_of}
 use Rattle.up_host.specs.Routes.{LogName, OwnStays, Question, locations_on, log_asked, log_by, refusal, refusal_by, route_refusal, tree_on}
 use Rattle.up_host.specs.Rounds.{IsNeeded}
 use Rattle.up_host.specs.TreeCalls.{TreeServes}
@@ -267,12 +267,15 @@ module _ {D L : Type 0} (disks : disk.Ghosts D) (loader : Ghosts L) (joined : (x
 
   texts : OwnTexts host.operator (views disks host) (views disks after) e.loaded
   texts = subst (OwnTexts host.operator (views disks host) (views disks after)) (sym loaded_is)
-      (All-map (λ (pair : Pair). (v w : SeenTree) → (views disks host).tree pair.0.owner ≡ Some v → (views disks host).tree pair.0.owner ≡ Some w → IsFromOwn host.operator v w pair)
-      (λ (pair : Pair). (v w : SeenTree) → (views disks host).tree pair.0.owner ≡ Some v → (views disks after).tree pair.0.owner ≡ Some w → IsFromOwn host.operator v w pair)
-      (λ pair h v w is_v is_w.
-      own_text_later host.operator v v w pair
-      (subst (λ o. LaterTree o (Some w)) is_v (subst (LaterTree ((views disks host).tree pair.0.owner)) is_w (each_later pair.0.owner)))
-      (h v v is_v is_v))
+      (All-map (λ (pair : Pair). IsOwn host.operator (views disks host) (views disks host) pair × IsOld (views disks host) pair)
+      (λ (pair : Pair). IsOwn host.operator (views disks host) (views disks after) pair × IsOld (views disks host) pair)
+      (λ pair h. (
+        λ v w is_v is_w.
+            own_text_later host.operator v v w pair
+            (subst (λ o. LaterTree o (Some w)) is_v (subst (LaterTree ((views disks host).tree pair.0.owner)) is_w (each_later pair.0.owner)))
+            (h.0 v v is_v is_v),
+        h.1,
+      ))
       p.gathers.more p.gathers.own)
 
   ready : (n : ℕ) → n ≡ length p.before.state.log → IsReady host.operator (views disks host) (views disks after) (tree_view disks p.before) (tree_view disks then_held) q e n

@@ -10,7 +10,7 @@ use Rattle.up_entry.specs.declared.entries.Endpoint.{Endpoint}
 use Rattle.up_entry.specs.declared.entries.Endpoint.TheVariants as endpoint
 use Rattle.up_entry.specs.declared.fetch.Fetch.{Fetch}
 use Rattle.up_entry.specs.declared.fetch.Fetch.TheVariants as fetch
-use Rattle.up_lists.specs.Counts.{HasCause, Rose}
+use Rattle.up_lists.specs.Counts.{HasCause, Rose, StaysUnless}
 use Rattle.up_host.specs.Asks.{Asks}
 use Rattle.up_host.specs.Blocks.{Got, GivenBy, block_answer, block_question}
 use Rattle.up_host.specs.Settled.{KeepsSettled}
@@ -37,6 +37,7 @@ AreRead log before after fetched = AllByRecursion (λ (got : Got). ReadAt log be
 pub record AsksBlock {L : Type 0} (loader : Ghosts L) (old new : L) (question : BlockQuestion) (given : Option Fetch) : Type 0 where
   pub given_is : loader.fetches old question given new
   pub counts : HasCause (loader.faults old) (loader.faults new) (is_failed given ≡ true)
+  pub quiet : StaysUnless (loader.faults old) (loader.faults new) (is_failed given ≡ true)
   pub tie : loader.tied old new
 
 -- one block was fetched: from the own store, or at its address by the loader

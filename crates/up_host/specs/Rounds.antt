@@ -2,8 +2,8 @@
 use Rattle.std.specs.Prelude.{◌≡◌, ◌≢◌, ◌⊎◌, ◌<◌, ◌-◌, ℕ, true, List, [], ◌∷◌, ◌++◌, length, map, take, Contains, Option, Some, None, IfSome}
 use Rattle.std.specs.List.{flat_map}
 use Rattle.up_answers.specs.Needs.{needs}
-use Rattle.up_lists.specs.Counts.{HasCause}
-use Rattle.up_host.specs.Asks.{Asks, EachAfter}
+use Rattle.up_lists.specs.Counts.{HasCause, StaysUnless}
+use Rattle.up_host.specs.Asks.{Asks, EachAfter, Tries}
 use Rattle.up_host.specs.Loads.{OwnTexts, Pair, group_answer, group_question, group_text_answer, load_failed, load_of}
 use Rattle.up_host.specs.Views.{Views}
 use Rattle.up_host.specs.declared.held.Held.{Held}
@@ -13,6 +13,7 @@ use Rattle.up_peer.specs.Loading.{GroupQuestion}
 use Rattle.up_peer.specs.declared.loader.Loader.{Ghosts}
 use Rattle.up_policy.specs.Loadings.{Loading, answer_for}
 use Rattle.up_policy.specs.declared.load_answer.LoadAnswer.{LoadAnswer}
+use Rattle.up_policy.specs.declared.load_answer.LoadAnswer.TheVariants as loads
 use Rattle.up_replay.specs.Logs.{Log}
 use Rattle.up_tree.specs.States.{State, log_of}
 use Rattle.up_wire.specs.declared.requests.Request.{Request}
@@ -86,10 +87,14 @@ pub record InRounds (missing : Loading → List PathName) (before after : Loadin
 pub record AsksGroup {L : Type 0} (loader : Ghosts L) (old new : L) (question : GroupQuestion) (given : Option LoadAnswer) : Type 0 where
   pub given_is : loader.loads old question given new
   pub counts : HasCause (loader.faults old) (loader.faults new) (load_failed given ≡ true)
+  pub quiet : StaysUnless (loader.faults old) (loader.faults new) (load_failed given ≡ true)
   pub tie : loader.tied old new
 
--- one name was loaded: from the host's own tree of its owner, or else by the loader
-abbrev pub LoadsName : {D L : Type 0} → Ghosts L → UserName → Option (Held (State D)) → L → L → PathName → Option LoadAnswer → Type 0
-LoadsName loader operator (Some held) old new name given =
+-- one name was loaded: from the host's own tree of its owner; as missing, where its owner is the snapshot user of one whose tree the
+-- host has; or else by the loader, which was perhaps not asked where memory was wanting
+abbrev pub LoadsName : {D L : Type 0} → Ghosts L → UserName → Option (Held (State D)) → Option (Held (State D)) → L → L → PathName → Option LoadAnswer → Type 0
+LoadsName loader operator (Some held) base old new name given =
     (new ≡ old) × IfSome given (λ (answer : LoadAnswer). answer ≡ load_of name.owner (group_text_answer (log_of held.state) operator name))
-LoadsName loader operator None old new name given = AsksGroup loader old new (record { asker = operator; name = name }) given
+LoadsName loader operator None (Some base) old new name given = (new ≡ old) × IfSome given (λ (answer : LoadAnswer). answer ≡ loads.Missing)
+LoadsName loader operator None None old new name (Some answer) = AsksGroup loader old new (record { asker = operator; name = name }) (Some answer)
+LoadsName loader operator None None old new name None = Tries loader.loads loader.faults loader.tied old new

@@ -58,7 +58,7 @@ fn fetch_next<D: Disk, L: Loader>(
 }
 
 // Fetches one block.
-#[tactic(auto, using(crate::proofs::FetchLemmas::local_at))]
+#[tactic(auto, using(crate::proofs::FetchLemmas::fetch_quiet, crate::proofs::FetchLemmas::local_at))]
 fn fetch_one<D: Disk, L: Loader>(
     alloc: Global,
     store: &mut Blocks<D>,

@@ -2,6 +2,7 @@
 ghost use Rattle.std.specs.Prelude.{◌≡◌, ◌≢◌, ◌==◌, ◌||◌, ◌<◌, ◌≤◌, ◌∷◌, ◌++◌, ◌+◌, [], if◌then◌else◌, is_ok, None, Some, length, position, IfOk, OnOk};
 ghost use Rattle.std.specs.Option.{option_copied};
 ghost use Rattle.std.specs.Result.{result_ok};
+ghost use Rattle.up_answers.specs.Answers.{log_owner};
 ghost use Rattle.up_answers.specs.Needs.{needs};
 ghost use Rattle.up_group.specs.GroupTexts.{group_of};
 ghost use Rattle.up_host.specs.Alone.{is_of, tree_for, views};
@@ -17,6 +18,7 @@ use crate::held::Held;
 use crate::host::Host;
 use std::alloc::{AllocError, Global};
 use std::hash::RandomState;
+use up_changes::log_owner;
 use up_dir::foreign;
 use up_disk::Disk;
 use up_entry::What;
@@ -134,7 +136,7 @@ impl<D: Disk> Host<D> {
         note(name, answer, loaded)
     }
 
-    // Loads one name: from the host's own tree of its owner, or else by the loader.
+    // Loads one name: from the host's own tree of its owner, or else as `load_elsewhere` says.
     fn load_one<L: Loader>(
         &self,
         alloc: Global,
@@ -142,6 +144,7 @@ impl<D: Disk> Host<D> {
         name: &Path,
     ) -> Result<LoadAnswer, AllocError>
         ensures { LoadsName L.Loader self.now.operator (tree_for self.now.trees name.now.owner)
+            (tree_for self.now.trees (log_owner name.now.owner))
             loader.old loader.new name.now (result_ok result) }
     {
         match tree_of(&self.trees, name.owner()) {
@@ -149,6 +152,27 @@ impl<D: Disk> Host<D> {
                 let reply = group_text_of(alloc, self.random, &held.state, &self.operator, name);
                 load_of(name.owner(), reply)
             }
+            None => self.load_elsewhere(alloc, loader, name),
+        }
+    }
+
+    // Loads a name whose owner's tree the host lacks. A group of the snapshot user of an owner whose tree it has is missing: the snapshots
+    // of a group give nobody a right. For all others the loader is asked.
+    fn load_elsewhere<L: Loader>(
+        &self,
+        alloc: Global,
+        loader: &mut L,
+        name: &Path,
+    ) -> Result<LoadAnswer, AllocError>
+        ensures { LoadsName L.Loader self.now.operator None
+            (tree_for self.now.trees (log_owner name.now.owner))
+            loader.old loader.new name.now (result_ok result) }
+    {
+        let Ok(owner) = log_owner(name.owner()) else {
+            return Err(AllocError);
+        };
+        match tree_of(&self.trees, &owner) {
+            Some(_held) => Ok(LoadAnswer::Missing),
             None => loader.load(alloc, &self.operator, name),
         }
     }

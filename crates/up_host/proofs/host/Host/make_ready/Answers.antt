@@ -32,7 +32,7 @@ returns-clause-prepared g c =
           whole = l.gathers.whole;
           needed = l.gathers.needed;
           own = l.gathers.own;
-          asks = record { asked = l.gathers.asks.asked; counts = l.gathers.asks.counts; tie = l.gathers.asks.tie };
+          asks = record { asked = l.gathers.asks.asked; counts = l.gathers.asks.counts; quiet = l.gathers.asks.quiet; tie = l.gathers.asks.tie };
         };
         names = l.names;
         enough = l.enough;
