@@ -98,11 +98,7 @@ fn run_topic<R: AllocGlobal + Print>(
 }
 
 // The same of topics about bytes and texts.
-fn run_texts<R: AllocGlobal + Print>(
-    rt: &R,
-    file: File<'_>,
-    tally: &mut Tally,
-) -> io::Result<()> {
+fn run_texts<R: AllocGlobal + Print>(rt: &R, file: File<'_>, tally: &mut Tally) -> io::Result<()> {
     match topic_of(file.name) {
         "names" => run_lines(rt, file, Names, tally),
         "texts" => run_lines(rt, file, Texts, tally),

@@ -87,7 +87,12 @@ impl Given {
             ClientLine::Put(path, time, sequence, bytes) => {
                 let put = put_of(alloc, user, path, (time, sequence), bytes.as_slice())?;
                 let location = own(bytes.as_slice());
-                if self.fetched.as_slice().iter().all(|pair| pair.0 != location) {
+                if self
+                    .fetched
+                    .as_slice()
+                    .iter()
+                    .all(|pair| pair.0 != location)
+                {
                     self.fetched.push((location, Fetch::Got(bytes))).ok()?;
                 }
                 Some(Request::Put(put))
@@ -174,7 +179,9 @@ pub fn remote_request(alloc: Global, user: &User, mut words: Words<'_>) -> Optio
             endpoint,
             reference: Reference::of(bytes.as_slice()),
         };
-        put.blocks.push(whole_block(alloc, location, bytes.len())).ok()?;
+        put.blocks
+            .push(whole_block(alloc, location, bytes.len()))
+            .ok()?;
     }
     Some(Request::Put(put))
 }

@@ -17,7 +17,8 @@ use up_tree::TreeState;
 /// The greatest place at which a case writes, and the most bytes that it writes there.
 const FAR: u64 = 1 << 20;
 
-/// Does a command of a disk: one that changes it, looks at it, or has something noted from now on.
+/// Does a command of a disk: one that changes it, looks at it, or has something noted from now on. `cut P` has a size that is no more
+/// than the disk's.
 pub fn disk_turn(
     alloc: Global,
     disk: &mut Watched,
@@ -27,7 +28,19 @@ pub fn disk_turn(
     let keyword = words.word()?;
     match keyword {
         "write" => write_line(alloc, disk, words, answer),
-        "cut" => cut_line(disk, words.last_number()?, answer),
+        "cut" => {
+            let size = words.last_number()?;
+            let is_within = size <= disk.size();
+            add_outcome(
+                if is_within {
+                    disk.cut(size)
+                } else {
+                    Err(Failed)
+                },
+                answer,
+            );
+            Some(())
+        }
         "sync" => {
             add_outcome(disk.sync(), answer);
             words.end()
@@ -37,7 +50,9 @@ pub fn disk_turn(
             add_content(alloc, disk, answer)
         }
         "raw" => raw_line(alloc, disk, words, answer),
-        "fail" | "crash" | "image" | "note" | "watch" => begin_line(alloc, disk, keyword, words, answer),
+        "fail" | "crash" | "image" | "note" | "watch" => begin_line(
+            alloc, disk, keyword, words, answer,
+        ),
         "kept" | "noted" => {
             for kept in &disk.noted {
                 add_image(alloc, kept.image(0).ok()?, keyword, words, answer)?;
@@ -74,17 +89,6 @@ fn write_line(
         disk.write_at(at, bytes.as_slice())
     };
     add_outcome(written, answer);
-    Some(())
-}
-
-// `cut P`, where the size is no more than the disk's.
-fn cut_line(disk: &mut Watched, size: u64, answer: &mut Answer) -> Option<()> {
-    let cut = if size > disk.size() {
-        Err(Failed)
-    } else {
-        disk.cut(size)
-    };
-    add_outcome(cut, answer);
     Some(())
 }
 
@@ -216,12 +220,7 @@ fn add_image(
 
 // What was counted: `calls`; `reads` with the place and the bytes of the last one; `thrice` whether some byte was read more than twice.
 // `digest`: the digest of all bytes of the disk. `lists` and `hooks` are about a list of disks and a disk with a hook.
-fn count_line(
-    alloc: Global,
-    disk: &mut Watched,
-    keyword: &str,
-    answer: &mut Answer,
-) -> Option<()> {
+fn count_line(alloc: Global, disk: &mut Watched, keyword: &str, answer: &mut Answer) -> Option<()> {
     match keyword {
         "calls" => answer.counted("calls", disk.calls),
         "reads" => {

@@ -71,13 +71,7 @@ fn both_turn(
     Some(())
 }
 
-fn add_moved<D: Disk>(
-    alloc: Global,
-    old: &mut D,
-    new: &mut D,
-    limits: Limits,
-    answer: &mut Answer,
-)
+fn add_moved<D: Disk>(alloc: Global, old: &mut D, new: &mut D, limits: Limits, answer: &mut Answer)
     requires { AreLimits limits }
 {
     match migrate(alloc, old, new, limits) {

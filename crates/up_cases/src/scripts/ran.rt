@@ -12,7 +12,7 @@ use crate::watched::Watched;
 use crate::words::users_of;
 use std::alloc::Global;
 use std::mem;
-use up_disk::{Disk, DiskFault, Disks};
+use up_disk::{Disk, DiskFault, Disks, MemDisk};
 use up_ends::{ListNonces, MemSink, MemSource};
 use up_journal::Limits;
 use up_lists::Items;
@@ -48,7 +48,15 @@ pub fn run(alloc: Global, mut script: Script<'_>, left: &mut Vec<Stage>) -> Opti
     if script.command == Command::Can {
         ran.status = can_run(alloc, script.random, &words, &mut source, &mut sink);
     } else {
-        run_beside(alloc, &mut script, &words, &mut source, &mut sink, &mut ran, left)?;
+        run_beside(
+            alloc,
+            &mut script,
+            &words,
+            &mut source,
+            &mut sink,
+            &mut ran,
+            left,
+        )?;
     }
     ran.text = String::from_utf8_lossy(alloc, sink.bytes()).ok()?;
     Some(ran)
@@ -88,14 +96,17 @@ fn run_beside(
     left: &mut Vec<Stage>,
 ) -> Option<()> {
     let mut peers = Peers::new(alloc);
-    for (owners, answers) in &script.peers {
+    for told in &script.peers {
+        let (owners, answers) = *told;
         let owners = users_of(alloc, owners)?;
         let answers = answers_of(alloc, answers)?;
         let peer: Box<dyn Peer + Send> = Box::new(alloc, ListPeer::new(alloc, answers)).ok()?;
         peers.add(owners, Items::new(alloc), peer).ok()?;
     }
     let mut disks = disks_of(alloc, script)?;
-    run_over(alloc, script, words, source, sink, &mut peers, &mut disks, ran);
+    run_over(
+        alloc, script, words, source, sink, &mut peers, &mut disks, ran,
+    );
     ran.peer_faults = u64::try_from(peers.faults()).unwrap_or(u64::MAX);
     ran.disks_gone = DISKS.saturating_sub(disks.len());
     left.clear();
@@ -122,8 +133,12 @@ fn disks_of(alloc: Global, script: &Script<'_>) -> Option<Disks<Watched>>
 fn disk_at(alloc: Global, script: &Script<'_>, place: u64) -> Option<Watched>
     ensures { IfSome result (λ disk. IsBlank ⟦<Watched as Disk>⟧ disk) }
 {
-    let mut disk = Watched::empty(alloc, calls_at(alloc, &script.disk_faults, place)?);
-    disk.noted_call = calls_at(alloc, &script.notes, place)?.as_slice().first().copied();
+    let fails = calls_at(alloc, &script.disk_faults, place)?;
+    let mut disk = Watched::new(alloc, MemDisk::new(alloc, fails));
+    disk.noted_call = calls_at(alloc, &script.notes, place)?
+        .as_slice()
+        .first()
+        .copied();
     Some(disk)
 }
 
@@ -162,12 +177,29 @@ fn run_over(
         Some(told) => {
             let limits = host_limits(told);
             script_within(
-                alloc, random, limits, source, sink, disks, &mut helper, &mut clock, &mut nonces,
+                alloc,
+                random,
+                limits,
+                source,
+                sink,
+                disks,
+                &mut helper,
+                &mut clock,
+                &mut nonces,
                 peers,
             )
         }
         None => script_run(
-            alloc, random, words, source, sink, disks, &mut helper, &mut clock, &mut nonces, peers,
+            alloc,
+            random,
+            words,
+            source,
+            sink,
+            disks,
+            &mut helper,
+            &mut clock,
+            &mut nonces,
+            peers,
         ),
     };
     ran.helper_faults = helper.faults;

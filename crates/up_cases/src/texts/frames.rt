@@ -48,7 +48,8 @@ impl Stream {
             self.fed = fed;
         }
         outcome
-    }}
+    }
+}
 
 // `frames LIMIT STEPS`: what comes of a stream whose frames have at most so many bytes, step by step: `feed:HEX`, `next` for
 // the next frame, and `rest` for how many bytes are held beyond whole frames.

@@ -156,7 +156,12 @@ fn block_at(alloc: Global, place: u64) -> Option<Block> {
     })
 }
 
-fn show_line(alloc: Global, entry: &Entry, mut words: Words<'_>, answer: &mut Answer) -> Option<()> {
+fn show_line(
+    alloc: Global,
+    entry: &Entry,
+    mut words: Words<'_>,
+    answer: &mut Answer,
+) -> Option<()> {
     let may_read = match words.word()? {
         "yes" => true,
         "no" => false,
