@@ -68,7 +68,7 @@ impl Answer {
     }
 
     /// Adds a number as a word.
-    pub fn number<T: Display>(&mut self, number: T) {
+    pub fn number<T: Display + Drop>(&mut self, number: T) {
         self.begin();
         let alloc = *self.text.allocator();
         self.made(format!(in alloc; "{number}"));

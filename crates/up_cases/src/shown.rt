@@ -158,12 +158,14 @@ pub fn add_members(group: &GroupText, answer: &mut Answer) {
     }
 }
 
-/// Adds the lines of a reply, each a part. Want of memory has none: its words are `out of memory`.
+/// Adds the lines of a reply, each further one a part. Want of memory has none: its words are `out of memory`.
 pub fn add_reply(alloc: Global, reply: &Reply, answer: &mut Answer) {
     match reply_lines(alloc, reply) {
         Ok(lines) => {
-            for line in lines.as_slice() {
-                answer.part();
+            for (place, line) in lines.as_slice().iter().enumerate() {
+                if place > 0 {
+                    answer.part();
+                }
                 answer.begin();
                 answer.made(String::from_utf8_lossy(alloc, line.as_slice()));
             }

@@ -1,4 +1,6 @@
 //! A disk in memory that is watched.
+ghost use Rattle.std.specs.Prelude.{◌≡◌};
+
 use std::alloc::{AllocError, Global};
 use up_disk::{Disk, Failed, MemDisk};
 use up_lists::Items;
@@ -22,7 +24,9 @@ pub struct Watched {
 
 impl Watched {
     /// The disk, of which nothing is noted yet.
-    pub fn new(alloc: Global, disk: MemDisk) -> Watched {
+    pub fn new(alloc: Global, disk: MemDisk) -> Watched
+        ensures { result.disk ≡ disk }
+    {
         Watched {
             disk,
             calls: 0,

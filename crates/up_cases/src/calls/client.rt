@@ -32,24 +32,22 @@ impl ClientLines {
             table: None,
         }
     }
-
-    // `table FAILS`: makes a table of the rows so far, of which the calls with these numbers fail.
-    fn table_line(&mut self, alloc: Global, mut words: Words<'_>) -> Option<()> {
-        let fails = numbers_of(alloc, words.word()?)?;
-        words.end()?;
-        let rows = mem::replace(&mut self.rows, Items::new(alloc));
-        self.table = Some(TableAsk::new(rows, fails));
-        Some(())
-    }
 }
 
 impl Topic for ClientLines {
+    /// `table FAILS`: makes a table of the rows so far, of which the calls with these numbers fail.
     fn turn(&mut self, alloc: Global, line: &str, answer: &mut Answer) -> Option<()> {
         let mut words = Words::new(line);
         match words.word()? {
             "row" => row_line(alloc, &mut self.rows, words),
             "kept" => kept_line(alloc, &mut self.rows, words),
-            "table" => self.table_line(alloc, words),
+            "table" => {
+                let fails = numbers_of(alloc, words.word()?)?;
+                words.end()?;
+                let rows = mem::replace(&mut self.rows, Items::new(alloc));
+                self.table = Some(TableAsk::new(rows, fails));
+                Some(())
+            }
             "get" => get_line(alloc, self.table.as_mut()?, words, answer),
             "put" => put_line(alloc, self.table.as_mut()?, words, answer),
             _ => None,
@@ -63,20 +61,17 @@ fn row_line(alloc: Global, rows: &mut Items<(Request, Reply)>, mut words: Words<
         ClientFrame::Ask(request) => request,
         _ => return None,
     };
-    let reply = reply_of(alloc, words)?;
+    let reply = if words.rest == Some("nomemory") {
+        Reply::OutOfMemory
+    } else {
+        let bytes = words.digits(alloc)?;
+        words.end()?;
+        match read_server(alloc, bytes.as_slice()).ok()? {
+            ServerFrame::Answer(reply) => reply,
+            _ => return None,
+        }
+    };
     rows.push((request, reply)).ok()
-}
-
-fn reply_of(alloc: Global, mut words: Words<'_>) -> Option<Reply> {
-    if words.rest == Some("nomemory") {
-        return Some(Reply::OutOfMemory);
-    }
-    let bytes = words.digits(alloc)?;
-    words.end()?;
-    match read_server(alloc, bytes.as_slice()).ok()? {
-        ServerFrame::Answer(reply) => Some(reply),
-        _ => None,
-    }
 }
 
 // `kept N`: rows for each block of the text of N bytes, as a store has them that keeps it when it is put and gives it when
@@ -88,19 +83,15 @@ fn kept_line(
 ) -> Option<()> {
     let text = long_text(alloc, words.last_number()?)?;
     for block in text.as_slice().chunks(BLOCK) {
-        add_block(alloc, rows, block)?;
+        let reference = Reference::of(block);
+        let put = Request::StorePut(copy_of(alloc, block).ok()?);
+        rows.push((put, Reply::Ok(Done::Reference(reference))))
+            .ok()?;
+        let get = Request::Get(Items::from_vec(reference.text(alloc).ok()?.into_bytes()));
+        let given = Reply::Ok(Done::Bytes(copy_of(alloc, block).ok()?));
+        rows.push((get, given)).ok()?;
     }
     Some(())
-}
-
-fn add_block(alloc: Global, rows: &mut Items<(Request, Reply)>, block: &[u8]) -> Option<()> {
-    let reference = Reference::of(block);
-    let put = Request::StorePut(copy_of(alloc, block).ok()?);
-    rows.push((put, Reply::Ok(Done::Reference(reference))))
-        .ok()?;
-    let get = Request::Get(Items::from_vec(reference.text(alloc).ok()?.into_bytes()));
-    let given = Reply::Ok(Done::Bytes(copy_of(alloc, block).ok()?));
-    rows.push((get, given)).ok()
 }
 
 // The text of so many bytes: the one at place i, from 0, is what i leaves of 251.
@@ -162,18 +153,15 @@ fn put_line(
     let path = words.path(alloc)?;
     let time = words.int()?;
     let sequence = words.int()?;
-    let text = told_text(alloc, words.word()?)?;
+    let word = words.word()?;
     words.end()?;
+    let text = match word.strip_prefix('=') {
+        Some(size) => long_text(alloc, read_num(size.as_bytes())?)?,
+        None => bytes_of(alloc, word)?,
+    };
     match put(alloc, table, &user, &path, time, sequence, text.as_slice()) {
         Ok(position) => answer.counted("ok", position),
         Err(fault) => add_fault(alloc, &fault, answer)?,
     }
     Some(())
-}
-
-fn told_text(alloc: Global, word: &str) -> Option<Bytes> {
-    match word.strip_prefix('=') {
-        Some(size) => long_text(alloc, read_num(size.as_bytes())?),
-        None => bytes_of(alloc, word),
-    }
 }

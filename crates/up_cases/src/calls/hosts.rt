@@ -71,13 +71,26 @@ impl Hosts {
 
 impl Topic for Hosts {
     /// `host NAME OPERATOR OWNERS PLACE:CALL,CALL ..`: a host over empty disks, of which the calls of a word fail at its place. `again NAME
-    /// OPERATOR OWNERS`: a host over the disks that the host of this name hands back. `disks NAME`: the sizes of these.
+    /// OPERATOR OWNERS`: a host over the disks that the host of this name hands back. `disks NAME`: the sizes of these. `list ANSWERS
+    /// QUESTION ..`: what a peer with these answers was asked, with its answers, and its count. `refuses QUESTION ..`: the same of a peer
+    /// that refuses.
     fn turn(&mut self, alloc: Global, line: &str, answer: &mut Answer) -> Option<()> {
         let mut words = Words::new(line);
         let keyword = words.word()?;
         match keyword {
             "peers" => self.with_line(alloc, None, words, answer),
-            "list" | "refuses" => list_line(alloc, keyword, words, answer),
+            "list" => {
+                let mut peer = ListPeer::new(alloc, answers_of(alloc, words.word()?)?);
+                ask_peer(alloc, &mut peer, words)?;
+                add_calls(peer.calls(), peer.faults(), answer);
+                Some(())
+            }
+            "refuses" => {
+                let mut peer = RefusingPeer::new(alloc);
+                ask_peer(alloc, &mut peer, words)?;
+                add_calls(peer.calls(), peer.faults(), answer);
+                Some(())
+            }
             _ => {
                 let name = words.word()?;
                 self.named_line(alloc, keyword, name, words, answer)
@@ -86,34 +99,14 @@ impl Topic for Hosts {
     }
 }
 
-// `list ANSWERS QUESTION ..`: what a peer with these answers was asked, with its answers, and its count. `refuses QUESTION ..`: the
-// same of a peer that refuses.
-fn list_line(
-    alloc: Global,
-    keyword: &str,
-    mut words: Words<'_>,
-    answer: &mut Answer,
-) -> Option<()> {
-    if keyword == "list" {
-        let mut peer = ListPeer::new(alloc, answers_of(alloc, words.word()?)?);
-        ask_peer(alloc, &mut peer, words)?;
-        add_calls(peer.calls(), peer.faults(), answer);
-    } else {
-        let mut peer = RefusingPeer::new(alloc);
-        ask_peer(alloc, &mut peer, words)?;
-        add_calls(peer.calls(), peer.faults(), answer);
-    }
-    Some(())
-}
-
 impl Hosts {
-    // A line about the host of a name.
+    // A line about the host of a name. `peer NAME ASKER QUESTION ..`: what the host is asked as a peer, as this user, and its count.
     fn named_line(
         &mut self,
         alloc: Global,
         keyword: &str,
         name: &str,
-        words: Words<'_>,
+        mut words: Words<'_>,
         answer: &mut Answer,
     ) -> Option<()> {
         match keyword {
@@ -131,7 +124,12 @@ impl Hosts {
                 add_sizes(handed_back(self.take(name)?), answer);
                 Some(())
             }
-            "peer" => self.peer_line(alloc, name, words, answer),
+            "peer" => {
+                let mut peer = self.tree_peer(alloc, name, words.word()?)?;
+                ask_peer(alloc, &mut peer, words)?;
+                add_calls(peer.calls(), peer.faults(), answer);
+                Some(())
+            }
             "with" => self.with_line(alloc, Some(name), words, answer),
             _ => {
                 let place = self.place(name)?;
@@ -160,20 +158,6 @@ impl Hosts {
     fn tree_peer(&mut self, alloc: Global, name: &str, asker: &str) -> Option<TreePeer<MemDisk>> {
         let asker = user_of(alloc, asker)?;
         Some(TreePeer::new(alloc, self.take(name)?, asker))
-    }
-
-    // `peer NAME ASKER QUESTION ..`: the host as a peer that is asked as this user.
-    fn peer_line(
-        &mut self,
-        alloc: Global,
-        name: &str,
-        mut words: Words<'_>,
-        answer: &mut Answer,
-    ) -> Option<()> {
-        let mut peer = self.tree_peer(alloc, name, words.word()?)?;
-        ask_peer(alloc, &mut peer, words)?;
-        add_calls(peer.calls(), peer.faults(), answer);
-        Some(())
     }
 
     // `peers PEER .. : QUESTION; ..`: what a list of peers gives to each question, and the sum of their counts as it is closed. `with NAME

@@ -251,6 +251,7 @@ fn held(
 
 // Adds the lines of two replies, parted by ` | `, or of the one that both are.
 fn add_replies(alloc: Global, one: &Reply, two: &Reply, answer: &mut Answer) -> Option<()> {
+    answer.part();
     add_reply(alloc, one, answer);
     if one != two {
         let mut other = Answer::new(alloc);

@@ -17,7 +17,8 @@ use up_tree::TreeState;
 /// The greatest place at which a case writes, and the most bytes that it writes there.
 const FAR: u64 = 1 << 20;
 
-/// Does a command of a disk: one that changes it, looks at it, or has something noted from now on.
+/// Does a command of a disk: one that changes it, looks at it, or has something noted from now on. `cut P` has a size that is no more
+/// than the disk's.
 pub fn disk_turn(
     alloc: Global,
     disk: &mut Watched,
@@ -27,7 +28,19 @@ pub fn disk_turn(
     let keyword = words.word()?;
     match keyword {
         "write" => write_line(alloc, disk, words, answer),
-        "cut" => cut_line(disk, words.last_number()?, answer),
+        "cut" => {
+            let size = words.last_number()?;
+            let is_within = size <= disk.size();
+            add_outcome(
+                if is_within {
+                    disk.cut(size)
+                } else {
+                    Err(Failed)
+                },
+                answer,
+            );
+            Some(())
+        }
         "sync" => {
             add_outcome(disk.sync(), answer);
             words.end()
@@ -76,17 +89,6 @@ fn write_line(
         disk.write_at(at, bytes.as_slice())
     };
     add_outcome(written, answer);
-    Some(())
-}
-
-// `cut P`, where the size is no more than the disk's.
-fn cut_line(disk: &mut Watched, size: u64, answer: &mut Answer) -> Option<()> {
-    let cut = if size > disk.size() {
-        Err(Failed)
-    } else {
-        disk.cut(size)
-    };
-    add_outcome(cut, answer);
     Some(())
 }
 

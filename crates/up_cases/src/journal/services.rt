@@ -18,7 +18,7 @@ use up_names::User;
 use up_refs::Reference;
 use up_store::store_step;
 use up_text::read_request;
-use up_wire::{Reply, Request};
+use up_wire::Request;
 
 /// The most bytes of a block that a line asks for by their number.
 const LONGEST: u64 = 1 << 21;
@@ -179,18 +179,8 @@ fn add_store_step(
         }
         _ => return None,
     };
-    add_reply_word(alloc, &reply, answer);
+    add_reply(alloc, &reply, answer);
     Some(())
-}
-
-// Adds the one line of a reply, as words of this part.
-fn add_reply_word(alloc: Global, reply: &Reply, answer: &mut Answer) {
-    let mut told = Answer::new(alloc);
-    add_reply(alloc, reply, &mut told);
-    match told.finish() {
-        Some(told) => answer.word(told.as_str()),
-        None => answer.word("lost"),
-    }
 }
 
 /// Adds how many records there are, and the references that are held, in order, each by its first four bytes.
@@ -226,7 +216,7 @@ pub fn keys_turn(
                 Request::KeyLookup(_) | Request::KeyPut(_) => key_step(keys, &user, &asked),
                 _ => return None,
             };
-            add_reply_word(alloc, &reply, answer);
+            add_reply(alloc, &reply, answer);
         }
         "count" => answer.counted("records", keys.position()),
         "resolve" => add_outcome(keys.resolve(), answer),

@@ -28,7 +28,14 @@ pub fn tree_turn(
         "count" => answer.number(tree.position()),
         "bytes" => answer.number(tree.bytes()),
         "owner" => answer.coded(tree.owner().text().as_bytes()),
-        "snaps" => add_snaps(tree, answer),
+        "snaps" => {
+            answer.word("snaps");
+            for i in 0..tree.position() {
+                if let Some(time) = tree.snap_time(i) {
+                    answer.number(time);
+                }
+            }
+        }
         "rec" => match tree.rec_at(words.number()?) {
             Some(rec) => add_record(alloc, rec, answer),
             None => answer.word("none"),
@@ -36,10 +43,9 @@ pub fn tree_turn(
         "snapat" => add_place(tree.snap_at(words.number()?), answer),
         "before" => add_place(tree.change_before(words.number()?), answer),
         "resolve" => add_outcome(tree.resolve(), answer),
-        "node" | "children" | "under" | "access" | "group" | "nearest" => {
+        "node" | "children" | "under" | "access" | "group" | "nearest" | "met" | "above" => {
             return path_line(alloc, tree, keyword, words, answer);
         }
-        "met" | "above" => return met_line(alloc, tree, keyword, words, answer),
         "dir" | "file" | "link" | "delete" | "snap" | "record" => {
             return record_turn(alloc, tree, keyword, words, answer);
         }
@@ -49,16 +55,6 @@ pub fn tree_turn(
     Some(true)
 }
 
-// The times of the snapshots, in order.
-fn add_snaps(tree: &TreeState<Watched>, answer: &mut Answer) {
-    answer.word("snaps");
-    for i in 0..tree.position() {
-        if let Some(time) = tree.snap_time(i) {
-            answer.number(time);
-        }
-    }
-}
-
 fn add_place(found: Option<u64>, answer: &mut Answer) {
     match found {
         Some(position) => answer.number(position),
@@ -66,26 +62,10 @@ fn add_place(found: Option<u64>, answer: &mut Answer) {
     }
 }
 
-// `met PATH`, `above PATH`: the link on the way to a path, the path itself included, or else not.
-fn met_line(
-    alloc: Global,
-    tree: &TreeState<Watched>,
-    keyword: &str,
-    mut words: Words<'_>,
-    answer: &mut Answer,
-) -> Option<bool> {
-    let path = words.path(alloc)?;
-    words.end()?;
-    match first_link(alloc, tree, &path, keyword == "met").ok()? {
-        Some(link) => answer.coded(link.as_str().as_bytes()),
-        None => answer.word("none"),
-    }
-    Some(true)
-}
-
 // `node PATH`, `children DIR`: what stands there, and the children of a directory, in order. `under PATH N`: the positions above N of
 // the records that change a path at or below this one. `access DIR`, `group PATH`: what the text there stands for now, or, with a number
-// N behind, after the first N records. `nearest PATH N`: the text that governs the path then, and how many elements its directory has.
+// N behind, after the first N records. `met PATH`, `above PATH`: the link on the way to a path, the path itself included, or else not.
+// `nearest PATH N`: the text that governs the path then, and how many elements its directory has.
 fn path_line(
     alloc: Global,
     tree: &TreeState<Watched>,
@@ -100,11 +80,27 @@ fn path_line(
     };
     match (keyword, n) {
         ("node", None) => add_node(tree.node(&path), answer),
-        ("children", None) => add_children(tree, &path, answer),
-        ("under", Some(n)) => add_under(tree, &path, n, answer)?,
+        ("children", None) => {
+            answer.word("children");
+            for i in 0..tree.position() {
+                if let Some(path) = tree.child(&path, i) {
+                    answer.coded(path.as_str().as_bytes());
+                }
+            }
+        }
+        ("under", Some(n)) => {
+            answer.word("under");
+            for position in tree.changes_under(&path, n).ok()?.as_slice() {
+                answer.number(*position);
+            }
+        }
+        ("met" | "above", None) => match first_link(alloc, tree, &path, keyword == "met").ok()? {
+            Some(link) => answer.coded(link.as_str().as_bytes()),
+            None => answer.word("none"),
+        },
         ("access", None) => add_access(tree.access(&path), answer),
         ("group", None) => add_group(tree.group(&path), answer),
-        (_, Some(n)) => add_at(tree, keyword, &path, n, answer),
+        ("access" | "group" | "nearest", Some(n)) => add_at(tree, keyword, &path, n, answer),
         _ => return None,
     }
     Some(true)
@@ -125,25 +121,6 @@ fn add_at(tree: &TreeState<Watched>, keyword: &str, path: &Path, n: u64, answer:
             None => answer.word("none"),
         },
     }
-}
-
-// The children of a directory, in order.
-fn add_children(tree: &TreeState<Watched>, dir: &Path, answer: &mut Answer) {
-    answer.word("children");
-    for i in 0..tree.position() {
-        if let Some(path) = tree.child(dir, i) {
-            answer.coded(path.as_str().as_bytes());
-        }
-    }
-}
-
-fn add_under(tree: &TreeState<Watched>, path: &Path, n: u64, answer: &mut Answer) -> Option<()> {
-    answer.word("under");
-    let found = tree.changes_under(path, n).ok()?;
-    for position in found.as_slice() {
-        answer.number(*position);
-    }
-    Some(())
 }
 
 fn add_access(found: Option<&AccessText>, answer: &mut Answer) {

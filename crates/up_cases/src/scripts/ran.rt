@@ -12,7 +12,7 @@ use crate::watched::Watched;
 use crate::words::users_of;
 use std::alloc::Global;
 use std::mem;
-use up_disk::{Disk, DiskFault, Disks};
+use up_disk::{Disk, DiskFault, Disks, MemDisk};
 use up_ends::{ListNonces, MemSink, MemSource};
 use up_journal::Limits;
 use up_lists::Items;
@@ -96,7 +96,8 @@ fn run_beside(
     left: &mut Vec<Stage>,
 ) -> Option<()> {
     let mut peers = Peers::new(alloc);
-    for (owners, answers) in &script.peers {
+    for told in &script.peers {
+        let (owners, answers) = *told;
         let owners = users_of(alloc, owners)?;
         let answers = answers_of(alloc, answers)?;
         let peer: Box<dyn Peer + Send> = Box::new(alloc, ListPeer::new(alloc, answers)).ok()?;
@@ -132,7 +133,8 @@ fn disks_of(alloc: Global, script: &Script<'_>) -> Option<Disks<Watched>>
 fn disk_at(alloc: Global, script: &Script<'_>, place: u64) -> Option<Watched>
     ensures { IfSome result (λ disk. IsBlank ⟦<Watched as Disk>⟧ disk) }
 {
-    let mut disk = Watched::empty(alloc, calls_at(alloc, &script.disk_faults, place)?);
+    let fails = calls_at(alloc, &script.disk_faults, place)?;
+    let mut disk = Watched::new(alloc, MemDisk::new(alloc, fails));
     disk.noted_call = calls_at(alloc, &script.notes, place)?
         .as_slice()
         .first()

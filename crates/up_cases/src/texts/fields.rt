@@ -3,8 +3,8 @@ use crate::answer::Answer;
 use crate::lines::Topic;
 use crate::words::Words;
 use std::alloc::Global;
-use up_bytes::{Bytes, FieldFault, Reader, Writer, int_len, num_len};
-use up_text::{read_int, read_num, read_word, word_text, write_word};
+use up_bytes::{FieldFault, Reader, Writer, int_len, num_len};
+use up_text::{read_num, read_word, word_text, write_word};
 
 /// Lines about words and fields. They keep nothing.
 #[derive(Clone, Copy)]
@@ -16,8 +16,12 @@ impl Topic for Fields {
         match words.word()? {
             "word" => word_line(alloc, words, answer),
             "text" => text_line(alloc, words, answer),
-            "num" => num_line(alloc, words, answer),
-            "int" => int_line(alloc, words, answer),
+            "num" => number_line(alloc, words.last_number()?, None, answer),
+            "int" => {
+                let number = words.int()?;
+                words.end()?;
+                number_line(alloc, 0, Some(number), answer)
+            }
             "write" => write_line(alloc, words, answer),
             "read" => read_line(alloc, words, answer),
             _ => None,
@@ -31,8 +35,9 @@ fn text_line(alloc: Global, mut words: Words<'_>, answer: &mut Answer) -> Option
     words.end()?;
     let word = write_word(alloc, text.as_slice()).ok()?;
     answer.digits(word.as_slice());
-    if read_word(alloc, word.as_slice()).ok()? != Some(text) {
-        answer.word("differ");
+    match read_word(alloc, word.as_slice()).ok()? {
+        Some(again) if again == text => {}
+        _ => answer.word("differ"),
     }
     Some(())
 }
@@ -53,29 +58,24 @@ fn word_line(alloc: Global, mut words: Words<'_>, answer: &mut Answer) -> Option
     Some(())
 }
 
-// `num N`: the digits of the number as a field. A word `differ` follows where it has another length than it is to have, or
-// another number is read of it.
-fn num_line(alloc: Global, mut words: Words<'_>, answer: &mut Answer) -> Option<()> {
-    let number = words.last_number()?;
+// `num N`, `int Z`: the digits of the number as a field, one that may be negative where there is one. A word `differ` follows where it
+// has another length than it is to have, or another number is read of it.
+fn number_line(alloc: Global, number: u64, signed: Option<i64>, answer: &mut Answer) -> Option<()> {
     let mut out = Writer::new(alloc);
-    out.num(number).ok()?;
+    let (is_again, size) = match signed {
+        Some(number) => {
+            out.int(number).ok()?;
+            let again = Reader::new(out.as_slice()).int();
+            (again == Ok(number), int_len(number))
+        }
+        None => {
+            out.num(number).ok()?;
+            let again = Reader::new(out.as_slice()).num();
+            (again == Ok(number), num_len(number))
+        }
+    };
     answer.digits(out.as_slice());
-    let again = Reader::new(out.as_slice()).num();
-    if again != Ok(number) || out.len() != num_len(number) {
-        answer.word("differ");
-    }
-    Some(())
-}
-
-// `int Z`: the same of a number that may be negative.
-fn int_line(alloc: Global, mut words: Words<'_>, answer: &mut Answer) -> Option<()> {
-    let number = words.int()?;
-    words.end()?;
-    let mut out = Writer::new(alloc);
-    out.int(number).ok()?;
-    answer.digits(out.as_slice());
-    let again = Reader::new(out.as_slice()).int();
-    if again != Ok(number) || out.len() != int_len(number) {
+    if !is_again || out.len() != size {
         answer.word("differ");
     }
     Some(())

@@ -97,20 +97,18 @@ fn add_again(bytes: &Bytes, size: u64, again: Result<Bytes, AllocError>, answer:
 // How many proper fronts these bytes have, and `short` where each of them is short; else the length of the first that is not.
 fn fronts_line(alloc: Global, kind: &str, bytes: &[u8], answer: &mut Answer) {
     for end in 0..bytes.len() {
-        if front_fault(alloc, kind, &bytes[..end]) != Some(FieldFault::Short) {
+        let front = &bytes[..end];
+        let fault = match kind {
+            "client" => read_client(alloc, front).err(),
+            "server" => read_server(alloc, front).err(),
+            _ => read_key_record(alloc, front).err(),
+        };
+        if fault != Some(FieldFault::Short) {
             return answer.number(end as u64);
         }
     }
     answer.number(bytes.len() as u64);
     answer.word("short");
-}
-
-fn front_fault(alloc: Global, kind: &str, front: &[u8]) -> Option<FieldFault> {
-    match kind {
-        "client" => read_client(alloc, front).err(),
-        "server" => read_server(alloc, front).err(),
-        _ => read_key_record(alloc, front).err(),
-    }
 }
 
 // `long N`: how many bytes the reply has that gives a block of N bytes, and `kept`, or `toolarge` and the number in the reply that
