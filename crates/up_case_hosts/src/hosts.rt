@@ -1,0 +1,312 @@
+//! Hosts over disks in memory, and what they answer. A line opens a host, or asks one by its name; a host stands until a line
+//! opens another one of its name, has it serve as a peer, or takes its disks.
+ghost use Rattle.std.specs.Prelude.{◌<◌, length, IfSome};
+
+use crate::asking::ask_alone;
+use crate::lines::{enrol_line, key_line, text_line};
+use crate::opening::{add_sizes, host_over, new_host};
+use crate::peers::{Has, Kind, Told, ask_peer, ask_with, has_of, kind_of, tree};
+use crate::words::cut;
+use std::alloc::Global;
+use std::hash::RandomState;
+use std::mem;
+use up_case_lines::{Answer, Fault, Topic, Words, user_of};
+use up_disk::{Disks, MemDisk};
+use up_host::{Host, TreePeer};
+
+/// The hosts that stand.
+#[derive(Drop)]
+pub struct Hosts {
+    random: RandomState,
+    named: Vec<Named>,
+}
+
+/// A host, and its name.
+#[derive(Drop)]
+struct Named {
+    name: String,
+    host: Host<MemDisk>,
+}
+
+impl Hosts {
+    /// No host. Names are hashed with these keys.
+    pub fn new(alloc: Global, random: RandomState) -> Hosts {
+        Hosts {
+            random,
+            named: Vec::new(alloc),
+        }
+    }
+
+    // The place of the host of this name.
+    fn place(&self, name: &str) -> Option<usize>
+        ensures { IfSome result (λ place. place < length self.now.named.items) }
+    {
+        self.named.iter().position(|one| one.name.as_str() == name)
+    }
+
+    // The host of this name.
+    fn get(&mut self, name: &str) -> Result<&mut Host<MemDisk>, Fault> {
+        match self.place(name) {
+            Some(place) => Ok(&mut self.named[place].host),
+            None => Err(Fault::BadLine),
+        }
+    }
+
+    // The same, which stands no longer.
+    fn take(&mut self, name: &str) -> Result<Host<MemDisk>, Fault> {
+        match self.place(name) {
+            Some(place) => Ok(host_in(self.named.swap_remove(place))),
+            None => Err(Fault::BadLine),
+        }
+    }
+
+    // Has a host of this name stand no longer, if there is one.
+    fn forget(&mut self, name: &str) {
+        if let Some(place) = self.place(name) {
+            drop(self.named.swap_remove(place));
+        }
+    }
+
+    // Keeps a host that was opened.
+    fn keep(
+        &mut self,
+        alloc: Global,
+        name: &str,
+        host: Option<Host<MemDisk>>,
+    ) -> Result<(), Fault> {
+        match host {
+            Some(host) => self.add(alloc, name, host),
+            None => Ok(()),
+        }
+    }
+
+    fn add(&mut self, alloc: Global, name: &str, host: Host<MemDisk>) -> Result<(), Fault> {
+        match name.to_string(alloc) {
+            Ok(name) => self.push(Named { name, host }),
+            Err(_) => {
+                drop(host);
+                Err(Fault::OutOfMemory)
+            }
+        }
+    }
+
+    fn push(&mut self, named: Named) -> Result<(), Fault> {
+        match self.named.push(named) {
+            Ok(()) => Ok(()),
+            Err(refused) => {
+                drop(refused);
+                Err(Fault::OutOfMemory)
+            }
+        }
+    }
+}
+
+fn host_in(named: Named) -> Host<MemDisk> {
+    let Named { name, host } = named;
+    drop(name);
+    host
+}
+
+impl Topic for Hosts {
+    fn turn(&mut self, alloc: Global, line: &str, answer: &mut Answer) -> Result<(), Fault> {
+        let mut words = Words::new(line);
+        match words.word()? {
+            "host" => self.host_line(alloc, words, answer),
+            "again" => self.again_line(alloc, words, answer),
+            "with" => self.with_line(alloc, words, answer),
+            "peer" => self.peer_line(alloc, words, answer),
+            "disks" => self.disks_line(words, answer),
+            keyword => self.host_turn(alloc, keyword, words, answer),
+        }
+    }
+}
+
+impl Hosts {
+    // `host NAME OPERATOR OWNERS PLACE:CALL,CALL ..`: a host over empty disks.
+    fn host_line(
+        &mut self,
+        alloc: Global,
+        mut words: Words<'_>,
+        answer: &mut Answer,
+    ) -> Result<(), Fault> {
+        let name = words.word()?;
+        self.forget(name);
+        let host = new_host(alloc, self.random, words, answer)?;
+        self.keep(alloc, name, host)
+    }
+
+    // `again NAME OPERATOR OWNERS`: a host over the disks of the host of this name, which it handed back.
+    fn again_line(
+        &mut self,
+        alloc: Global,
+        mut words: Words<'_>,
+        answer: &mut Answer,
+    ) -> Result<(), Fault> {
+        let name = words.word()?;
+        let disks = self.take_disks(name)?;
+        let host = host_over(alloc, self.random, disks, words, answer)?;
+        self.keep(alloc, name, host)
+    }
+
+    // `disks NAME`: the sizes of the disks that the host hands back.
+    fn disks_line(&mut self, mut words: Words<'_>, answer: &mut Answer) -> Result<(), Fault> {
+        let name = words.one()?;
+        add_sizes(self.take_disks(name)?, answer);
+        Ok(())
+    }
+
+    // The disks that the host of this name hands back.
+    fn take_disks(&mut self, name: &str) -> Result<Disks<MemDisk>, Fault> {
+        match self.take(name) {
+            Ok(host) => Ok(handed_back(host)),
+            Err(fault) => Err(fault),
+        }
+    }
+
+    // `with NAME PEER .. : ASK; ASK ..`.
+    fn with_line(
+        &mut self,
+        alloc: Global,
+        mut words: Words<'_>,
+        answer: &mut Answer,
+    ) -> Result<(), Fault> {
+        let mut told = Vec::new(alloc);
+        let asked = self.ask_told(alloc, &mut words, &mut told, answer);
+        drop(told);
+        asked
+    }
+
+    // Tells the peers, and asks the host that has them, which takes them.
+    fn ask_told(
+        &mut self,
+        alloc: Global,
+        words: &mut Words<'_>,
+        told: &mut Vec<Told>,
+        answer: &mut Answer,
+    ) -> Result<(), Fault> {
+        let name = words.word()?;
+        let (peers, asks) = peers_and_asks(words.some()?)?;
+        self.add_all(alloc, peers, told)?;
+        let told = mem::replace(told, Vec::new(alloc));
+        match self.get(name) {
+            Ok(host) => ask_with(alloc, host, told, asks, answer),
+            Err(fault) => {
+                drop(told);
+                Err(fault)
+            }
+        }
+    }
+
+    fn add_all(&mut self, alloc: Global, words: &str, told: &mut Vec<Told>) -> Result<(), Fault> {
+        for word in words.split(' ') {
+            self.add_told(alloc, word, told)?;
+        }
+        Ok(())
+    }
+
+    fn add_told(&mut self, alloc: Global, word: &str, told: &mut Vec<Told>) -> Result<(), Fault> {
+        match told.push(self.told_peer(alloc, word)?) {
+            Ok(()) => Ok(()),
+            Err(refused) => {
+                drop(refused);
+                Err(Fault::OutOfMemory)
+            }
+        }
+    }
+
+    // `OWNERS/ADDRESS/KIND`: a peer that has the trees of these owners and the blocks of this address.
+    fn told_peer(&mut self, alloc: Global, word: &str) -> Result<Told, Fault> {
+        let (owners, rest) = cut(word, '/')?;
+        let (address, kind) = cut(rest, '/')?;
+        let has = has_of(alloc, owners, address)?;
+        self.told_by(alloc, has, kind)
+    }
+
+    fn told_by(&mut self, alloc: Global, has: Has, word: &str) -> Result<Told, Fault> {
+        match self.told_kind(alloc, word) {
+            Ok(kind) => Ok(Told { has, kind }),
+            Err(fault) => {
+                drop(has);
+                Err(fault)
+            }
+        }
+    }
+
+    // `host:NAME:ASKER` for the host of this name, which is asked as this user; else a peer in memory.
+    fn told_kind(&mut self, alloc: Global, word: &str) -> Result<Kind, Fault> {
+        match word.strip_prefix("host:") {
+            Some(rest) => self.told_tree(alloc, rest),
+            None => kind_of(alloc, word),
+        }
+    }
+
+    fn told_tree(&mut self, alloc: Global, word: &str) -> Result<Kind, Fault> {
+        let (name, asker) = cut(word, ':')?;
+        let peer = self.tree_peer(alloc, name, asker)?;
+        tree(alloc, peer)
+    }
+
+    // The host of this name, as a peer that is asked as this user.
+    fn tree_peer(
+        &mut self,
+        alloc: Global,
+        name: &str,
+        asker: &str,
+    ) -> Result<TreePeer<MemDisk>, Fault> {
+        let host = self.take(name)?;
+        peer_of(alloc, host, asker)
+    }
+
+    // `peer NAME ASKER QUESTION ..`: the host as a peer that is asked as this user.
+    fn peer_line(
+        &mut self,
+        alloc: Global,
+        mut words: Words<'_>,
+        answer: &mut Answer,
+    ) -> Result<(), Fault> {
+        let name = words.word()?;
+        let asker = words.word()?;
+        let mut peer = self.tree_peer(alloc, name, asker)?;
+        let asked = ask_peer(alloc, &mut peer, words, answer);
+        drop(peer);
+        asked
+    }
+
+    // A line about the host of a name.
+    fn host_turn(
+        &mut self,
+        alloc: Global,
+        keyword: &str,
+        mut words: Words<'_>,
+        answer: &mut Answer,
+    ) -> Result<(), Fault> {
+        let host = self.get(words.word()?)?;
+        match keyword {
+            "enrol" => enrol_line(alloc, host, words, answer),
+            "key" => key_line(alloc, host, words, answer),
+            "text" => text_line(alloc, host, words, answer),
+            "ask" => ask_alone(alloc, host, words, answer),
+            _ => Err(Fault::BadLine),
+        }
+    }
+}
+
+// The disks of a host, of which nothing else is known.
+fn handed_back(host: Host<MemDisk>) -> Disks<MemDisk> {
+    host.into_disks()
+}
+
+fn peer_of(alloc: Global, host: Host<MemDisk>, asker: &str) -> Result<TreePeer<MemDisk>, Fault> {
+    match user_of(alloc, asker) {
+        Ok(asker) => Ok(TreePeer::new(alloc, host, asker)),
+        Err(fault) => {
+            drop(host);
+            Err(fault)
+        }
+    }
+}
+
+// What stands before the first ` : `, and behind it.
+fn peers_and_asks(words: &str) -> Result<(&str, &str), Fault> {
+    words.split_once(" : ").ok_or(Fault::BadLine)
+}

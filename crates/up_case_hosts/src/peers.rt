@@ -1,0 +1,292 @@
+//! Peers as words tell them, and what is asked of a host that has them.
+use crate::asking::ask;
+use crate::words::cut;
+use std::alloc::Global;
+use up_bytes::Bytes;
+use up_case_lines::{Answer, Fault, Words, bytes_of, number_of, path_of, user_of};
+use up_disk::MemDisk;
+use up_host::{Host, TreePeer};
+use up_lists::Items;
+use up_names::User;
+use up_peer::{ListPeer, Loader, Peer, PeerAnswer, PeerCall, PeerQuestion, Peers, RefusingPeer};
+use up_refs::Reference;
+
+/// A peer as a word tells it.
+#[derive(Drop)]
+pub struct Told {
+    pub has: Has,
+    pub kind: Kind,
+}
+
+/// The owners whose trees a peer has, and the address whose blocks it has.
+#[derive(Drop)]
+pub struct Has {
+    owners: Items<User>,
+    address: Bytes,
+}
+
+/// What a peer is.
+#[derive(Drop)]
+pub enum Kind {
+    List(Box<ListPeer>),
+    Refuses(Box<RefusingPeer>),
+    Tree(Box<TreePeer<MemDisk>>),
+}
+
+/// What a peer has, by two words: owners joined by commas, `-` for none, and an address.
+pub fn has_of(alloc: Global, owners: &str, address: &str) -> Result<Has, Fault> {
+    let address = bytes_of(alloc, address)?;
+    match users_of(alloc, owners) {
+        Ok(owners) => Ok(Has { owners, address }),
+        Err(fault) => {
+            drop(address);
+            Err(fault)
+        }
+    }
+}
+
+fn users_of(alloc: Global, word: &str) -> Result<Items<User>, Fault> {
+    let mut users = Items::new(alloc);
+    if word == "-" {
+        return Ok(users);
+    }
+    for name in word.split(',') {
+        add_user(alloc, &mut users, name)?;
+    }
+    Ok(users)
+}
+
+fn add_user(alloc: Global, users: &mut Items<User>, name: &str) -> Result<(), Fault> {
+    users.push(user_of(alloc, name)?)?;
+    Ok(())
+}
+
+/// `refuses`, `list:ANSWERS`, or `chain:OWNER:COUNT:LAST` for so many texts, of which the one at place i, from 0, names the owner's
+/// group `g` with the number i + 1, and the last is LAST.
+pub fn kind_of(alloc: Global, word: &str) -> Result<Kind, Fault> {
+    if word == "refuses" {
+        return refusing(alloc);
+    }
+    match cut(word, ':')? {
+        ("list", answers) => list(alloc, list_of(alloc, answers)?),
+        ("chain", rest) => list(alloc, chain_of(alloc, rest)?),
+        _ => Err(Fault::BadLine),
+    }
+}
+
+fn refusing(alloc: Global) -> Result<Kind, Fault> {
+    match Box::new(alloc, RefusingPeer::new(alloc)) {
+        Ok(peer) => Ok(Kind::Refuses(peer)),
+        Err(refused) => {
+            drop(refused);
+            Err(Fault::OutOfMemory)
+        }
+    }
+}
+
+fn list(alloc: Global, answers: Items<PeerAnswer>) -> Result<Kind, Fault> {
+    match Box::new(alloc, ListPeer::new(alloc, answers)) {
+        Ok(peer) => Ok(Kind::List(peer)),
+        Err(refused) => {
+            drop(refused);
+            Err(Fault::OutOfMemory)
+        }
+    }
+}
+
+/// A peer that is a whole host.
+pub fn tree(alloc: Global, peer: TreePeer<MemDisk>) -> Result<Kind, Fault> {
+    match Box::new(alloc, peer) {
+        Ok(peer) => Ok(Kind::Tree(peer)),
+        Err(refused) => {
+            drop(refused);
+            Err(Fault::OutOfMemory)
+        }
+    }
+}
+
+// Answers joined by commas, `-` for none.
+fn list_of(alloc: Global, word: &str) -> Result<Items<PeerAnswer>, Fault> {
+    let mut answers = Items::new(alloc);
+    if word == "-" {
+        return Ok(answers);
+    }
+    for one in word.split(',') {
+        add_answer(alloc, &mut answers, one)?;
+    }
+    Ok(answers)
+}
+
+fn add_answer(alloc: Global, answers: &mut Items<PeerAnswer>, word: &str) -> Result<(), Fault> {
+    answers.push(answer_of(alloc, word)?)?;
+    Ok(())
+}
+
+// `=TEXT`, `nothing` or `failed`.
+fn answer_of(alloc: Global, word: &str) -> Result<PeerAnswer, Fault> {
+    match word {
+        "nothing" => Ok(PeerAnswer::Nothing),
+        "failed" => Ok(PeerAnswer::Failed),
+        _ => got(alloc, word.strip_prefix('=').ok_or(Fault::BadLine)?),
+    }
+}
+
+fn got(alloc: Global, text: &str) -> Result<PeerAnswer, Fault> {
+    Ok(PeerAnswer::Got(bytes_of(alloc, text)?))
+}
+
+fn chain_of(alloc: Global, word: &str) -> Result<Items<PeerAnswer>, Fault> {
+    let (owner, rest) = cut(word, ':')?;
+    let (count, last) = cut(rest, ':')?;
+    links_of(alloc, owner, number_of(count)?, last)
+}
+
+fn links_of(
+    alloc: Global,
+    owner: &str,
+    count: u64,
+    last: &str,
+) -> Result<Items<PeerAnswer>, Fault> {
+    let mut answers = Items::new(alloc);
+    for place in 1..count {
+        add_link(alloc, &mut answers, owner, place)?;
+    }
+    add_got(alloc, &mut answers, last)?;
+    Ok(answers)
+}
+
+// Adds the text that names a group of the owner.
+fn add_link(
+    alloc: Global,
+    answers: &mut Items<PeerAnswer>,
+    owner: &str,
+    place: u64,
+) -> Result<(), Fault> {
+    let text = format!(in alloc; "{owner}/Group/g{place}")?;
+    let added = add_got(alloc, answers, text.as_str());
+    drop(text);
+    added
+}
+
+fn add_got(alloc: Global, answers: &mut Items<PeerAnswer>, text: &str) -> Result<(), Fault> {
+    answers.push(got(alloc, text)?)?;
+    Ok(())
+}
+
+/// Asks a host that has these peers, one line after the other, each behind a bar but the first; at last the sum of the counts. The
+/// peers are of any kind here alone, where their list ends too.
+pub fn ask_with(
+    alloc: Global,
+    host: &mut Host<MemDisk>,
+    told: Vec<Told>,
+    asks: &str,
+    answer: &mut Answer,
+) -> Result<(), Fault> {
+    let mut peers = Peers::new(alloc);
+    let mut lost = Ok(());
+    for one in told {
+        let Told { has, kind } = one;
+        let Has { owners, address } = has;
+        let peer: Box<dyn Peer + Send> = match kind {
+            Kind::List(peer) => peer,
+            Kind::Refuses(peer) => peer,
+            Kind::Tree(peer) => peer,
+        };
+        if let Err(fault) = peers.add(owners, address, peer) {
+            lost = Err(fault);
+        }
+    }
+    let asked = ask_all(alloc, host, &mut peers, asks, answer);
+    add_close(peers.close(), answer);
+    lost?;
+    asked
+}
+
+// The sum of the counts.
+fn add_close(faults: u128, answer: &mut Answer) {
+    answer.part();
+    answer.word("close");
+    answer.number(u64::try_from(faults).unwrap_or(u64::MAX));
+}
+
+fn ask_all<L: Loader>(
+    alloc: Global,
+    host: &mut Host<MemDisk>,
+    peers: &mut L,
+    asks: &str,
+    answer: &mut Answer,
+) -> Result<(), Fault> {
+    for line in asks.split("; ") {
+        add_bar(answer);
+        ask(alloc, host, peers, Words::new(line), answer)?;
+    }
+    Ok(())
+}
+
+fn add_bar(answer: &mut Answer) {
+    if !answer.is_empty() {
+        answer.word("|");
+    }
+}
+
+/// `QUESTION ..`: what a peer was asked, with its answers, and its count. A question is the name of a group, or the digits of a
+/// reference.
+pub fn ask_peer(
+    alloc: Global,
+    peer: &mut TreePeer<MemDisk>,
+    words: Words<'_>,
+    answer: &mut Answer,
+) -> Result<(), Fault> {
+    ask_each(alloc, peer, words.some()?)?;
+    add_calls(peer.calls(), answer);
+    answer.part();
+    answer.number(peer.faults());
+    Ok(())
+}
+
+fn ask_each<P: Peer>(alloc: Global, peer: &mut P, questions: &str) -> Result<(), Fault> {
+    for question in questions.split(' ') {
+        ask_one(alloc, peer, question)?;
+    }
+    Ok(())
+}
+
+fn ask_one<P: Peer>(alloc: Global, peer: &mut P, question: &str) -> Result<(), Fault> {
+    match Reference::parse(question.as_bytes()) {
+        Some(reference) => drop(peer.fetch(alloc, &reference)?),
+        None => load(alloc, peer, question)?,
+    }
+    Ok(())
+}
+
+fn load<P: Peer>(alloc: Global, peer: &mut P, name: &str) -> Result<(), Fault> {
+    let name = path_of(alloc, name)?;
+    drop(peer.load(alloc, &name)?);
+    Ok(())
+}
+
+fn add_calls(calls: &[PeerCall], answer: &mut Answer) {
+    for call in calls {
+        answer.part();
+        add_question(&call.question, answer);
+        add_told(&call.answer, answer);
+    }
+}
+
+fn add_question(question: &PeerQuestion, answer: &mut Answer) {
+    match question {
+        PeerQuestion::Group(path) => answer.coded(path.as_str().as_bytes()),
+        PeerQuestion::Block(reference) => answer.digits(reference.bytes()),
+    }
+}
+
+fn add_told(told: &PeerAnswer, answer: &mut Answer) {
+    match told {
+        PeerAnswer::Got(bytes) => {
+            answer.word("got");
+            answer.coded(bytes.as_slice());
+        }
+        PeerAnswer::Nothing => answer.word("nothing"),
+        PeerAnswer::Failed => answer.word("failed"),
+    }
+}
