@@ -178,19 +178,18 @@ events_noted_ok result tree is f sequence path positions old now limits are note
 
 own_from : (tree : TreeLog) (path : PathName) → path.owner ≡ tree.owner → (rs : List Rec) (k : ℕ) → drop k tree.log ≡ rs → k + length rs ≤ length tree.log → AllByRecursion (IsOwnChange tree) (positions_of (changes_some (λ name. is_under name path)) k rs)
 own_from tree path owned [] k is within = tt
-own_from tree path owned (rec ∷ rs) k is within = go (changes_some (λ name. is_under name path) rec) refl
+own_from tree path owned (rec ∷ rs) k is within =
+    go (changes_some (λ name. is_under name path) rec) refl (own_from tree path owned rs (suc k) (behind tree.log k rec rs is) (omega (arith, within)))
   where
-    rest : AllByRecursion (IsOwnChange tree) (positions_of (changes_some (λ name. is_under name path)) (suc k) rs)
-    rest = own_from tree path owned rs (suc k) (behind tree.log k rec rs is) (omega (arith, within))
-
     own : changes_some (λ name. is_under name path) rec ≡ true → (name : PathName) → option_and_then path_of_change (record_at tree.log (suc k)) ≡ Some name → name.owner ≡ tree.owner
-    own yes name changed =
+    own passes name changed =
         let same : path_of_change rec ≡ Some name = sym (ap (option_and_then path_of_change) (head_at tree.log k rec rs is)) ∙ changed in
-        under_owned tree.owner name path owned (sym (sym (ap (λ o. elim o as (λ _. Bool) [ None ↦ false | Some p ↦ is_under p path ]) same) ∙ yes))
+        under_owned tree.owner name path owned (sym (sym (ap (λ o. elim o as (λ _. Bool) [ None ↦ false | Some p ↦ is_under p path ]) same) ∙ passes))
 
-    go : (b : Bool) → changes_some (λ name. is_under name path) rec ≡ b → AllByRecursion (IsOwnChange tree) (if b then suc k ∷ positions_of (changes_some (λ name. is_under name path)) (suc k) rs else positions_of (changes_some (λ name. is_under name path)) (suc k) rs)
-    go true yes = (record { within = omega (arith, within); owned = own yes }, rest)
-    go false no = rest
+    go : (b : Bool) → changes_some (λ name. is_under name path) rec ≡ b → AllByRecursion (IsOwnChange tree) (positions_of (changes_some (λ name. is_under name path)) (suc k) rs) →
+        AllByRecursion (IsOwnChange tree) (if b then suc k ∷ positions_of (changes_some (λ name. is_under name path)) (suc k) rs else positions_of (changes_some (λ name. is_under name path)) (suc k) rs)
+    go true passes rest = (record { within = omega (arith, within); owned = own passes }, rest)
+    go false other rest = rest
 
 pub own_changes : (tree : TreeLog) (path : PathName) (above : ℕ) (positions : List ℕ) → path.owner ≡ tree.owner → positions ≡ changes_under tree.log path above → AllByRecursion (IsOwnChange tree) positions
 unfolding changes_under
