@@ -2,7 +2,7 @@
 use Rattle.std.proofs.Common.{◌≡◌, Bool, List, [], ◌∷◌, sym, ap, subst}
 use Rattle.std.specs.List.{flat_map}
 use Rattle.up_answers.specs.Fetching.{is_failed}
-use Rattle.up_lists.specs.Counts.{HasCause}
+use Rattle.up_lists.specs.Counts.{HasCause, StaysUnless}
 use Rattle.up_host.specs.Asks.{Asks, Tries}
 use Rattle.up_host.specs.Blocks.{block_answer, block_question}
 use Rattle.up_host.specs.Calls.{Asked, IsAskedFor, IsTried}
@@ -40,12 +40,16 @@ module _ {L P : Type 0} (see : L → P) (such : L → Type 0) (far : Ghosts L) (
   counts_seen {F} old new counts =
       subst (λ n. HasCause n (near.faults (see new)) F) (seen.faults old) (subst (λ n. HasCause (far.faults old) n F) (seen.faults new) counts)
 
+  quiet_seen : {F : Type 0} (old new : L) → StaysUnless (far.faults old) (far.faults new) F → StaysUnless (near.faults (see old)) (near.faults (see new)) F
+  quiet_seen {F} old new quiet =
+      subst (λ n. StaysUnless n (near.faults (see new)) F) (seen.faults old) (subst (λ n. StaysUnless (far.faults old) n F) (seen.faults new) quiet)
+
   asks_seen : {Q A X : Type 0} (step : L → Q → A → L → Type 0) (other : P → Q → A → P → Type 0) → EachSeen see such step other
       → (failed : A → Bool) (question : X → List Q) (answer : X → List A) (old new : L) (things : List X) → such old
       → Asks step far.faults far.tied failed question answer old new things → Asks other near.faults near.tied failed question answer (see old) (see new) things × such new
   asks_seen step other each failed question answer old new things is asks =
       let run = run_seen see such step other each old new (flat_map question things) (flat_map answer things) is asks.asked in
-      (record { asked = run.0; counts = counts_seen old new asks.counts; tie = seen.tied old new asks.tie }, run.1)
+      (record { asked = run.0; counts = counts_seen old new asks.counts; quiet = quiet_seen old new asks.quiet; tie = seen.tied old new asks.tie }, run.1)
 
   tries_seen : {Q A : Type 0} (step : L → Q → A → L → Type 0) (other : P → Q → A → P → Type 0) → EachSeen see such step other
       → (old new : L) → such old → Tries step far.faults far.tied old new → Tries other near.faults near.tied (see old) (see new) × such new

@@ -4,8 +4,8 @@ use Rattle.std.specs.Prelude.{slice_get}
 use Rattle.up_ends.specs.Telling.{Gives}
 use Rattle.up_ends.specs.declared.nonces.Nonces as nonces
 use Rattle.up_ends.specs.declared.verifier.Verifier as verifier
-use Rattle.up_lists.proofs.Causes.{HasCause-same}
-use Rattle.up_lists.specs.Counts.{HasCause}
+use Rattle.up_lists.proofs.Causes.{HasCause-same, StaysUnless-same}
+use Rattle.up_lists.specs.Counts.{HasCause, StaysUnless}
 use Rattle.up_host.specs.Alone.{HostState}
 use Rattle.up_keys.specs.Records.{record_in}
 use Rattle.up_names.specs.Texts.{UserName}
@@ -23,12 +23,13 @@ module _ {V N : Type 0} (verifiers : verifier.Ghosts V) (drawn : nonces.Ghosts N
   -- and its signature was judged
   pub challenged : (host : List ℕ) (card : KeyRecord) (signature challenge : List ℕ) (sign_on : Signing) (v w : V) (n m : N) (signed : Signed) → Gives (drawn.coming n) challenge (drawn.coming m)
       → sign_on.user ≡ card.user → sign_on.key ≡ card.key → sign_on.message ≡ message_of host card.user challenge → IsJudged verifiers sign_on signature v signed w
-      → HasCause (verifiers.faults v) (verifiers.faults w) (signed ≡ Err line.Fault) → Challenges verifiers drawn host card signature v n signed w m
-  challenged host card signature challenge sign_on v w n m signed next user key message judged counts = record {
+      → HasCause (verifiers.faults v) (verifiers.faults w) (signed ≡ Err line.Fault) → StaysUnless (verifiers.faults v) (verifiers.faults w) (signed ≡ Err line.Fault) → Challenges verifiers drawn host card signature v n signed w m
+  challenged host card signature challenge sign_on v w n m signed next user key message judged counts quiet = record {
     challenge = challenge;
     next = next;
     judged = subst (λ s. IsJudged verifiers s signature v signed w) (begun host card challenge sign_on user key message) judged;
     counts = counts;
+    quiet = quiet;
   }
 
   -- or it was not begun, for want of memory
@@ -38,6 +39,7 @@ module _ {V N : Type 0} (verifiers : verifier.Ghosts V) (drawn : nonces.Ghosts N
     next = next;
     judged = refl;
     counts = HasCause-same (verifiers.faults v) _ (λ is. absurd (other is));
+    quiet = StaysUnless-same (verifiers.faults v) _;
   }
     where
       other : ◌≡◌ {A = Signed} (Err line.OutOfMemory) (Err line.Fault) → ⊥

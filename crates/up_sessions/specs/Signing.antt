@@ -4,7 +4,7 @@ use Rattle.up_ends.specs.Telling.{Gives, Grew}
 use Rattle.up_ends.specs.declared.nonces.Nonces as nonces
 use Rattle.up_ends.specs.declared.verifier.Verdict.TheVariants.{Yes, No}
 use Rattle.up_ends.specs.declared.verifier.Verifier as verifier
-use Rattle.up_lists.specs.Counts.{HasCause}
+use Rattle.up_lists.specs.Counts.{HasCause, StaysUnless}
 use Rattle.up_host.specs.Alone.{HostState}
 use Rattle.up_keys.specs.Records.{record_in}
 use Rattle.up_names.specs.Texts.{UserName}
@@ -29,12 +29,13 @@ IsJudged verifiers signing signature v (Ok None) w = Grew (verifiers.judged v) (
 IsJudged verifiers signing signature v (Err fault.Fault) w = verifiers.judged w ≡ verifiers.judged v
 IsJudged verifiers signing signature v (Err fault.OutOfMemory) w = w ≡ v
 
--- the next challenge was drawn for a record's user, and the signature was judged
+-- the next challenge was drawn for a record's user, and the signature was judged; the verifier's count rose only where its fault is told
 pub record Challenges {V N : Type 0} (verifiers : verifier.Ghosts V) (drawn : nonces.Ghosts N) (host : List ℕ) (card : KeyRecord) (signature : List ℕ) (v : V) (n : N) (signed : Signed) (w : V) (m : N) : Type 0 where
   pub challenge : List ℕ
   pub next : Gives (drawn.coming n) challenge (drawn.coming m)
   pub judged : IsJudged verifiers (signing_of host card challenge) signature v signed w
   pub counts : HasCause (verifiers.faults v) (verifiers.faults w) (signed ≡ Err fault.Fault)
+  pub quiet : StaysUnless (verifiers.faults v) (verifiers.faults w) (signed ≡ Err fault.Fault)
 
 -- by the user's key record; where there is none, nobody has signed on, no challenge is drawn, and nobody is asked
 abbrev pub JudgesBy : {V N : Type 0} → verifier.Ghosts V → nonces.Ghosts N → List ℕ → Option KeyRecord → List ℕ → V → N → Signed → V → N → Type 0

@@ -1,6 +1,6 @@
 //! A user signs on.
 ghost use Rattle.std.specs.Prelude.{◌≡◌, ◌<◌, Err, None, Ok, is_some, length, slice_set};
-ghost use Rattle.up_lists.specs.Counts.{HasCause};
+ghost use Rattle.up_lists.specs.Counts.{HasCause, StaysUnless};
 ghost use Rattle.up_keys.specs.Records.{record_in};
 ghost use Rattle.up_sessions.specs.Signing.{Challenges, IsJudged, JudgesBy, SignsOn, signed_on};
 ghost use Rattle.up_sessions.specs.declared.fault.LineFault.TheVariants as fault;
@@ -115,6 +115,8 @@ fn session_of<V: Verifier>(
 ) -> Result<Option<Session>, LineFault>
     ensures judged { IsJudged V.Verifier sign_on signature.now verifier.old result verifier.new }
     ensures counts { HasCause (V.faults verifier.old) (V.faults verifier.new)
+        (result ≡ Err fault.Fault) }
+    ensures quiet { StaysUnless (V.faults verifier.old) (V.faults verifier.new)
         (result ≡ Err fault.Fault) }
 {
     match sign_on.prove(verifier, signature) {
