@@ -131,8 +131,8 @@ pub plan_keeps : {plan : ServePlan} → is_host_name plan.host ≡ true → are_
 plan_keeps {plan = plan} named owners = record { named = named; distinct = owners_distinct plan.trees owners; plain = owners_plain plan.trees owners }
 
 -- a good name is one that is read
-pub named_is : {word name : Text} → Some name ≡ host_named word → is_host_name name ≡ true
-named_is {word = word} {name = name} is = by (is_host_name word) refl is
+pub named_is : (word name : Text) → Some name ≡ host_named word → is_host_name name ≡ true
+named_is word name is = by (is_host_name word) refl is
   where
     by : (b : Bool) → is_host_name word ≡ b → Some name ≡ (if b then Some word else None) → is_host_name name ≡ true
     by true good same = ap is_host_name (let e : name ≡ word = cc in e) ∙ good
