@@ -1,5 +1,5 @@
 //! What a server does before it listens.
-ghost use Rattle.std.specs.Prelude.{◌≡◌, ◌≤◌, ◌<◌, ◌+◌, ◌-◌, ◌^◌, ◌↔◌, ◌×◌, [], ◌∷◌, length, map, string_bytes, IfErr, IfOk, IfSome, None, Some};
+ghost use Rattle.std.specs.Prelude.{◌≡◌, ◌≤◌, ◌<◌, ◌+◌, ◌-◌, ◌^◌, ◌↔◌, [], ◌∷◌, length, map, string_bytes, IfErr, IfOk, IfSome, None};
 ghost use Rattle.std.specs.List.{sum_by};
 ghost use Rattle.std.specs.Io.KnownBytes.{Appends};
 ghost use Rattle.up_command.specs.Statuses.{IsOneOf, input_limit, usage_line};
