@@ -66,6 +66,7 @@ seen_first {users = users} {seen = seen} empty = record { whole = by (are_differ
     by : (x y : Bool) → y ≡ true → (x && y) ≡ x
     by true y is = is
     by false y is = refl
+
     none : (q : UserName) → seen_by seen q ≡ false
     none q = rw empty refl
 
@@ -74,8 +75,10 @@ pub seen_step : {all : List UserName} {old new : BTreeSet UserName} {user : User
 seen_step {all = all} {old = old} {new = new} {user = user} {left = left} going is fresh updates =
     let not_yet : seen_by old user ≡ false = was (seen_by old user) (sym is ∙ fresh) in
     let each : (q : UserName) → seen_by new q ≡ cond (bytes_eq q user) true (seen_by old q) = λ q. updates.0 q ∙ ap (λ b. cond b true (seen_by old q)) (is_eq-slice_cmp user q ∙ other_way user q) in
-    record { whole = ap (λ b. are_different left && b) (one_more (seen_by old) (seen_by new) user left each)
-      ∙ and_true (has_user left user) (are_different left) (none_in (seen_by old) left) (are_different all) (ap (λ b. (not (has_user left user) && are_different left) && (not b && none_in (seen_by old) left)) (sym not_yet) ∙ going.whole) }
+    record {
+      whole = ap (λ b. are_different left && b) (one_more (seen_by old) (seen_by new) user left each)
+          ∙ and_true (has_user left user) (are_different left) (none_in (seen_by old) left) (are_different all) (ap (λ b. (not (has_user left user) && are_different left) && (not b && none_in (seen_by old) left)) (sym not_yet) ∙ going.whole);
+    }
   where
     was : (b : Bool) → not b ≡ true → b ≡ false
     was true is = absurd (cc)
@@ -89,6 +92,7 @@ seen_twice {all = all} {old = old} {user = user} {left = left} going is known =
     was : (b : Bool) → not b ≡ false → b ≡ true
     was true is = refl
     was false is = absurd (cc)
+
     by : (x y : Bool) → (x && (not true && y)) ≡ false
     by true y = refl
     by false y = refl

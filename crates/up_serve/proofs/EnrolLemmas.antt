@@ -6,6 +6,7 @@ use Rattle.up_lists.specs.Counts.{HasCause}
 use Rattle.up_disk.specs.declared.disk.Disk.{Ghosts}
 use Rattle.up_host.specs.Alone.{Enrols, HostState}
 use Rattle.up_journal.specs.Journal.{is_full}
+use Rattle.up_journal.specs.Logs.{LogState}
 use Rattle.up_journal.specs.declared.fault.AppendWhy.{AppendWhy}
 use Rattle.up_journal.specs.declared.fault.AppendWhy.TheVariants as append
 use Rattle.up_journal.specs.declared.limits.Limits.{Limits}
@@ -44,7 +45,7 @@ pub lines_begin : (limits : Limits) (number : ℕ) (log : List KeyRecord) (left 
 lines_begin limits number log [] = Begins-self log
 lines_begin limits number log (line ∷ left) = by (after_line limits number log (enrol_line line)) (λ grown is. line_begins limits number log grown (enrol_line line) is)
   where
-    by : (done : Result (List KeyRecord) EnrolStop) → ((grown : List KeyRecord) → done ≡ Ok grown → Begins log grown) → Begins log (elim done [ | Err why ↦ ended log (Some why) | Ok grown ↦ after_lines limits (number + 1) grown left ]).log
+    by : (done : Result (List KeyRecord) EnrolStop) → ((grown : List KeyRecord) → done ≡ Ok grown → Begins log grown) → Begins log (elim done [ Err why ↦ ended log (Some why) | Ok grown ↦ after_lines limits (number + 1) grown left ]).log
     by (Err why) begins = Begins-self log
     by (Ok grown) begins = Begins-trans (begins grown refl) (lines_begin limits (number + 1) grown left)
 
@@ -71,10 +72,10 @@ module _ {D : Type 0} (disks : Ghosts D) where
       record {
         state = two.state;
         whole = two.whole ∙ ap (λ (h : HostState D). record h { keys = record { state = two.state; base = h.keys.base } }) one.whole;
-        limits = two.limits ∙ (ap (λ s. s.limits) same ∙ one.limits);
-        begins = Begins-trans one.begins (subst (λ s. Begins s.log two.state.log) same two.begins);
-        told = two.told ∙ (ap (λ s. is_some (disks.content s.disk)) same ∙ one.told);
-        counts = HasCause-then _ _ _ first fault one.counts (subst (λ s. HasCause (disks.faults s.disk) (disks.faults two.state.disk) fault) same two.counts);
+        limits = two.limits ∙ (ap (λ (s : LogState D KeyRecord). s.limits) same ∙ one.limits);
+        begins = Begins-trans one.begins (subst (λ (s : LogState D KeyRecord). Begins s.log two.state.log) same two.begins);
+        told = two.told ∙ (ap (λ (s : LogState D KeyRecord). is_some (disks.content s.disk)) same ∙ one.told);
+        counts = HasCause-then _ _ _ first fault one.counts (subst (λ (s : LogState D KeyRecord). HasCause (disks.faults s.disk) (disks.faults two.state.disk) fault) same two.counts);
       }
 
   -- ---- one record
@@ -111,6 +112,7 @@ module _ {D : Type 0} (disks : Ghosts D) where
     where
       log : after.keys.state.log ≡ host.keys.state.log ++ card ∷ []
       log = ap (λ (h : HostState D). h.keys.state.log) put.whole ∙ put.puts.added.log
+
       room : (full : Bool) → is_full host.keys.state.limits (sizes_of host.keys.state.log) (length (logged card)) ≡ full → is_full host.keys.state.limits (sizes_of host.keys.state.log) (length (logged card)) ≡ false
       room false is = is
       room true is = absurd (let bad : Ok position ≡ Err (append.Full (length host.keys.state.log)) = put.puts.full is (λ e. absurd (cc)) in cc)
@@ -176,14 +178,14 @@ module _ {D : Type 0} (disks : Ghosts D) where
   now_after : (text : Text) (host mid after : HostState D) (number : ℕ) (line : Text) (left : List Text) (result : Result (Unit {0}) EnrolStop) → Enrolling text host mid number (line ∷ left) → DoesLine disks number line mid after result → is_cut result ≡ false
       → IsAfter after.keys.state.log result (after_line host.keys.state.limits number mid.keys.state.log (enrol_line line))
   now_after text host mid after number line left result going done fine =
-      subst (λ limits. IsAfter after.keys.state.log result (after_line limits number mid.keys.state.log (enrol_line line))) (ap (λ s. s.limits) (state_is going.kept) ∙ going.kept.limits) (done.exact fine)
+      subst (λ limits. IsAfter after.keys.state.log result (after_line limits number mid.keys.state.log (enrol_line line))) (ap (λ (s : LogState D KeyRecord). s.limits) (state_is going.kept) ∙ going.kept.limits) (done.exact fine)
 
   step_to : (text : Text) (host mid after : HostState D) (number : ℕ) (line : Text) (left : List Text) → Enrolling text host mid number (line ∷ left) → DoesLine disks number line mid after (Ok tt) → Enrolling text host after (number + 1) left
   step_to text host mid after number line left going done =
       let one = now_after text host mid after number line left (Ok tt) going done refl in
       record {
         kept = kept_then host mid after ⊥ ⊥ going.kept (weaker mid after (Ok tt) (λ bad. bad) done.kept);
-        meant = sym (ap (λ r. elim r [ | Err why ↦ ended mid.keys.state.log (Some why) | Ok grown ↦ after_lines host.keys.state.limits (number + 1) grown left ]) one) ∙ going.meant;
+        meant = sym (ap (λ r. elim r [ Err why ↦ ended mid.keys.state.log (Some why) | Ok grown ↦ after_lines host.keys.state.limits (number + 1) grown left ]) one) ∙ going.meant;
       }
     where
       weaker : (a b : HostState D) (result : Result (Unit {0}) EnrolStop) → (⊥ → result ≡ Err stop.DiskFault) → KeepsHost disks a b (result ≡ Err stop.DiskFault) → KeepsHost disks a b ⊥
@@ -193,10 +195,10 @@ module _ {D : Type 0} (disks : Ghosts D) where
   stop_at text host mid after number line left why going done =
       record {
         kept = kept_then host mid after ⊥ (Err why ≡ Err stop.DiskFault) going.kept done.kept;
-        exact = λ fine. sym going.meant ∙ (ap (λ r. elim r [ | Err reason ↦ ended mid.keys.state.log (Some reason) | Ok grown ↦ after_lines host.keys.state.limits (number + 1) grown left ]) (now_after text host mid after number line left (Err why) going done fine)
-          ∙ ap (λ log. ended log (Some why)) (sym done.same));
+        exact = λ fine. sym going.meant ∙ (ap (λ r. elim r [ Err reason ↦ ended mid.keys.state.log (Some reason) | Ok grown ↦ after_lines host.keys.state.limits (number + 1) grown left ]) (now_after text host mid after number line left (Err why) going done fine)
+            ∙ ap (λ log. ended log (Some why)) (sym done.same));
         front = subst (λ log. Begins log (enrolment host.keys.state.limits host.keys.state.log text).log) (sym done.same)
-          (subst (λ meant. Begins mid.keys.state.log meant.log) going.meant (lines_begin host.keys.state.limits number mid.keys.state.log (line ∷ left)));
+            (subst (λ meant. Begins mid.keys.state.log meant.log) going.meant (lines_begin host.keys.state.limits number mid.keys.state.log (line ∷ left)));
       }
 
   end_at : (text : Text) (host after : HostState D) (number : ℕ) → Enrolling text host after number [] → EnrolsUsers disks text host after (Ok tt)

@@ -26,7 +26,6 @@ use Rattle.up_serve.proofs.CountLemmas.{host_faults, opens_later, refuses_counts
 use Rattle.up_serve.proofs.TellLemmas.{refused_codes, refused_six, stopped_codes, stopped_six}
 use Rattle.up_serve.specs.Enrolling.{EnrolsUsers, KeepsHost, ended, enrolment, is_cut}
 use Rattle.up_serve.specs.Serving.{AreServed, HasCauses, IsInput, IsServed, Reads, Serves, Stays, disks_after, result_code}
-use Rattle.up_serve.specs.Serving.Serves.{refused, unread, stopped, enrolled}
 use Rattle.up_serve.specs.Telling.{AnswersOne, refused_by, stopped_by}
 use Rattle.up_serve.specs.declared.enrolling.EnrolStop.{EnrolStop}
 use Rattle.up_serve.specs.declared.enrolling.EnrolStop.TheVariants as stop
@@ -76,12 +75,13 @@ module _ (given given_now read read_now wrote wrote_now : ℕ) (left : Option Te
     where
       two : (n : ℕ) → IsOneOf (3 ∷ 4 ∷ 6 ∷ 8 ∷ []) n → n ≡ 2 → ⊥
       two n is bad = grind (arith)
+
       seven : (n : ℕ) → IsOneOf (3 ∷ 4 ∷ 6 ∷ 8 ∷ []) n → n ≡ 7 → ⊥
       seven n is bad = grind (arith)
 
   -- the text was not read
   pub causes_unread : {X : Type 0} (status : ℕ) (result : Result X ℕ) → result ≡ Err status → IsOneOf (2 ∷ 4 ∷ 7 ∷ []) status → (result ≡ Err 2 → Rose read read_now) → (result ≡ Err 7 → IfSome left (λ bytes. input_limit < length bytes))
-      → (given + input_limit < 2 ^ 64 - 1 → result ≡ Err 7 ↔ (given + input_limit < given_now)) → read ≤ read_now → wrote_now ≡ wrote → HasCauses status given given_now read read_now wrote wrote_now left
+      → (given + input_limit < 2 ^ 64 - 1 → (result ≡ Err 7 ↔ (given + input_limit < given_now))) → read ≤ read_now → wrote_now ≡ wrote → HasCauses status given given_now read read_now wrote wrote_now left
   causes_unread status result is one fault long exact later same = record {
     read_fault = λ two. fault (is ∙ ap Err two);
     write_fault = λ three. absurd (not_three status one three);
@@ -95,11 +95,11 @@ module _ (given given_now read read_now wrote wrote_now : ℕ) (left : Option Te
       not_three n is bad = grind (arith)
 
   -- it was read whole
-  not_over : {X : Type 0} (result : Result X ℕ) (value : X) → result ≡ Ok value → (given + input_limit < 2 ^ 64 - 1 → result ≡ Err 7 ↔ (given + input_limit < given_now)) → given + input_limit < 2 ^ 64 - 1 → given + input_limit < given_now → ⊥
+  not_over : {X : Type 0} (result : Result X ℕ) (value : X) → result ≡ Ok value → (given + input_limit < 2 ^ 64 - 1 → (result ≡ Err 7 ↔ (given + input_limit < given_now))) → given + input_limit < 2 ^ 64 - 1 → given + input_limit < given_now → ⊥
   not_over result value is exact below over = let bad : Ok value ≡ Err 7 = sym is ∙ (exact below).1 over in absurd (cc)
 
   pub causes_stopped : {X : Type 0} (held held_now : Option Text) (reason : EnrolStop) (status : ℕ) (result : Result X ℕ) (value : X) → AnswersOne held held_now (stopped_by reason) status → result ≡ Ok value
-      → (given + input_limit < 2 ^ 64 - 1 → result ≡ Err 7 ↔ (given + input_limit < given_now)) → read ≤ read_now → (status ≡ 3 → Rose wrote wrote_now) → wrote ≤ wrote_now → HasCauses status given given_now read read_now wrote wrote_now left
+      → (given + input_limit < 2 ^ 64 - 1 → (result ≡ Err 7 ↔ (given + input_limit < given_now))) → read ≤ read_now → (status ≡ 3 → Rose wrote wrote_now) → wrote ≤ wrote_now → HasCauses status given given_now read read_now wrote wrote_now left
   causes_stopped held held_now reason status result value one is exact read_later cause later =
       let code = stopped_codes held held_now reason status one in
       record {
@@ -113,11 +113,12 @@ module _ (given given_now read read_now wrote wrote_now : ℕ) (left : Option Te
     where
       not_two : (n : ℕ) → IsOneOf (3 ∷ 4 ∷ 6 ∷ 10 ∷ 12 ∷ []) n → n ≡ 2 → ⊥
       not_two n is bad = grind (arith)
+
       not_seven : (n : ℕ) → IsOneOf (3 ∷ 4 ∷ 6 ∷ 10 ∷ 12 ∷ []) n → n ≡ 7 → ⊥
       not_seven n is bad = grind (arith)
 
   -- and all users were enrolled
-  pub causes_enrolled : {X : Type 0} (result : Result X ℕ) (value : X) → result ≡ Ok value → (given + input_limit < 2 ^ 64 - 1 → result ≡ Err 7 ↔ (given + input_limit < given_now)) → read ≤ read_now → wrote_now ≡ wrote
+  pub causes_enrolled : {X : Type 0} (result : Result X ℕ) (value : X) → result ≡ Ok value → (given + input_limit < 2 ^ 64 - 1 → (result ≡ Err 7 ↔ (given + input_limit < given_now))) → read ≤ read_now → wrote_now ≡ wrote
       → HasCauses 0 given given_now read read_now wrote wrote_now left
   causes_enrolled result value is exact read_later same = record {
     read_fault = λ bad. absurd (cc);
@@ -133,9 +134,9 @@ module _ {D : Type 0} (disks : Ghosts D) (limits : Limits) (plan : ServePlan) (g
 
   pub statuses : (result : Result (HostState D) (ServeFault D)) → Serves disks limits plan given unasked left held held_now result → IfErr result (λ fault. IsOneOf (2 ∷ 3 ∷ 4 ∷ 6 ∷ 7 ∷ 8 ∷ 10 ∷ 12 ∷ []) fault.status)
   statuses (Ok host) serves = tt
-  statuses (Err fault) (refused {fault = log} refuses back quiet one) = from_refused fault.status (refused_codes held held_now log.which log.why fault.status one)
-  statuses (Err fault) (unread opens back code same) = from_unread fault.status code
-  statuses (Err fault) (stopped {why = reason} opens input users back one) = from_stopped fault.status (stopped_codes held held_now reason fault.status one)
+  statuses (Err fault) (Serves.refused {fault = log} refuses back quiet one) = from_refused fault.status (refused_codes held held_now log.which log.why fault.status one)
+  statuses (Err fault) (Serves.unread opens back code same) = from_unread fault.status code
+  statuses (Err fault) (Serves.stopped {why = reason} opens input users back one) = from_stopped fault.status (stopped_codes held held_now reason fault.status one)
 
   -- ---- counts of disks
 
@@ -151,20 +152,23 @@ module _ {D : Type 0} (disks : Ghosts D) (limits : Limits) (plan : ServePlan) (g
       omega (arith, before, moved, later, all)
 
   pub later : (result : Result (HostState D) (ServeFault D)) → Serves disks limits plan given unasked left held held_now result → sum_by disks.faults given ≤ sum_by disks.faults (disks_after result)
-  later (Ok after) (enrolled {host = host} opens input users same) = host_later host after _ opens users.kept
-  later (Err fault) (refused {fault = log} refuses back quiet one) = let counts = (refuses_counts disks limits plan.trees given log refuses).0 in let same = ap (sum_by disks.faults) back in omega (arith, counts, same)
-  later (Err fault) (unread {host = host} opens back code same) =
+  later (Ok after) (Serves.enrolled {host = host} opens input users same) = host_later host after _ opens users.kept
+  later (Err fault) (Serves.refused {fault = log} refuses back quiet one) = let counts = (refuses_counts disks limits plan.trees given log refuses).0 in let same = ap (sum_by disks.faults) back in omega (arith, counts, same)
+  later (Err fault) (Serves.unread {host = host} opens back code same) =
       let before = opens_later disks limits plan.host plan.operator plan.trees given host opens in let all = host_faults disks host in let same_disks = ap (sum_by disks.faults) back in omega (arith, before, all, same_disks)
-  later (Err fault) (stopped {host = host} {after = after} opens input users back one) = let all = host_later host after _ opens users.kept in let same = ap (sum_by disks.faults) back in omega (arith, all, same)
+  later (Err fault) (Serves.stopped {host = host} {after = after} opens input users back one) = let all = host_later host after _ opens users.kept in let same = ap (sum_by disks.faults) back in omega (arith, all, same)
+
+  keys_within : (host : HostState D) → disks.faults host.keys.state.disk ≤ disk_faults disks host
+  keys_within host = omega arith
 
   pub rose : (result : Result (HostState D) (ServeFault D)) → Serves disks limits plan given unasked left held held_now result → result_code result ≡ 6 → Rose (sum_by disks.faults given) (sum_by disks.faults (disks_after result))
   rose (Ok after) serves six below = absurd (let bad : 0 ≡ 6 = six in cc)
-  rose (Err fault) (refused {fault = log} refuses back quiet one) six below =
+  rose (Err fault) (Serves.refused {fault = log} refuses back quiet one) six below =
       let rises = (refuses_counts disks limits plan.trees given log refuses).1 (refused_six held held_now log.which log.why fault.status one six) below in
       let same = ap (sum_by disks.faults) back in
       omega (arith, rises, same)
-  rose (Err fault) (unread opens back code same) six below = absurd (not_unread fault.status code six)
-  rose (Err fault) (stopped {host = host} {after = after} {why = reason} opens input users back one) six below =
+  rose (Err fault) (Serves.unread opens back code same) six below = absurd (not_unread fault.status code six)
+  rose (Err fault) (Serves.stopped {host = host} {after = after} {why = reason} opens input users back one) six below =
       let is = stopped_six held held_now reason fault.status one six in
       let before = opens_later disks limits plan.host plan.operator plan.trees given host opens in
       let first = host_faults disks host in
@@ -174,7 +178,7 @@ module _ {D : Type 0} (disks : Ghosts D) (limits : Limits) (plan : ServePlan) (g
       let low : disks.faults host.keys.state.disk < 2 ^ 64 - 1 ⊎ (2 ^ 64 - 1 ≤ disks.faults host.keys.state.disk) = cases_lt (disks.faults host.keys.state.disk) (2 ^ 64 - 1) in
       elim low [
         | inl under ↦ (let rises = users.kept.counts.rose (ap Err is) under in omega (arith, before, first, moved, all, same, rises))
-        | inr over ↦ omega (arith, before, first, moved, all, same, over, below, users.kept.counts.later)
+        | inr over ↦ (let within = keys_within host in let after_later = users.kept.counts.later in omega (arith, before, first, moved, all, same, over, below, within, after_later))
       ]
 
   -- ---- completeness
@@ -245,9 +249,9 @@ module _ {D : Type 0} (disks : Ghosts D) (limits : Limits) (plan : ServePlan) (g
   pub complete : (text : Text) (result : Result (HostState D) (ServeFault D)) → Serves disks limits plan given unasked left held held_now result → left ≡ Some text → AreServed disks limits text (logs_of plan.trees) given
       → (result_code result ≡ 2 → ⊥) → (result_code result ≡ 3 → ⊥) → (result_code result ≡ 6 → ⊥) → (result_code result ≡ 7 → ⊥) → IsOneOf (0 ∷ 4 ∷ []) (result_code result)
   complete text (Ok host) serves told served read write disk long = tt
-  complete text (Err fault) (refused {fault = log} refuses back quiet one) told served read write disk long = by_refusal held held_now log.which log.why fault.status one (opens_well text log served refuses) write disk
-  complete text (Err fault) (unread opens back code same) told served read write disk long = unread_four fault.status code read long
-  complete text (Err fault) (stopped {host = host} {after = after} {text = seen} {why = reason} opens input users back one) told served read write disk long =
+  complete text (Err fault) (Serves.refused {fault = log} refuses back quiet one) told served read write disk long = by_refusal held held_now log.which log.why fault.status one (opens_well text log served refuses) write disk
+  complete text (Err fault) (Serves.unread opens back code same) told served read write disk long = unread_four fault.status code read long
+  complete text (Err fault) (Serves.stopped {host = host} {after = after} {text = seen} {why = reason} opens input users back one) told served read write disk long =
       let same : seen ≡ text = subst (λ l. IfSome l (λ bytes. seen ≡ bytes)) told input.told in
       by_stop (takes_users text host served opens) (subst (λ t. EnrolsUsers disks t host after (Err reason)) same users) reason refl one
     where
@@ -275,5 +279,5 @@ module _ {D : Type 0} (disks : Ghosts D) (limits : Limits) (given : Spared D) (u
   wanting = record { disks = given; which = 0; why = why.OutOfMemory }
 
   pub words_unread : (plan : ServePlan) → unasked → Serves disks limits plan given.disks unasked left held held (Err (record { status = 4; disks = given }))
-  words_unread plan quiet = refused {fault = wanting} (inl (record { handed = refl; why_is = refl; which_is = refl })) refl quiet
+  words_unread plan quiet = Serves.refused {fault = wanting} (inl (record { handed = refl; why_is = refl; which_is = refl })) refl quiet
       (record { one = tt; answers = record { whole = λ bad. absurd (cc); part = WritesPart-none held [] } })

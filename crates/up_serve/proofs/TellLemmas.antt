@@ -40,6 +40,27 @@ tells_answer held held_now (Err e) answer status made told = no_memory held held
 
 -- ---- which statuses that are
 
+only_8 : (n : ℕ) → IsOneOf (3 ∷ 4 ∷ 8 ∷ []) n → IsOneOf (3 ∷ 4 ∷ 6 ∷ 8 ∷ []) n
+only_8 n is = grind (arith)
+
+only_6 : (n : ℕ) → IsOneOf (3 ∷ 4 ∷ 6 ∷ []) n → IsOneOf (3 ∷ 4 ∷ 6 ∷ 8 ∷ []) n
+only_6 n is = grind (arith)
+
+only_4 : (n : ℕ) → IsOneOf (3 ∷ 4 ∷ 4 ∷ []) n → IsOneOf (3 ∷ 4 ∷ 6 ∷ 8 ∷ []) n
+only_4 n is = grind (arith)
+
+stops_10 : (n : ℕ) → IsOneOf (3 ∷ 4 ∷ 10 ∷ []) n → IsOneOf (3 ∷ 4 ∷ 6 ∷ 10 ∷ 12 ∷ []) n
+stops_10 n is = grind (arith)
+
+stops_12 : (n : ℕ) → IsOneOf (3 ∷ 4 ∷ 12 ∷ []) n → IsOneOf (3 ∷ 4 ∷ 6 ∷ 10 ∷ 12 ∷ []) n
+stops_12 n is = grind (arith)
+
+stops_6 : (n : ℕ) → IsOneOf (3 ∷ 4 ∷ 6 ∷ []) n → IsOneOf (3 ∷ 4 ∷ 6 ∷ 10 ∷ 12 ∷ []) n
+stops_6 n is = grind (arith)
+
+stops_4 : (n : ℕ) → IsOneOf (3 ∷ 4 ∷ 4 ∷ []) n → IsOneOf (3 ∷ 4 ∷ 6 ∷ 10 ∷ 12 ∷ []) n
+stops_4 n is = grind (arith)
+
 -- it is that of the answer, unless it is 3 or 4
 pub is_answer : (held held_now : Option Text) (answer : Answer) (status : ℕ) → AnswersOne held held_now answer status → is_cut_short status ≡ false → status ≡ answer.status
 is_answer held held_now answer status one fine = (one.answers.whole fine).1
@@ -48,20 +69,20 @@ pub refused_codes : (held held_now : Option Text) (which : ℕ) (reason : OpenWh
 refused_codes held held_now which reason status one = by reason one.one
   where
     by : (r : OpenWhy) → IsOneOf (3 ∷ 4 ∷ (refused_by which r).status ∷ []) status → IsOneOf (3 ∷ 4 ∷ 6 ∷ 8 ∷ []) status
-    by (why.Damaged gate) is = grind (arith)
-    by (why.Chain gate wanted got) is = grind (arith)
-    by why.OldFormat is = grind (arith)
-    by why.Fault is = grind (arith)
-    by why.OutOfMemory is = grind (arith)
+    by (why.Damaged gate) is = only_8 status is
+    by (why.Chain gate wanted got) is = only_8 status is
+    by why.OldFormat is = only_8 status is
+    by why.Fault is = only_6 status is
+    by why.OutOfMemory is = only_4 status is
 
 pub stopped_codes : (held held_now : Option Text) (reason : EnrolStop) (status : ℕ) → AnswersOne held held_now (stopped_by reason) status → IsOneOf (3 ∷ 4 ∷ 6 ∷ 10 ∷ 12 ∷ []) status
 stopped_codes held held_now reason status one = by reason one.one
   where
     by : (r : EnrolStop) → IsOneOf (3 ∷ 4 ∷ (stopped_by r).status ∷ []) status → IsOneOf (3 ∷ 4 ∷ 6 ∷ 10 ∷ 12 ∷ []) status
-    by (stop.BadLine number) is = grind (arith)
-    by (stop.Full records) is = grind (arith)
-    by stop.DiskFault is = grind (arith)
-    by stop.OutOfMemory is = grind (arith)
+    by (stop.BadLine number) is = stops_10 status is
+    by (stop.Full records) is = stops_12 status is
+    by stop.DiskFault is = stops_6 status is
+    by stop.OutOfMemory is = stops_4 status is
 
 -- 6 is that of a fault of a disk alone
 pub refused_six : (held held_now : Option Text) (which : ℕ) (reason : OpenWhy) (status : ℕ) → AnswersOne held held_now (refused_by which reason) status → status ≡ 6 → reason ≡ why.Fault

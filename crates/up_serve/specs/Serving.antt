@@ -24,7 +24,7 @@ use Rattle.up_tree.specs.States as tree
 
 -- limits that the trees and keys of a server may have
 pub record AreServeLimits (limits : Limits) : Type 0 where
-  pub limits : AreLimits limits
+  pub fit : AreLimits limits
   pub least : keys.largest_room ≤ limits.largest
   pub most : limits.largest ≤ 1048000
 
@@ -67,7 +67,7 @@ module _ {D : Type 0} (disks : Ghosts D) (limits : Limits) (plan : ServePlan) (g
 pub record HasCauses (code given given_now read read_now wrote wrote_now : ℕ) (left : Option Text) : Type 0 where
   pub read_fault : code ≡ 2 → Rose read read_now
   pub write_fault : code ≡ 3 → Rose wrote wrote_now
-  pub too_long : given + input_limit < 2 ^ 64 - 1 → code ≡ 7 ↔ (given + input_limit < given_now)
+  pub too_long : given + input_limit < 2 ^ 64 - 1 → (code ≡ 7 ↔ (given + input_limit < given_now))
   pub told_long : code ≡ 7 → IfSome left (λ bytes. input_limit < length bytes)
   pub source_later : read ≤ read_now
   pub sink_later : wrote ≤ wrote_now

@@ -38,11 +38,7 @@ impl From<AllocError> for EnrolStop {
 /// bad, or whose record the log of keys has no room for. Each `USER KEY` is in the words of a script; an empty line and a comment say
 /// nothing.
 #[tactic(auto, using(crate::proofs::EnrolLemmas::all_lines))]
-pub fn enrol_users<D: Disk>(
-    alloc: Global,
-    host: &mut Host<D>,
-    text: &[u8],
-) -> Result<(), EnrolStop>
+pub fn enrol_users<D: Disk>(alloc: Global, host: &mut Host<D>, text: &[u8]) -> Result<(), EnrolStop>
     ensures { EnrolsUsers D.Disk text.now host.old host.new result }
 {
     let mut number: u64 = 1;
