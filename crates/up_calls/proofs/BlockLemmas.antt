@@ -1,14 +1,11 @@
 -- How fetching goes on, while others may write to the store.
-use Rattle.std.proofs.Common.{◌≡◌, ◌≤◌, ◌||◌, ℕ, Bool, true, false, List, [], ◌∷◌, ◌++◌, length, take, refl, sym, ap, subst, ◌∙◌, inl, inr, arith, append_assoc, append-nil, Option, Some, Result, Ok, Err}
-use Rattle.std.specs.Prelude.{IfOk}
-use Rattle.std.specs.Result.{result_ok}
+use Rattle.std.proofs.Common.{◌≡◌, ◌≤◌, ◌||◌, ℕ, Bool, true, false, List, [], ◌∷◌, ◌++◌, length, take, refl, sym, ap, subst, ◌∙◌, inl, inr, arith, append_assoc, append-nil, Option, Some}
 use Rattle.std.specs.List.{AllByRecursion, list_any}
 use Rattle.std.proofs.lemmas.Bool.{false≢true}
 use Rattle.std.proofs.lemmas.List.{take-append-le}
 use Rattle.std.proofs.lemmas.List.Folds.{list_any-append}
 use Rattle.up_answers.specs.Fetching.{Fetched, is_failed}
-use Rattle.up_calls.proofs.AsksLemmas.{All-append, All-map, Asks-none, Asks-trans, HasCause-for, HasCause-same, Rose-left, Rose-right, Tries-none, Tries-one}
-use Rattle.up_calls.specs.Asks.{Asks, Tries}
+use Rattle.up_calls.proofs.AsksLemmas.{All-append, All-map, Asks-none, Asks-trans, Rose-left, Rose-right}
 use Rattle.up_calls.specs.Blocks.{Got, GivenBy, IsFromStore, IsGiven, OwnBlock, OwnBlocks, block_answer, block_question}
 use Rattle.up_calls.specs.Gathered.{BlockGathered, BlocksGathered, own_failed}
 use Rattle.up_calls.specs.Views.{LaterSeen, SeenStore}
@@ -16,9 +13,7 @@ use Rattle.up_entry.specs.declared.entries.Endpoint.{Endpoint}
 use Rattle.up_entry.specs.declared.entries.Endpoint.TheVariants as endpoint
 use Rattle.up_entry.specs.declared.entries.Location.{Location}
 use Rattle.up_entry.specs.declared.fetch.Fetch.{Fetch}
-use Rattle.up_entry.specs.declared.fetch.Fetch.TheVariants as fetch
 use Rattle.up_lists.proofs.BeginsLemmas.{length-Begins}
-use Rattle.up_lists.specs.Counts.{HasCause}
 use Rattle.up_peer.specs.declared.loader.Loader.{Ghosts}
 
 -- ---- what the store gave is told of a longer call
@@ -58,36 +53,6 @@ or_false true h = refl
 or_false false h = absurd (cc)
 
 module _ {L : Type 0} (loader : Ghosts L) (rises : Type 0) (v w : SeenStore) where
-  -- the own store gave it
-  pub gathered_here : ((l : L) → loader.tied l l) → (l : L) (location : Location) (given : Fetch) → location.endpoint ≡ endpoint.Local → IsFromStore v w location.reference given → (given ≡ fetch.Failed → rises)
-      → BlockGathered loader rises v w l l location given
-  gathered_here same l location given is from rose = record {
-    own = subst (λ at. OwnBlock v w at location.reference given) (sym is) from;
-    rose = λ h. rose (of_failed given (subst (λ at. own_failed at given ≡ true) is h));
-    asks = subst (λ at. let there : Location = record location { endpoint = at } in Asks loader.fetches loader.faults loader.tied is_failed block_question block_answer l l ((there, given) ∷ [])) (sym is)
-        (record { asked = refl; counts = HasCause-same (loader.faults l) _ (λ e. absurd (cc)); tie = same l });
-  }
-    where
-      of_failed : (given : Fetch) → own_failed endpoint.Local given ≡ true → given ≡ fetch.Failed
-      of_failed fetch.Failed h = refl
-      of_failed fetch.Missing h = absurd (false≢true h)
-      of_failed (fetch.Got bytes) h = absurd (false≢true h)
-
-  -- the loader was asked for it
-  pub gathered_there : (old new : L) (location : Location) (address : List ℕ) (given : Fetch) → location.endpoint ≡ endpoint.Address address
-      → loader.fetches old (record { address = address; reference = location.reference }) (Some given) new → HasCause (loader.faults old) (loader.faults new) (is_failed (Some given) ≡ true) → loader.tied old new
-      → BlockGathered loader rises v w old new location given
-  gathered_there old new location address given is asked counts tie = record {
-    own = subst (λ at. OwnBlock v w at location.reference given) (sym is) tt;
-    rose = λ h. absurd (false≢true (subst (λ at. own_failed at given ≡ true) is h));
-    asks = subst (λ at. let there : Location = record location { endpoint = at } in Asks loader.fetches loader.faults loader.tied is_failed block_question block_answer old new ((there, given) ∷ [])) (sym is)
-        (record {
-          asked = (new, (asked, refl));
-          counts = HasCause-for (loader.faults old) (loader.faults new) (is_failed (Some given) ≡ true) _ (or_false (is_failed (Some given))) counts;
-          tie = tie;
-        });
-  }
-
   -- behind what was fetched
   pub blocks_one : (old new : L) (before : Fetched) (location : Location) (given : Fetch) → BlockGathered loader rises v w old new location given
       → BlocksGathered loader rises v w old new before (before ++ (location, given) ∷ [])
@@ -97,15 +62,6 @@ module _ {L : Type 0} (loader : Ghosts L) (rises : Type 0) (v w : SeenStore) whe
     own = (h.own, tt);
     rose = λ e. h.rose (or_false (own_failed location.endpoint given) e);
     asks = h.asks;
-  }
-
-  pub tries_block : (old new : L) (location : Location) (given : Fetch) → BlockGathered loader rises v w old new location given → Tries loader.fetches loader.faults loader.tied old new
-  tries_block old new location given h = record {
-    questions = _;
-    answers = _;
-    asked = h.asks.asked;
-    counts = record { later = h.asks.counts.later; bounded = h.asks.counts.bounded; rose = λ e. absurd e };
-    tie = h.asks.tie;
   }
 
 -- ---- all of them
@@ -145,23 +101,3 @@ module _ {L : Type 0} (loader : Ghosts L) where
     rose = λ h. up (one.rose h);
     asks = one.asks;
   }
-
--- ---- or memory was wanting
-
-module _ {L E : Type 0} (loader : Ghosts L) (rises : Type 0) (v w : SeenStore) where
-  pub here_if : ((l : L) → loader.tied l l) → (l : L) (location : Location) (result : Result Fetch E) → location.endpoint ≡ endpoint.Local → IfOk result (IsFromStore v w location.reference) → (result ≡ Ok fetch.Failed → rises)
-      → IfOk result (BlockGathered loader rises v w l l location)
-  here_if same l location (Ok given) is from rose = gathered_here loader rises v w same l location given is from (λ e. rose (ap Ok e))
-  here_if same l location (Err e) is from rose = tt
-
-  pub there_if : (old new : L) (location : Location) (address : List ℕ) (result : Result Fetch E) → location.endpoint ≡ endpoint.Address address
-      → loader.fetches old (record { address = address; reference = location.reference }) (result_ok result) new → HasCause (loader.faults old) (loader.faults new) (result ≡ Ok fetch.Failed) → loader.tied old new
-      → IfOk result (BlockGathered loader rises v w old new location)
-  there_if old new location address (Ok given) is asked counts tie =
-      gathered_there loader rises v w old new location address given is asked (HasCause-for (loader.faults old) (loader.faults new) (Ok given ≡ Ok fetch.Failed) (is_failed (Some given) ≡ true) (failed given) counts) tie
-    where
-      failed : (given : Fetch) → is_failed (Some given) ≡ true → Ok given ≡ Ok fetch.Failed
-      failed fetch.Failed h = refl
-      failed fetch.Missing h = absurd (false≢true h)
-      failed (fetch.Got bytes) h = absurd (false≢true h)
-  there_if old new location address (Err e) is asked counts tie = tt

@@ -1,6 +1,6 @@
 -- What a call came to.
 use Rattle.std.proofs.Common.{◌≡◌, ◌≢◌, ◌⊎◌, ◌≤◌, ◌||◌, ℕ, Bool, true, false, List, [], ◌∷◌, ◌++◌, length, map, refl, sym, ap, subst, ◌∙◌, inl, inr, arith, Option, Some, None, Result, Ok, Err, option_map}
-use Rattle.std.specs.Prelude.{if◌then◌else◌, is_some}
+use Rattle.std.specs.Prelude.{IfOk, OnErr, if◌then◌else◌, is_some}
 use Rattle.std.specs.List.{flat_map, list_any}
 use Rattle.std.proofs.lemmas.Bool.{false≢true}
 use Rattle.up_answers.specs.Answers.{answer, fault_reply, log_owner}
@@ -8,7 +8,9 @@ use Rattle.up_answers.specs.Fetching.{Fetched, is_failed}
 use Rattle.up_answers.specs.Needs.{IsLoading}
 use Rattle.up_answers.specs.Routes.{locations_asked}
 use Rattle.up_calls.proofs.AsksLemmas.{Asks-none, Rose-left, Tries-Asks, Tries-none}
+use Rattle.up_calls.proofs.BlockLemmas.{blocks_until}
 use Rattle.up_calls.proofs.QuietLemmas.{fault_quiet, has_failed, is_io, quiet_answer}
+use Rattle.up_calls.proofs.TurnLemmas.{answered_since}
 use Rattle.up_calls.specs.Answered.{Came, HasFailed, Leaves, LoadsInRounds, Risen, TreeAnswered, TreeServed}
 use Rattle.up_calls.specs.Asks.{Asks}
 use Rattle.up_calls.specs.Blocks.{Got, OwnBlocks, answer_at, block_answer, block_question}
@@ -283,3 +285,111 @@ asked_by loader operator left rises a b q old new e came later stays = record { 
 
 pub tied_by : {L : Type 0} (loader : Ghosts L) → ((x y z : L) → loader.tied x y → loader.tied y z → loader.tied x z) → (old new : L) → IsTried loader old new → loader.tied old new
 tied_by loader joined old new h = joined old h.between new h.blocks.tie h.groups.tie
+
+-- ---- events with nothing loaded or fetched
+
+abbrev pub bare : Reply → ℕ → ℕ → Event
+bare said position now = record { reply = said; position = position; loaded = []; fetched = []; moment = now }
+
+module _ {L : Type 0} (loader : Ghosts L) (same : (l : L) → loader.tied l l) (operator : UserName) (left : LogName → ℕ → Type 0) (rises : LogName → Type 0) (q : Question) (l : L) (now : ℕ) where
+  stays_same : (a : Views) → OwnStays None a a
+  stays_same a = record { trees = λ owner n. refl; store = λ n. refl; keys = λ n. refl }
+
+  refused_bare : (a : Views) (said : Reply) (e : Event) → e ≡ bare said 0 now → refusal a q ≡ Some said → Came loader operator left rises a a q l l e
+  refused_bare a said e is refused =
+      subst (Came loader operator left rises a a q l l) (sym is)
+      (came_refused loader same operator left rises a a q l (bare said 0 now) refused refl (record { loaded = refl; fetched = refl }) (stays_same a))
+
+  -- something of a request to a tree is malformed
+  pub came_malformed : (a : Views) (said : Reply) (e : Event) → service_of q.request ≡ service.Directory → route_of q.user q.request ≡ route.Refused said → e ≡ bare said 0 now → Came loader operator left rises a a q l l e
+  unfolding refusal
+  came_malformed a said e serves goes is = refused_bare a said e is (ap (refusal_by a q) serves ∙ ap (route_refusal a) goes)
+
+  -- the host does not have the tree
+  pub came_elsewhere : (a : Views) (owner : UserName) (locations : List Location) (e : Event) → service_of q.request ≡ service.Directory → route_of q.user q.request ≡ route.Tree owner locations → is_some (a.tree owner) ≡ false
+      → e ≡ bare reply.WrongHost 0 now → Came loader operator left rises a a q l l e
+  unfolding refusal
+  came_elsewhere a owner locations e serves goes none is =
+      refused_bare a reply.WrongHost e is (ap (refusal_by a q) serves ∙ ap (route_refusal a) goes ∙ ap (λ found. if found then None else Some reply.WrongHost) none)
+
+  -- something of a request to the store or the keys is malformed
+  pub store_malformed : (a : Views) (what : What) (e : Event) → service_of q.request ≡ service.Store → store_fault q.request ≡ Some what → e ≡ bare (reply.Invalid what) 0 now → Came loader operator left rises a a q l l e
+  unfolding refusal
+  store_malformed a what e serves fault is = refused_bare a (reply.Invalid what) e is (ap (refusal_by a q) serves ∙ ap (option_map (λ x. reply.Invalid x)) fault)
+
+  pub keys_malformed : (a : Views) (what : What) (e : Event) → service_of q.request ≡ service.Keys → key_fault q.request ≡ Some what → e ≡ bare (reply.Invalid what) 0 now → Came loader operator left rises a a q l l e
+  unfolding refusal
+  keys_malformed a what e serves fault is = refused_bare a (reply.Invalid what) e is (ap (refusal_by a q) serves ∙ ap (option_map (λ x. reply.Invalid x)) fault)
+
+  -- the store answered, or the keys
+  pub store_came : (a b : Views) (said : Reply) (position : ℕ) (e : Event) → service_of q.request ≡ service.Store → store_fault q.request ≡ None → e ≡ bare said position now
+      → LogTold (StoreTurn operator a.store b.store q) (rises LogName.OfStore) a.store b.store said position → left LogName.OfStore position → OwnStays (Some LogName.OfStore) a b → Came loader operator left rises a b q l l e
+  unfolding refusal
+  store_came a b said position e serves sound is told lasts others =
+      let to : log_asked q ≡ Some LogName.OfStore = ap (λ (s : Service). log_by s (route_of q.user q.request)) serves in
+      let none : refusal a q ≡ None = ap (refusal_by a q) serves ∙ ap (option_map (λ what. reply.Invalid what)) sound in
+      subst (Came loader operator left rises a b q l l) (sym is)
+      (came_to loader same operator left rises a b q l (bare said position now) LogName.OfStore to (λ owner k. cc) (record { loaded = refl; fetched = refl })
+      (λ enough. Outcome.ByStore none to (record { loaded = refl; fetched = refl }) (told.told (bare said position now) refl refl enough))
+      (λ wants. record { trees = λ owner n. others.trees owner (λ k. cc); store = λ n. told.wanting wants; keys = λ n. others.keys (λ k. cc) })
+      lasts told.rose)
+
+  pub keys_came : (a b : Views) (said : Reply) (position : ℕ) (e : Event) → service_of q.request ≡ service.Keys → key_fault q.request ≡ None → e ≡ bare said position now
+      → LogTold (KeysTurn a.keys b.keys q) (rises LogName.OfKeys) a.keys b.keys said position → left LogName.OfKeys position → OwnStays (Some LogName.OfKeys) a b → Came loader operator left rises a b q l l e
+  unfolding refusal
+  keys_came a b said position e serves sound is told lasts others =
+      let to : log_asked q ≡ Some LogName.OfKeys = ap (λ (s : Service). log_by s (route_of q.user q.request)) serves in
+      let none : refusal a q ≡ None = ap (refusal_by a q) serves ∙ ap (option_map (λ what. reply.Invalid what)) sound in
+      subst (Came loader operator left rises a b q l l) (sym is)
+      (came_to loader same operator left rises a b q l (bare said position now) LogName.OfKeys to (λ owner k. cc) (record { loaded = refl; fetched = refl })
+      (λ enough. Outcome.ByKeys none to (record { loaded = refl; fetched = refl }) (told.told (bare said position now) refl refl enough))
+      (λ wants. record { trees = λ owner n. others.trees owner (λ k. cc); store = λ n. others.store (λ k. cc); keys = λ n. told.wanting wants })
+      lasts told.rose)
+
+-- memory was wanting, with nothing loaded or fetched
+pub wanting_bare : {L : Type 0} (loader : Ghosts L) (operator : UserName) (left : LogName → ℕ → Type 0) (rises : LogName → Type 0) (a b : Views) (q : Question) (old new : L) (e : Event) (now : ℕ) → e ≡ bare reply.OutOfMemory 0 now → OwnStays None a b
+    → IsTried loader old new → Came loader operator left rises a b q old new e
+wanting_bare loader operator left rises a b q old new e now is stays tried = came_wanting loader operator left rises a b q old new e (ap (λ (x : Event). x.reply) is) stays tried
+
+-- memory was wanting before anything was done
+pub nothing_bare : {L : Type 0} (loader : Ghosts L) (same : (l : L) → loader.tied l l) (operator : UserName) (left : LogName → ℕ → Type 0) (rises : LogName → Type 0) (a : Views) (q : Question) (l : L) (e : Event) (now : ℕ) → e ≡ bare reply.OutOfMemory 0 now
+    → Came loader operator left rises a a q l l e
+nothing_bare loader same operator left rises a q l e now is =
+    wanting_bare loader operator left rises a a q l l e now is (record { trees = λ owner n. refl; store = λ n. refl; keys = λ n. refl })
+    (record { between = l; blocks = Tries-none loader.fetches loader.faults loader.tied same l; groups = Tries-none loader.loads loader.faults loader.tied same l })
+
+-- where a request goes to whose service is this one
+pub asked_tree : (q : Question) (owner : UserName) (locations : List Location) → service_of q.request ≡ service.Directory → route_of q.user q.request ≡ route.Tree owner locations → log_asked q ≡ Some (LogName.OfTree owner)
+asked_tree q owner locations serves goes = ap (λ (s : Service). log_by s (route_of q.user q.request)) serves ∙ ap tree_on goes
+
+pub asked_store : (q : Question) → service_of q.request ≡ service.Store → log_asked q ≡ Some LogName.OfStore
+asked_store q serves = ap (λ (s : Service). log_by s (route_of q.user q.request)) serves
+
+pub asked_keys : (q : Question) → service_of q.request ≡ service.Keys → log_asked q ≡ Some LogName.OfKeys
+asked_keys q serves = ap (λ (s : Service). log_by s (route_of q.user q.request)) serves
+
+-- ---- the blocks, and then the tree
+
+module _ {L E : Type 0} (loader : Ghosts L) (operator : UserName) (rises : LogName → Type 0) (owner : UserName) (q : Question) (locations : List Location) (now : ℕ) where
+  pub served_if : {r s : Type 0} → (r → rises LogName.OfStore) → (s → rises (LogName.OfTree owner)) → (other : UserName) → other ≡ operator → (a b c : Views) → Later a b → Later b c → OwnStays None a b → (x y z : L) (fetched : Fetched)
+      → map (λ (got : Got). got.0) fetched ≡ locations → BlocksGathered loader r a.store b.store x y [] fetched → (result : Result Event E) → IfOk result (TreeAnswered loader other s b c owner q y z fetched now)
+      → IfOk result (TreeServed loader operator rises a c owner q x z locations now)
+  served_if up over other is a b c to on own x y z fetched located blocks (Err e) h = tt
+  served_if {s = s} up over other is a b c to on own x y z fetched located blocks (Ok e) h =
+      let mine : TreeAnswered loader operator s b c owner q y z fetched now e = subst (λ o. TreeAnswered loader o s b c owner q y z fetched now e) is h in
+      let since : TreeAnswered loader operator (rises (LogName.OfTree owner)) a c owner q y z fetched now e = answered_since loader operator owner q fetched now over a b c to own y z e mine on in
+      let all : BlocksGathered loader (rises LogName.OfStore) a.store c.store x y [] fetched = blocks_until loader up a.store b.store c.store to.store on.store x y [] fetched blocks in
+      record {
+        between = y;
+        blocks = subst (BlocksGathered loader (rises LogName.OfStore) a.store c.store x y []) (sym since.fetched_is) all;
+        located = ap (map (λ (got : Got). got.0)) since.fetched_is ∙ located;
+        answered = subst (λ (f : Fetched). TreeAnswered loader operator (rises (LogName.OfTree owner)) a c owner q y z f now e) (sym since.fetched_is) since;
+      }
+
+pub if_ok : {T E : Type 0} (result : Result T E) (P Q : T → Type 0) → ((x : T) → P x → Q x) → IfOk result P → IfOk result Q
+if_ok (Ok x) P Q f h = f x h
+if_ok (Err e) P Q f h = tt
+
+pub on_err : {T E P Q : Type 0} (result : Result T E) → (P → Q) → OnErr result P → OnErr result Q
+on_err (Ok x) f h = tt
+on_err (Err e) f h = f h

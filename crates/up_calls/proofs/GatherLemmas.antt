@@ -159,10 +159,10 @@ same_some x v w p q = let k : Some v ≡ Some w = sym p ∙ q in cc
 
 module _ {L : Type 0} (loader : Ghosts L) (same : (l : L) → loader.tied l l) (operator : UserName) (a b : Views) where
   -- what is asked and answered of a name, by whether the host has the tree
-  asked_for : (old new : L) (name : PathName) (answer : LoadAnswer) → Option SeenTree → Type 0
+  abbrev asked_for : (old new : L) (name : PathName) (answer : LoadAnswer) → Option SeenTree → Type 0
   asked_for old new name answer found = Run loader.loads old (asked_of_others operator found name ++ []) (answered_by_others found answer ++ []) new
 
-  counted_for : (old new : L) (answer : LoadAnswer) → Option SeenTree → Type 0
+  abbrev counted_for : (old new : L) (answer : LoadAnswer) → Option SeenTree → Type 0
   counted_for old new answer found = HasCause (loader.faults old) (loader.faults new) (list_any load_failed (answered_by_others found answer ++ []) ≡ true)
 
   -- one name more

@@ -33,7 +33,8 @@ pub(crate) fn gather_round<B: Logs, L: Loader>(
     ensures tie { B.tied None logs.old logs.new }
     ensures tried { Tries L.loads L.faults L.tied loader.old loader.new }
 {
-    for i in 0..missing.len() {
+    let count = missing.len();
+    for i in 0..count {
         let Some(name) = missing.get(i) else {
             return Ok(());
         };
