@@ -47,6 +47,28 @@ pub fn ask<B: Logs, L: Loader>(
     ensures loader { L.tied loader.old loader.new }
     ensures moment { result.moment ≡ now }
 {
+    ask_by(alloc, logs, loader, user, request, now)
+}
+
+// The same, by who answers it.
+fn ask_by<B: Logs, L: Loader>(
+    alloc: Global,
+    logs: &mut B,
+    loader: &mut L,
+    user: &User,
+    request: &Request,
+    now: u64,
+) -> Event
+    requires ready { B.ready logs.old }
+    requires moment { now < 253402207200 }
+    ensures came { Came L.Loader (B.operator_of logs.old)
+        (λ log n. B.left log n logs.old logs.new) (λ log. B.rises log logs.old logs.new)
+        (B.views logs.old) (B.views logs.new)
+        (record { user = user.now; request = request.now }) loader.old loader.new result }
+    ensures tie { B.tied (log_asked (record { user = user.now; request = request.now }))
+        logs.old logs.new }
+    ensures moment { result.moment ≡ now }
+{
     match service_of(request) {
         Service::Directory => ask_directory(alloc, logs, loader, user, request, now),
         Service::Store => ask_store(alloc, logs, loader, user, request, now),
