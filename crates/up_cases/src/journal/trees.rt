@@ -74,53 +74,70 @@ fn path_line(
     answer: &mut Answer,
 ) -> Option<bool> {
     let path = words.path(alloc)?;
-    let n = match words.rest {
-        Some(_) => Some(words.last_number()?),
-        None => None,
-    };
-    match (keyword, n) {
-        ("node", None) => add_node(tree.node(&path), answer),
-        ("children", None) => {
-            answer.word("children");
-            for i in 0..tree.position() {
-                if let Some(path) = tree.child(&path, i) {
-                    answer.coded(path.as_str().as_bytes());
-                }
-            }
-        }
-        ("under", Some(n)) => {
-            answer.word("under");
-            for position in tree.changes_under(&path, n).ok()?.as_slice() {
-                answer.number(*position);
-            }
-        }
-        ("met" | "above", None) => match first_link(alloc, tree, &path, keyword == "met").ok()? {
-            Some(link) => answer.coded(link.as_str().as_bytes()),
-            None => answer.word("none"),
-        },
-        ("access", None) => add_access(tree.access(&path), answer),
-        ("group", None) => add_group(tree.group(&path), answer),
-        ("access" | "group" | "nearest", Some(n)) => add_at(tree, keyword, &path, n, answer),
-        _ => return None,
+    match words.rest {
+        Some(_) => add_at(tree, keyword, &path, words.last_number()?, answer)?,
+        None => add_now(alloc, tree, keyword, &path, answer)?,
     }
     Some(true)
 }
 
-fn add_at(tree: &TreeState<Watched>, keyword: &str, path: &Path, n: u64, answer: &mut Answer) {
-    if n > tree.position() {
-        return answer.word("no record");
-    }
+// The same of a command without a number behind.
+fn add_now(
+    alloc: Global,
+    tree: &TreeState<Watched>,
+    keyword: &str,
+    path: &Path,
+    answer: &mut Answer,
+) -> Option<()> {
     match keyword {
+        "node" => add_node(tree.node(path), answer),
+        "children" => {
+            answer.word("children");
+            for i in 0..tree.position() {
+                if let Some(path) = tree.child(path, i) {
+                    answer.coded(path.as_str().as_bytes());
+                }
+            }
+        }
+        "access" => add_access(tree.access(path), answer),
+        "group" => add_group(tree.group(path), answer),
+        "met" | "above" => match first_link(alloc, tree, path, keyword == "met").ok()? {
+            Some(link) => answer.coded(link.as_str().as_bytes()),
+            None => answer.word("none"),
+        },
+        _ => return None,
+    }
+    Some(())
+}
+
+// The same of a command with a number behind.
+fn add_at(
+    tree: &TreeState<Watched>,
+    keyword: &str,
+    path: &Path,
+    n: u64,
+    answer: &mut Answer,
+) -> Option<()> {
+    match keyword {
+        "under" => {
+            answer.word("under");
+            for position in tree.changes_under(path, n).ok()?.as_slice() {
+                answer.number(*position);
+            }
+        }
+        _ if n > tree.position() => answer.word("no record"),
         "access" => add_access(tree.access_at(path, n), answer),
         "group" => add_group(tree.group_at(path, n), answer),
-        _ => match tree.nearest_at(path, n) {
+        "nearest" => match tree.nearest_at(path, n) {
             Some((depth, text)) => {
                 answer.number(depth);
                 add_access(Some(text), answer);
             }
             None => answer.word("none"),
         },
+        _ => return None,
     }
+    Some(())
 }
 
 fn add_access(found: Option<&AccessText>, answer: &mut Answer) {

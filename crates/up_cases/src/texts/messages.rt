@@ -86,8 +86,12 @@ fn known_line(alloc: Global, bytes: &Bytes, answer: &mut Answer) {
 // A word `differ` where a message is not written again as it stood, and `size` where it is said to have another length.
 fn add_again(bytes: &Bytes, size: u64, again: Result<Bytes, AllocError>, answer: &mut Answer) {
     match again {
-        Ok(again) if again == *bytes => {}
-        _ => answer.word("differ"),
+        Ok(again) => {
+            if again != *bytes {
+                answer.word("differ");
+            }
+        }
+        Err(lost) => answer.made(Err(lost)),
     }
     if size != bytes.len() {
         answer.word("size");
