@@ -1,5 +1,4 @@
 //! What the adapters of `up_net` do at a machine: with its clock, its random bytes and its programs, and the two commands of a helper.
-use crate::tests::folder::Folder;
 use std::alloc::{AllocError, Global};
 use std::io;
 use std::io::ErrorKind;
@@ -9,8 +8,7 @@ use std::time::{Clock as TimeOfDay, Duration};
 use up_ends::{Clock, Failed, MemSink, Nonces, Verdict, Verifier};
 use up_helper::{hex_word, sign_run, verify_run};
 use up_lists::Items;
-use up_names::parse_user;
-use up_net::{HelperVerifier, HostClock, Machine, SeedNonces, signature};
+use up_net::{HelperVerifier, HostClock, Machine, SeedNonces};
 
 /// The clocks of a machine: the one that counts from 1970 stands still, or cannot be read, and the other one stands at an hour.
 #[derive(Drop)]
@@ -73,47 +71,16 @@ fn nonces_of_a_seed(rt: HostRuntime) -> Result<(), Fail> {
 
 #[test]
 fn verdicts_of_programs(rt: HostRuntime) -> Result<(), Fail> {
-    let folder = Folder::new(rt.alloc(), &rt, "verdicts")?;
-    let helper = folder.file("helper")?;
-    for (program, key, verdict, faults) in [
-        ("/bin/true", b"a", Ok(Verdict::Yes), 0),
-        ("/bin/false", b"a", Ok(Verdict::No), 0),
-        ("/nobody/has/this", b"a", Err(Failed), 1),
-        (helper.as_str(), b"a", Ok(Verdict::Yes), 0),
-        (helper.as_str(), b"b", Ok(Verdict::No), 0),
-        (helper.as_str(), b"c", Err(Failed), 1),
+    for (helper, verdict, faults) in [
+        ("/bin/true", Ok(Verdict::Yes), 0),
+        ("/bin/false", Ok(Verdict::No), 0),
+        ("/nobody/has/this", Err(Failed), 1),
     ] {
-        let program = String::from_str(rt.alloc(), program)?;
-        let mut verifier = HelperVerifier::new(rt.alloc(), Machine::new(rt.alloc(), &rt), program);
-        assert_eq!(rt; verifier.verdict(key, b"bc", b""), verdict);
+        let helper = String::from_str(rt.alloc(), helper)?;
+        let mut verifier = HelperVerifier::new(rt.alloc(), Machine::new(rt.alloc(), &rt), helper);
+        assert_eq!(rt; verifier.verdict(b"a", b"bc", b""), verdict);
         assert_eq!(rt; verifier.faults(), faults);
     }
-    // Each question ran it once, one that it failed at too.
-    let runs = "verify 61 6263 -\nverify 62 6263 -\nverify 63 6263 -\n";
-    assert_eq!(rt; folder.text(&rt, "helper.runs")?.as_str(), runs);
-    folder.remove(&rt)?;
-    Ok(())
-}
-
-#[test]
-fn signatures_of_programs(rt: HostRuntime) -> Result<(), Fail> {
-    let folder = Folder::new(rt.alloc(), &rt, "signatures")?;
-    let helper = folder.file("helper")?;
-    for (user, signed) in [
-        (b"one@a.example".as_slice(), true),
-        (b"two@a.example".as_slice(), false),
-        (b"none@a.example".as_slice(), false),
-        (b"fails@a.example".as_slice(), false),
-    ] {
-        let user = parse_user(rt.alloc(), user)?;
-        let mut machine = Machine::new(rt.alloc(), &rt);
-        let made = signature(rt.alloc(), &mut machine, helper.as_str(), &user, b"hi")?;
-        assert_eq!(rt; made.is_some(), signed);
-        if let Some(bytes) = made {
-            assert_eq!(rt; bytes.as_slice(), b"\x0A\xFF".as_slice());
-        }
-    }
-    folder.remove(&rt)?;
     Ok(())
 }
 
