@@ -1,4 +1,5 @@
 //! What the adapters of `up_net` do at a machine: with its clock, its random bytes and its programs, and the two commands of a helper.
+use crate::tests::folder::Folder;
 use std::alloc::{AllocError, Global};
 use std::io;
 use std::io::ErrorKind;
@@ -8,7 +9,8 @@ use std::time::{Clock as TimeOfDay, Duration};
 use up_ends::{Clock, Failed, MemSink, Nonces, Verdict, Verifier};
 use up_helper::{hex_word, sign_run, verify_run};
 use up_lists::Items;
-use up_net::{HelperVerifier, HostClock, Machine, SeedNonces};
+use up_names::parse_user;
+use up_net::{HelperVerifier, HostClock, Machine, SeedNonces, signature};
 
 /// The clocks of a machine: the one that counts from 1970 stands still, or cannot be read, and the other one stands at an hour.
 #[derive(Drop)]
@@ -69,18 +71,81 @@ fn nonces_of_a_seed(rt: HostRuntime) -> Result<(), Fail> {
     Ok(())
 }
 
+/// What a helper answers to one question, and how many of its runs failed.
+fn verdict_of(
+    rt: HostRuntime,
+    helper: &str,
+    key: &[u8],
+) -> io::Result<(Result<Verdict, Failed>, u64)> {
+    let helper = String::from_str(rt.alloc(), helper)?;
+    let mut verifier = HelperVerifier::new(rt.alloc(), Machine::new(rt.alloc(), rt), helper);
+    let verdict = verifier.verdict(key, b"bc", b"");
+    let faults = verifier.faults();
+    drop(verifier);
+    Ok((verdict, faults))
+}
+
+/// The place of the first program, or key, with another verdict than is wanted.
+fn wrong_verdict(rt: HostRuntime, helper: &str) -> io::Result<Option<usize>> {
+    for (place, (program, key, verdict, faults)) in [
+        ("/bin/true", b"a", Ok(Verdict::Yes), 0),
+        ("/bin/false", b"a", Ok(Verdict::No), 0),
+        ("/nobody/has/this", b"a", Err(Failed), 1),
+        (helper, b"a", Ok(Verdict::Yes), 0),
+        (helper, b"b", Ok(Verdict::No), 0),
+        (helper, b"c", Err(Failed), 1),
+    ]
+    .iter()
+    .copied()
+    .enumerate()
+    {
+        if verdict_of(rt, program, key)? != (verdict, faults) {
+            return Ok(Some(place));
+        }
+    }
+    Ok(None)
+}
+
 #[test]
 fn verdicts_of_programs(rt: HostRuntime) -> Result<(), Fail> {
-    for (helper, verdict, faults) in [
-        ("/bin/true", Ok(Verdict::Yes), 0),
-        ("/bin/false", Ok(Verdict::No), 0),
-        ("/nobody/has/this", Err(Failed), 1),
-    ] {
-        let helper = String::from_str(rt.alloc(), helper)?;
-        let mut verifier = HelperVerifier::new(rt.alloc(), Machine::new(rt.alloc(), &rt), helper);
-        assert_eq!(rt; verifier.verdict(b"a", b"bc", b""), verdict);
-        assert_eq!(rt; verifier.faults(), faults);
-    }
+    let folder = Folder::new(rt, "verdicts")?;
+    let helper = folder.file("helper")?;
+    let wrong = wrong_verdict(rt, helper.as_str())?;
+    // Each question ran it once, one that it failed at too.
+    let runs = folder.text(rt, "helper.runs")?;
+    folder.remove(rt)?;
+    assert_eq!(rt; wrong, None);
+    let wanted = "verify 61 6263 -\nverify 62 6263 -\nverify 63 6263 -\n";
+    assert_eq!(rt; runs.as_str(), wanted);
+    Ok(())
+}
+
+/// A letter for what a helper signs for a user: two bytes, something else, or nothing.
+fn signed(rt: HostRuntime, helper: &str, user: &[u8]) -> io::Result<u8> {
+    let Ok(user) = parse_user(rt.alloc(), user) else {
+        return Ok(b'!');
+    };
+    let mut machine = Machine::new(rt.alloc(), rt);
+    Ok(
+        match signature(rt.alloc(), &mut machine, helper, &user, b"hi")? {
+            None => b'-',
+            Some(bytes) if bytes.as_slice() == b"\x0A\xFF".as_slice() => b's',
+            Some(_) => b'?',
+        },
+    )
+}
+
+#[test]
+fn signatures_of_programs(rt: HostRuntime) -> Result<(), Fail> {
+    let folder = Folder::new(rt, "signatures")?;
+    let helper = folder.file("helper")?;
+    let one = signed(rt, helper.as_str(), b"one@a.example")?;
+    let two = signed(rt, helper.as_str(), b"two@a.example")?;
+    let none = signed(rt, helper.as_str(), b"none@a.example")?;
+    let fails = signed(rt, helper.as_str(), b"fails@a.example")?;
+    drop(helper);
+    folder.remove(rt)?;
+    assert_eq!(rt; [one, two, none, fails], *b"s---");
     Ok(())
 }
 

@@ -1,0 +1,117 @@
+//! A server on loopback that says what it is told to, byte by byte, and ends its connections as it is told to.
+use std::alloc::{AllocError, Global};
+use std::io;
+use std::io::{Read, Write};
+use std::net::{TcpListener, TcpStream};
+use std::time::Duration;
+use up_bytes::copy_of;
+use up_net::Waits;
+use up_wire::{Done, Reply, ServerFrame, write_server};
+
+/// How a server ends a connection.
+#[derive(Clone, Copy)]
+pub enum End {
+    /// It closes it.
+    Closes,
+    /// It closes it while bytes of the client lie there unread, and then the system resets it.
+    Resets,
+    /// It waits until the client closes it.
+    Waits,
+}
+
+/// What a server does at one connection: a message for each that comes, by their letters, and then it ends it.
+#[derive(Clone, Copy)]
+pub struct Plan {
+    pub letters: &'static [u8],
+    pub end: End,
+}
+
+/// The reply with this letter.
+fn reply(alloc: Global, letter: u8) -> Result<Reply, AllocError> {
+    Ok(match letter {
+        b't' => Reply::Ok(Done::Text(copy_of(alloc, b"hello")?)),
+        b'b' => Reply::Ok(Done::Bytes(copy_of(alloc, b"hello")?)),
+        b'i' => Reply::Io,
+        _ => Reply::NotExist,
+    })
+}
+
+/// The message with this letter.
+fn message(alloc: Global, letter: u8) -> Result<ServerFrame, AllocError> {
+    match letter {
+        b'c' => Ok(ServerFrame::Challenge([7; 32])),
+        b'w' => Ok(ServerFrame::Welcome),
+        b'x' => Ok(ServerFrame::NotSigned),
+        _ => Ok(ServerFrame::Answer(reply(alloc, letter)?)),
+    }
+}
+
+/// Serves one connection for each plan, in order.
+pub fn serve(alloc: Global, listener: &TcpListener, plans: &[Plan]) -> io::Result<()> {
+    for plan in plans {
+        let (stream, _) = listener.accept()?;
+        let done = keep_to(alloc, &stream, *plan);
+        drop(stream);
+        done?;
+    }
+    Ok(())
+}
+
+fn keep_to(alloc: Global, stream: &TcpStream, plan: Plan) -> io::Result<()> {
+    stream.set_nodelay(true)?;
+    for letter in plan.letters {
+        answer(alloc, stream, *letter)?;
+    }
+    finish(stream, plan.end)
+}
+
+/// Takes a message of the client, and says the one with this letter.
+fn answer(alloc: Global, stream: &TcpStream, letter: u8) -> io::Result<()> {
+    take_message(stream)?;
+    let message = message(alloc, letter)?;
+    let payload = write_server(alloc, &message)?;
+    say(stream, payload.as_slice())
+}
+
+fn finish(stream: &TcpStream, end: End) -> io::Result<()> {
+    let mut byte = [0; 1];
+    match end {
+        End::Closes => {}
+        End::Resets => {
+            stream.peek(&mut byte)?;
+        }
+        End::Waits => {
+            take_message(stream)?;
+            let _ = (&*stream).read(&mut byte);
+        }
+    }
+    Ok(())
+}
+
+/// Takes a message of the client.
+fn take_message(mut stream: &TcpStream) -> io::Result<()> {
+    let mut head = [0; 4];
+    stream.read_exact(&mut head)?;
+    let mut byte = [0; 1];
+    for _ in 0..u32::from_be_bytes(head) {
+        stream.read_exact(&mut byte)?;
+    }
+    Ok(())
+}
+
+/// Says a message, byte by byte.
+pub fn say(mut stream: &TcpStream, payload: &[u8]) -> io::Result<()> {
+    let length = payload.len() as u32;
+    for byte in length.to_be_bytes().iter().chain(payload.iter()) {
+        stream.write_all(&[*byte])?;
+    }
+    Ok(())
+}
+
+/// What is waited for at most: some tenths of a second.
+pub fn waits() -> Waits {
+    Waits {
+        each: Duration::from_millis(200),
+        whole: Duration::from_millis(2_000),
+    }
+}
