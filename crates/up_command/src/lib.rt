@@ -6,7 +6,6 @@
 //! the sink's count rose, and a front of the text was written then.
 #![tactic(auto)]
 
-mod arguments;
 mod input;
 mod output;
 mod saying;
@@ -14,7 +13,6 @@ mod status;
 mod usage_line;
 mod words;
 
-pub use arguments::program_words;
 pub use input::read_script;
 pub use output::{Stop, finish, flush, print};
 pub use saying::{bad_line, say, say_count, say_fault, say_numbered, say_reply};

@@ -1,12 +1,9 @@
 //! A server on loopback that says what it is told to, byte by byte, and ends its connections as it is told to.
-use std::alloc::{AllocError, Global};
 use std::io;
 use std::io::{Read, Write};
 use std::net::{TcpListener, TcpStream};
 use std::time::Duration;
-use up_bytes::copy_of;
 use up_net::Waits;
-use up_wire::{Done, Reply, ServerFrame, write_server};
 
 /// How a server ends a connection.
 #[derive(Clone, Copy)]
@@ -26,51 +23,43 @@ pub struct Plan {
     pub end: End,
 }
 
-/// The reply with this letter.
-fn reply(alloc: Global, letter: u8) -> Result<Reply, AllocError> {
-    Ok(match letter {
-        b't' => Reply::Ok(Done::Text(copy_of(alloc, b"hello")?)),
-        b'b' => Reply::Ok(Done::Bytes(copy_of(alloc, b"hello")?)),
-        b'i' => Reply::Io,
-        _ => Reply::NotExist,
-    })
-}
-
-/// The message with this letter.
-fn message(alloc: Global, letter: u8) -> Result<ServerFrame, AllocError> {
+/// The message with this letter, as the format has it: a Challenge, Welcome, NotSigned, and the replies Ok of a text and of a block, Io and
+/// NotExist.
+fn message(letter: u8) -> &'static [u8] {
     match letter {
-        b'c' => Ok(ServerFrame::Challenge([7; 32])),
-        b'w' => Ok(ServerFrame::Welcome),
-        b'x' => Ok(ServerFrame::NotSigned),
-        _ => Ok(ServerFrame::Answer(reply(alloc, letter)?)),
+        b'c' => b"\x81------- 32 bytes that are signed",
+        b'w' => b"\x82",
+        b'x' => b"\x83",
+        b't' => b"\x00\x06\x05hello",
+        b'b' => b"\x00\x08\x05hello",
+        b'i' => b"\x10",
+        _ => b"\x06",
     }
 }
 
 /// Serves one connection for each plan, in order.
-pub fn serve(alloc: Global, listener: &TcpListener, plans: &[Plan]) -> io::Result<()> {
+pub fn serve(listener: &TcpListener, plans: &[Plan]) -> io::Result<()> {
     for plan in plans {
         let (stream, _) = listener.accept()?;
-        let done = keep_to(alloc, &stream, *plan);
+        let done = keep_to(&stream, *plan);
         drop(stream);
         done?;
     }
     Ok(())
 }
 
-fn keep_to(alloc: Global, stream: &TcpStream, plan: Plan) -> io::Result<()> {
+fn keep_to(stream: &TcpStream, plan: Plan) -> io::Result<()> {
     stream.set_nodelay(true)?;
     for letter in plan.letters {
-        answer(alloc, stream, *letter)?;
+        answer(stream, *letter)?;
     }
     finish(stream, plan.end)
 }
 
 /// Takes a message of the client, and says the one with this letter.
-fn answer(alloc: Global, stream: &TcpStream, letter: u8) -> io::Result<()> {
+fn answer(stream: &TcpStream, letter: u8) -> io::Result<()> {
     take_message(stream)?;
-    let message = message(alloc, letter)?;
-    let payload = write_server(alloc, &message)?;
-    say(stream, payload.as_slice())
+    say(stream, message(letter))
 }
 
 fn finish(stream: &TcpStream, end: End) -> io::Result<()> {
@@ -101,7 +90,7 @@ fn take_message(mut stream: &TcpStream) -> io::Result<()> {
 
 /// Says a message, byte by byte.
 pub fn say(mut stream: &TcpStream, payload: &[u8]) -> io::Result<()> {
-    let length = payload.len() as u32;
+    let length = u32::try_from(payload.len()).unwrap_or(u32::MAX);
     for byte in length.to_be_bytes().iter().chain(payload.iter()) {
         stream.write_all(&[*byte])?;
     }

@@ -74,7 +74,7 @@ fn loaded(
     let peer = peer_of(rt, folder, &listener)?;
     let (served, answers) = join(
         threads,
-        || serve(rt.alloc(), &listener, plans),
+        || serve(&listener, plans),
         || loads(rt.alloc(), peer, group),
     );
     drop(served);
@@ -129,10 +129,19 @@ fn peers_over_connections(rt: HostRuntime) -> Result<(), Fail> {
 
 /// Two requests of a client, of which the first puts a block of so many bytes.
 fn requests(alloc: Global, size: usize) -> io::Result<[Request; 2]> {
-    let block = vec![in alloc; b'x'; size]?;
-    let put = Request::StorePut(Bytes::from_vec(block));
     let path = copy_of(alloc, b"ann@a.example/")?;
-    Ok([put, Request::Lookup(path)])
+    let block = vec![in alloc; b'x'; size]?;
+    Ok([
+        Request::StorePut(Bytes::from_vec(block)),
+        Request::Lookup(path),
+    ])
+}
+
+/// The letter of a reply.
+fn letter_of(reply: Reply) -> u8 {
+    let is_missing = matches!(reply, Reply::NotExist);
+    drop(reply);
+    if is_missing { b'n' } else { b'o' }
 }
 
 /// Two requests of a client: a letter for each answer, and how many failed.
@@ -140,11 +149,7 @@ fn asks(alloc: Global, mut ask: FarAsk, requests: &[Request]) -> ([u8; 2], u64) 
     let mut letters = [b'-'; 2];
     for (letter, request) in letters.iter_mut().zip(requests) {
         *letter = match ask.ask(alloc, request) {
-            Ok(Reply::NotExist) => b'n',
-            Ok(other) => {
-                drop(other);
-                b'o'
-            }
+            Ok(reply) => letter_of(reply),
             Err(_) => b'f',
         };
     }
@@ -163,7 +168,7 @@ fn asked(
     let ask = ask_of(rt, folder, &listener)?;
     let (served, answers) = join(
         threads,
-        || serve(rt.alloc(), &listener, &[plan]),
+        || serve(&listener, &[plan]),
         || asks(rt.alloc(), ask, requests),
     );
     drop(served);
