@@ -94,22 +94,29 @@ fn wrong_peer(
         letters: b"cwt",
         end: End::Closes,
     };
-    for (place, (letters, end, behind, loads, faults)) in [
-        (b"cwtt".as_slice(), End::Closes, 1, b"gg", 0),
-        (b"cw".as_slice(), End::Resets, 2, b"fg", 1),
-        (b"cw".as_slice(), End::Waits, 2, b"fg", 1),
-        (b"cww".as_slice(), End::Closes, 2, b"fg", 1),
-        (b"x".as_slice(), End::Closes, 2, b"fg", 1),
-        (b"cwbt".as_slice(), End::Closes, 1, b"ng", 0),
-        (b"cwit".as_slice(), End::Closes, 1, b"fg", 1),
-        (b"cwnt".as_slice(), End::Closes, 1, b"ng", 0),
+    for (place, (letters, end, again, loads, faults)) in [
+        (b"cwtt".as_slice(), End::Closes, false, b"gg", 0),
+        (b"cw".as_slice(), End::Resets, true, b"fg", 1),
+        (b"cw".as_slice(), End::Waits, true, b"fg", 1),
+        (b"cww".as_slice(), End::Closes, true, b"fg", 1),
+        (b"x".as_slice(), End::Closes, true, b"fg", 1),
+        (b"cwbt".as_slice(), End::Closes, false, b"ng", 0),
+        (b"cwit".as_slice(), End::Closes, false, b"fg", 1),
+        (b"cwnt".as_slice(), End::Closes, false, b"ng", 0),
     ]
     .iter()
     .copied()
     .enumerate()
     {
-        let plans = [Plan { letters, end }, answers];
-        if loaded(rt, threads, folder, group, &plans[..behind])? != (*loads, faults) {
+        let first = Plan { letters, end };
+        let plans = [first, answers];
+        let once = [first];
+        let plans = if again {
+            plans.as_slice()
+        } else {
+            once.as_slice()
+        };
+        if loaded(rt, threads, folder, group, plans)? != (*loads, faults) {
             return Ok(Some(place));
         }
     }
