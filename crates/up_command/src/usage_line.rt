@@ -20,6 +20,7 @@ pub fn usage<K: Sink>(sink: &mut K) -> Status
     ensures part { WritesPart (K.held sink.old) (K.held sink.new) usage_line }
     ensures cause { code_of result ≡ 3 → Rose (K.faults sink.old) (K.faults sink.new) }
     ensures later { K.faults sink.old ≤ K.faults sink.new }
+    ensures quiet { code_of result ≡ 64 → K.faults sink.new ≡ K.faults sink.old }
 {
     match write_all(sink, USAGE.as_bytes()) {
         Ok(()) => Status::Usage,

@@ -1,0 +1,5 @@
+pub mod CutLemmas
+pub mod SessionLemmas
+pub mod InputLemmas
+pub mod EndLemmas
+pub mod LineLemmas
