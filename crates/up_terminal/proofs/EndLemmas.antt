@@ -143,6 +143,7 @@ long_first rest more some = by (cases_eq (length (before_first is_line_end rest)
       where
         at_most : (tail : Text) → length (before_first is_line_end rest) ≤ length (rest ++ tail)
         at_most tail = let same = ap length (before_none rest none) in let long = length-append rest tail in omega (arith, same, long)
+
         on : (length (before_first is_line_end more) ≡ length more) ⊎ (length (before_first is_line_end more) ≢ length more)
             → (line : Text) × ((lines : List Text) × ((script_lines (rest ++ more) ≡ line ∷ lines) × (length (before_first is_line_end rest) ≤ length line)))
         on (inl same) =
@@ -152,6 +153,7 @@ long_first rest more some = by (cases_eq (length (before_first is_line_end rest)
             let next = after_first is_line_end more in
             let cut : rest ++ more ≡ (rest ++ first) ++ 10 ∷ next = ap (λ xs. rest ++ xs) (cut_at more other) ∙ sym (append_assoc rest first (10 ∷ next)) in
             (rest ++ first, (script_lines next, (ap script_lines cut ∙ lines_cons (rest ++ first) next (unbroken_append rest first none (before_is_unbroken more)), at_most first)))
+
     by : (length (before_first is_line_end rest) ≡ length rest) ⊎ (length (before_first is_line_end rest) ≢ length rest)
         → (line : Text) × ((lines : List Text) × ((script_lines (rest ++ more) ≡ line ∷ lines) × (length (before_first is_line_end rest) ≤ length line)))
     by (inl same) = whole (no_cut rest same)
@@ -198,6 +200,7 @@ module _ {S : Type 0} (answers : S → Request → Option Reply → S → Type 0
     where
       ran : Ran answers user old now a (cut_text means.over means.read) (length means.read) means.over status b
       ran = means.ran
+
       by : (status ≡ 4) ⊎ (status ≢ 4) → IsOneOf (0 ∷ 4 ∷ []) status
       by (inl four) = subst (IsOneOf (0 ∷ 4 ∷ [])) (sym four) refl
       by (inr other) =

@@ -30,12 +30,14 @@ printed-more dids did = flat_map-append said dids (did ∷ []) ∙ ap (λ xs. pr
 
 -- a text was written, and of the next one a part
 part-after : (old mid now : Option Text) (all text : Text) → Appends old mid all → WritesPart mid now text → WritesPart old now (all ++ text)
-part-after old mid now all text before part =
-    (part.0, record {
-      front = all ++ part.1.front;
-      written = Appends-trans old mid now all part.1.front before part.1.written;
-      whole = append_assoc all part.1.front part.0 ∙ ap (λ xs. all ++ xs) part.1.whole;
-    })
+part-after old mid now all text before part = (
+  part.0,
+  record {
+    front = all ++ part.1.front;
+    written = Appends-trans old mid now all part.1.front before part.1.written;
+    whole = append_assoc all part.1.front part.0 ∙ ap (λ xs. all ++ xs) part.1.whole;
+  },
+)
 
 -- an LF behind a line stands before what follows it
 cut-more : (done : List Text) (line more text : Text) → lines_text done ++ (line ++ 10 ∷ more) ≡ text → lines_text (done ++ line ∷ []) ++ more ≡ text
@@ -182,6 +184,7 @@ module _ {S : Type 0} (answers : S → Request → Option Reply → S → Type 0
     where
       good : IsLine line
       good = record { unbroken = none; short = short (λ is. cc) }
+
       by : (LineCame answers user b line (Err stops.OutOfMemory) c ⊎ ((did : Did) × LineCame answers user b line (Ok did) c)) → Ran answers user old mid a text bytes over 4 c
       by (inl came) = Ran-stop old mid a b c text line more number bytes 4 over stops.OutOfMemory h good came (λ uncut. uncut_is_absurd 4 refl uncut)
       by (inr did) = Ran-unwritten old mid mid a b c text line more number bytes 4 over did.0 h good did.1 refl (WritesPart-none mid (said did.0))

@@ -63,11 +63,7 @@ fn request_made<A: Ask>(
 }
 
 // What came of a request.
-fn say_given(
-    alloc: Global,
-    out: &mut Vec<u8>,
-    given: Result<Reply, Failed>,
-) -> Result<(), LineStop>
+fn say_given(alloc: Global, out: &mut Vec<u8>, given: Result<Reply, Failed>) -> Result<(), LineStop>
     ensures said { Turned (λ came. came ≡ replied (result_ok given))
         out.old.items result out.new.items }
     ensures failed { IsErrOf result LineStop.AskFault ↔ IsErr given }

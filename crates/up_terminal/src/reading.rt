@@ -97,7 +97,15 @@ impl Reader {
         ensures sink_quiet { StaysUnless (K.faults sink.old) (K.faults sink.new)
             (IsErrOf result Stop.WriteFault) }
     {
-        match run_line(alloc, user, &self.line, self.number, ask, sink, &mut self.out) {
+        match run_line(
+            alloc,
+            user,
+            &self.line,
+            self.number,
+            ask,
+            sink,
+            &mut self.out,
+        ) {
             Ok(()) => {
                 self.line.clear();
                 self.number += 1;
