@@ -17,5 +17,6 @@ mod stop;
 mod terminal_line;
 
 pub use client::{client_run, client_user};
+pub use reading::LineReader;
 pub use stop::{LineStop, Stop};
 pub use terminal_line::TerminalLine;

@@ -25,15 +25,18 @@ const LINE_LIMIT: usize = 67_108_864;
 const MOST_READS: u64 = 1_099_511_627_776;
 
 /// The line that is read, as far as it was, and its number, from 1.
+///
+/// It is fed the pieces of an input, and runs each line as soon as it is whole: once [`LineReader::take`] has returned, all that the lines
+/// so far print is written, and no line waits. So nothing is left to be written when the next piece is read.
 #[derive(Drop)]
-struct Reader {
+pub struct LineReader {
     line: Vec<u8>,
     number: u64,
     // What a line prints; its memory is used again for the next one.
     out: Vec<u8>,
 }
 
-impl Model for Reader {
+impl Model for LineReader {
     ghost use Rattle.up_terminal.specs.Sessions.{Reading};
 
     ghost Value = { Reading };
@@ -44,12 +47,12 @@ impl Model for Reader {
     } };
 }
 
-impl Reader {
-    // Nothing was read yet.
-    fn new(alloc: Global) -> Reader
+impl LineReader {
+    /// Nothing was read yet.
+    pub fn new(alloc: Global) -> LineReader
         ensures { result ≡ record { line = []; number = 1 } }
     {
-        Reader {
+        LineReader {
             line: Vec::new(alloc),
             number: 1,
             out: Vec::new(alloc),
@@ -147,8 +150,10 @@ impl Reader {
         }
     }
 
-    // Runs all lines that the bytes end, and begins the next one with the rest.
-    fn take<A: Ask, K: Sink>(
+    /// Runs all lines that the bytes end, writes what each prints before the next one is begun, and begins the next one with the rest.
+    ///
+    /// After an `Err` the session has ended, and what was written is as its status says.
+    pub fn take<A: Ask, K: Sink>(
         &mut self,
         alloc: Global,
         user: &User,
@@ -183,8 +188,8 @@ impl Reader {
         self.add(rest)
     }
 
-    // The input has ended: bytes that no LF ends are a line.
-    fn close<A: Ask, K: Sink>(
+    /// The input has ended: bytes that no LF ends are a line, which is run.
+    pub fn close<A: Ask, K: Sink>(
         &mut self,
         alloc: Global,
         user: &User,
@@ -247,7 +252,7 @@ pub(crate) fn run_input<S: Source, A: Ask, K: Sink>(
 {
     let mut buffer = room_for(alloc, PIECE_SIZE)?;
     let room = buffer.as_mut_slice();
-    let mut reader = Reader::new(alloc);
+    let mut reader = LineReader::new(alloc);
     let mut reads: u64 = 0;
     while reads < MOST_READS {
         let Ok(count) = source.read(room) else {

@@ -4,7 +4,7 @@ use Rattle.up_terminal.specs.Lines.{IsLine}
 use Rattle.up_terminal.specs.Sessions.{Goes, Reading}
 use Rattle.up_terminal.proofs.CutLemmas.{unbroken_append}
 use Rattle.up_terminal.proofs.SessionLemmas.{line_goes, line_stops, rest_goes}
-use Rattle.up_terminal.proofs.reading.Reader.take.Goals as goal
+use Rattle.up_terminal.proofs.reading.LineReader.take.Goals as goal
 
 pub loop-end-init : goal.loop-end-init
 loop-end-init g c = record {

@@ -2,7 +2,7 @@
 use Rattle.std.proofs.Common.{◌≡◌, ◌≤◌, ◌+◌, ◌++◌, length, Ok}
 use Rattle.up_terminal.specs.Lines.{IsLine}
 use Rattle.up_terminal.specs.Sessions.{Goes}
-use Rattle.up_terminal.proofs.reading.Reader.take.Given as goal
+use Rattle.up_terminal.proofs.reading.LineReader.take.Given as goal
 
 abbrev pub invariant-loop-end : goal.invariant-loop-end
 invariant-loop-end g l = record {
