@@ -9,6 +9,35 @@ use up_lists::Items;
 use up_terminal::client_run;
 use up_wire::{Reply, Request};
 
+/// How many calls of a kind fail in turn at the most.
+const MOST_CALLS: u64 = 10_000;
+
+/// The numbers of the calls that fail, from 0.
+#[derive(Drop)]
+struct Calls {
+    reads: Items<u64>,
+    asks: Items<u64>,
+    writes: Items<u64>,
+}
+
+impl Calls {
+    // One call of this kind.
+    fn one(alloc: Global, kind: &str, call: u64) -> Result<Calls, AllocError> {
+        let mut calls = Calls {
+            reads: Items::new(alloc),
+            asks: Items::new(alloc),
+            writes: Items::new(alloc),
+        };
+        let kept = match kind {
+            "reads" => &mut calls.reads,
+            "asks" => &mut calls.asks,
+            _ => &mut calls.writes,
+        };
+        kept.push(call)?;
+        Ok(calls)
+    }
+}
+
 /// What a session stands among: the words of the command, the rows of the table as lines, and the input.
 #[derive(Drop)]
 pub struct TerminalLines {
@@ -55,22 +84,54 @@ impl TerminalLines {
     ) -> Result<(), Fault> {
         let (piece, reads, asks) = words.next_three()?;
         let writes = words.one()?;
-        let mut source = self.source(alloc, number_of(piece)?, reads)?;
-        let mut table = TableAsk::new(self.table_rows(alloc)?, calls_of(alloc, asks)?);
-        let mut sink = MemSink::new(alloc, calls_of(alloc, writes)?);
-        let status = client_run(alloc, &self.words, &mut source, &mut sink, &mut table);
+        let calls = Calls {
+            reads: calls_of(alloc, reads)?,
+            asks: calls_of(alloc, asks)?,
+            writes: calls_of(alloc, writes)?,
+        };
+        let (status, printed) = self.outcome(alloc, number_of(piece)?, calls)?;
         answer.number(u64::from(status));
-        answer.coded(sink.bytes());
+        answer.coded(printed.as_slice());
         Ok(())
     }
 
+    // `reads PIECE`, `asks PIECE` and `writes PIECE`: one run after the other, in each of which one further call of that kind fails, the
+    // first one at first, up to a run that ends with 0. Of each the status, and how many bytes were printed.
+    fn each_line(
+        &self,
+        alloc: Global,
+        kind: &str,
+        piece: u64,
+        answer: &mut Answer,
+    ) -> Result<(), Fault> {
+        for call in 0..MOST_CALLS {
+            let calls = Calls::one(alloc, kind, call)?;
+            let (status, printed) = self.outcome(alloc, piece, calls)?;
+            answer.number(u64::from(status));
+            answer.number(printed.len() as u64);
+            if status == 0 {
+                return Ok(());
+            }
+        }
+        Err(Fault::BadLine)
+    }
+
+    // The status of a run, and what was printed.
+    fn outcome(&self, alloc: Global, piece: u64, calls: Calls) -> Result<(u8, Vec<u8>), Fault> {
+        let Calls { reads, asks, writes } = calls;
+        let mut source = self.source(alloc, piece, reads)?;
+        let mut table = TableAsk::new(self.table_rows(alloc)?, asks);
+        let mut sink = MemSink::new(alloc, writes);
+        let status = client_run(alloc, &self.words, &mut source, &mut sink, &mut table);
+        Ok((status, sink.bytes().to_vec(alloc)?))
+    }
+
     // The source of the input.
-    fn source(&self, alloc: Global, piece: u64, fails: &str) -> Result<MemSource, Fault> {
+    fn source(&self, alloc: Global, piece: u64, fails: Items<u64>) -> Result<MemSource, Fault> {
         let mut pieces = Items::new(alloc);
         for _ in 0..self.input.len() {
             pieces.push(piece)?;
         }
-        let fails = calls_of(alloc, fails)?;
         Ok(MemSource::new(self.input.to_vec(alloc)?, pieces, fails))
     }
 
@@ -93,6 +154,9 @@ impl Topic for TerminalLines {
             "line" => self.add_input(alloc, rest, b"\n"),
             "tail" => self.add_input(alloc, rest, b""),
             "run" => self.run_line(alloc, Words::new(rest), answer),
+            "reads" | "asks" | "writes" => {
+                self.each_line(alloc, keyword, number_of(rest)?, answer)
+            }
             _ => Err(Fault::BadLine),
         }
     }
