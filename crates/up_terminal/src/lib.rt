@@ -5,7 +5,10 @@
 //! lines did (`meaning`). What a line says is `line_of`, and what comes of it `LineCame`; `Ran` goes over the lines, and says how the run
 //! ends. Each status has its cause: a count of faults rose exactly where the status is 2 of the source, 3 of the sink, or 11 of whoever
 //! was asked (`source_cause`, `source_quiet` and their like). Good lines and no fault end with 0, or for want of memory with 4
-//! (`complete`). What a line prints is written before the next line is asked, and before anything more is read.
+//! (`complete`).
+//!
+//! The input is read piece by piece. Between two reads stands one [`LineReader::take`], after which all that the lines so far print is
+//! written, and no line that is whole waits (`goes`): so what a line prints is written before anything more is read.
 #![tactic(auto)]
 
 mod answering;
