@@ -13,6 +13,7 @@ use Rattle.up_names.specs.Texts.{Text, UserName}
 use Rattle.up_text.specs.Lines.{is_line_end, script_lines, without_empty_last}
 use Rattle.up_wire.specs.declared.replies.Reply.{Reply}
 use Rattle.up_wire.specs.declared.requests.Request.{Request}
+use Rattle.up_terminal.proofs.InputLemmas.{Means-none}
 use Rattle.up_terminal.proofs.CutLemmas.{IsUnbroken, before_is_unbroken, before_none, cut_at, length-before, lines_cons, lines_front, lines_last, lines_none, no_cut, unbroken_append}
 use Rattle.up_terminal.specs.Lines.{IsGoodLine, IsLine, cut_text, line_of, lines_text}
 use Rattle.up_terminal.specs.Runs.{Ends, Means, Ran, is_cut, read_limit}
@@ -62,6 +63,24 @@ cause_by before now result why status same cause = HasCause-weaker before now (I
 
 pub quiet_by : (before now : ℕ) (result : Result (Unit {0}) Stop) (why : Stop) (status : ℕ) → status ≡ code_by result → StaysUnless before now (IsErrOf result why) → StaysUnless before now (status ≡ stopped_code why)
 quiet_by before now result why status same quiet = record { stays = λ other. quiet.stays (λ is. other (same ∙ ap code_by is)) }
+
+-- no session ends with the status of words that fit no command
+pub never_usage : (result : Result (Unit {0}) Stop) (status : ℕ) → status ≡ code_by result → status ≡ 64 → ⊥
+never_usage (Ok done) status same is = let e = sym same ∙ is in omega (arith, e)
+never_usage (Err stop.BadLine) status same is = let e = sym same ∙ is in omega (arith, e)
+never_usage (Err stop.ReadFault) status same is = let e = sym same ∙ is in omega (arith, e)
+never_usage (Err stop.WriteFault) status same is = let e = sym same ∙ is in omega (arith, e)
+never_usage (Err stop.OutOfMemory) status same is = let e = sym same ∙ is in omega (arith, e)
+never_usage (Err stop.TooLong) status same is = let e = sym same ∙ is in omega (arith, e)
+never_usage (Err stop.AskFault) status same is = let e = sym same ∙ is in omega (arith, e)
+
+-- what holds of the user of words that name one
+pub of_user : (found : Option UserName) (user : UserName) (P : UserName → Type 0) → found ≡ Some user → P user → IfSome found P
+of_user found user P is holds = subst (λ (one : Option UserName). IfSome one P) (sym is) holds
+
+-- and of words that name none
+pub of_none : (found : Option UserName) (P : UserName → Type 0) → found ≡ None → IfSome found P
+of_none found P is = subst (λ (one : Option UserName). IfSome one P) (sym is) tt
 
 -- where a session ends with 0, no byte is left
 module _ {S : Type 0} (answers : S → Request → Option Reply → S → Type 0) (user : UserName) where
@@ -214,3 +233,16 @@ module _ {S : Type 0} (answers : S → Request → Option Reply → S → Type 0
   completes None left_now given given_now old now a b status means two three eleven = tt
   completes (Some text) None given given_now old now a b status means two three eleven = absurd means.consumed
   completes (Some text) (Some more) given given_now old now a b status means two three eleven = well_told text more given given_now old now a b status means two three eleven
+
+  -- the same by the counts of faults, none of which rose
+  pub completes_faultless : (left left_now : Option Text) (given given_now : ℕ) (old now : Option Text) (a b : S) (status sources sources_now sinks sinks_now asks asks_now : ℕ) → Means answers user left left_now given given_now old now a status b
+      → HasCause sources sources_now (status ≡ 2) → HasCause sinks sinks_now (status ≡ 3) → HasCause asks asks_now (status ≡ 11)
+      → IfSome left (λ text. AllByRecursion (IsGoodLine user) (script_lines text) → length text < read_limit → (Rose sources sources_now → ⊥) → (Rose sinks sinks_now → ⊥) → (Rose asks asks_now → ⊥) → IsOneOf (0 ∷ 4 ∷ []) status)
+  completes_faultless None left_now given given_now old now a b status sources sources_now sinks sinks_now asks asks_now means source sink ask = tt
+  completes_faultless (Some text) left_now given given_now old now a b status sources sources_now sinks sinks_now asks asks_now means source sink ask = λ good few no_source no_sink no_ask.
+      completes (Some text) left_now given given_now old now a b status means (λ is. no_source (source.rose is)) (λ is. no_sink (sink.rose is)) (λ is. no_ask (ask.rose is)) good few
+
+-- where there was no memory to read the words
+pub none_meant : {S : Type 0} (answers : S → Request → Option Reply → S → Type 0) (found : Option UserName) (left : Option Text) (given : ℕ) (held : Option Text) (a : S) (status : ℕ) → status ≡ 4 → IfSome found (λ user. Means answers user left left given given held held a status a)
+none_meant answers None left given held a status is = tt
+none_meant answers (Some user) left given held a status is = Means-none answers user left given held a status is

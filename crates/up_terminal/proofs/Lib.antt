@@ -3,3 +3,4 @@ pub mod SessionLemmas
 pub mod InputLemmas
 pub mod EndLemmas
 pub mod LineLemmas
+pub mod AnswerLemmas

@@ -59,13 +59,14 @@ got_said (Err client.OutOfMemory) = Err stop.OutOfMemory
 got_said result = Ok (Did.Got result)
 
 -- who is asked answers by a relation: a request with its reply, or with none, leads from one state to another
-module _ {S : Type 0} (answers : S → Request → Option Reply → S → Type 0) (user : UserName) where
+module _ {S : Type 0} (answers : S → Request → Option Reply → S → Type 0) where
   -- a request is asked
   pub record AskCame (request : Request) (a : S) (came : Came) (b : S) : Type 0 where
     pub given : Option Reply
     pub answered : answers a request given b
     pub came_is : came ≡ replied given
 
+module _ {S : Type 0} (answers : S → Request → Option Reply → S → Type 0) (user : UserName) where
   -- what the client does: nothing where the path does not parse; else it holds its conversation
   pub data CallCame (a : S) : ClientLine → Came → S → Type 0 where
     bad_path : {call : ClientLine} → call_path call ≡ None → CallCame a call (Ok Did.BadPath) a
@@ -78,7 +79,7 @@ module _ {S : Type 0} (answers : S → Request → Option Reply → S → Type 0
   -- what came of what a line says
   abbrev pub SaysCame : S → TerminalLine → Came → S → Type 0
   SaysCame a lines.Silent came b = (came ≡ Ok Did.Nothing) × (b ≡ a)
-  SaysCame a (lines.Request request) came b = AskCame request a came b
+  SaysCame a (lines.Request request) came b = AskCame answers request a came b
   SaysCame a (lines.Client call) came b = CallCame a call came b
 
   -- What came of a line that is not malformed: it says something, of which this came; or there was no memory to read it.

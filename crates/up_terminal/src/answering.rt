@@ -2,6 +2,7 @@
 ghost use Rattle.std.specs.Prelude.{◌≡◌, ◌≢◌, ◌↔◌, ◌++◌, IsErr, IsErrOf, OnOk, Some, codes};
 ghost use Rattle.std.specs.Result.{result_ok};
 ghost use Rattle.up_client.specs.Talks.{Held};
+ghost use Rattle.up_command.specs.Printed.{ended};
 ghost use Rattle.up_command.specs.Words.{call_path};
 ghost use Rattle.up_lists.specs.Counts.{HasCause, StaysUnless};
 ghost use Rattle.up_terminal.specs.Answers.{AskCame, CallCame, SaysCame, Turned, got_said, put_said, replied};
@@ -15,7 +16,7 @@ use crate::terminal_line::TerminalLine;
 use std::alloc::{AllocError, Global};
 use up_bytes::Bytes;
 use up_client::{Ask, ClientFault, Failed, get, put};
-use up_command::{call_path, say};
+use up_command::call_path;
 use up_names::{Path, User};
 use up_text::{ClientLine, fault_lines, reply_lines};
 use up_wire::{Done, Reply, Request};
@@ -69,14 +70,25 @@ fn say_given(alloc: Global, out: &mut Vec<u8>, given: Result<Reply, Failed>) -> 
     ensures failed { IsErrOf result LineStop.AskFault ↔ IsErr given }
 {
     match given {
-        Ok(Reply::OutOfMemory) => Err(LineStop::OutOfMemory),
         Ok(reply) => {
-            let said = say_reply(alloc, out, &reply);
+            let said = say_replied(alloc, out, &reply);
             drop(reply);
-            Ok(said?)
+            said
         }
         Err(Failed) => Err(LineStop::AskFault),
     }
+}
+
+// What is said of a reply.
+fn say_replied(alloc: Global, out: &mut Vec<u8>, reply: &Reply) -> Result<(), LineStop>
+    ensures said { Turned (λ came. came ≡ replied (Some reply.now))
+        out.old.items result out.new.items }
+    ensures answered { IsErrOf result LineStop.AskFault → ⊥ }
+{
+    if let Reply::OutOfMemory = reply {
+        return Err(LineStop::OutOfMemory);
+    }
+    Ok(say_reply(alloc, out, reply)?)
 }
 
 // What the client does.
@@ -97,7 +109,7 @@ fn call_made<A: Ask>(
 {
     match call_path(alloc, call)? {
         Some(path) => call_at(alloc, user, call, &path, ask, out),
-        None => Ok(say(out, b"invalid name", b"")?),
+        None => Ok(say_line(out, b"invalid name")?),
     }
 }
 
@@ -213,7 +225,16 @@ fn say_lines(out: &mut Vec<u8>, lines: &[Bytes]) -> Result<(), AllocError>
     ensures { OnOk result (out.new.items ≡ out.old.items ++ lines_text lines.now) }
 {
     for line in lines {
-        say(out, line.as_slice(), b"")?;
+        say_line(out, line.as_slice())?;
     }
+    Ok(())
+}
+
+// A line, with its LF.
+fn say_line(out: &mut Vec<u8>, line: &[u8]) -> Result<(), AllocError>
+    ensures { OnOk result (out.new.items ≡ out.old.items ++ ended line.now) }
+{
+    out.extend_from_slice(line)?;
+    out.push(b'\n')?;
     Ok(())
 }
