@@ -66,7 +66,7 @@ put_wanting why fails = inr (Did.Put (Err why), refl)
 pub put_failed : (why : ClientFault) (outcome : Result ℕ ClientFault) (old new : Text) (result : Result (Unit {0}) LineStop) → outcome ≡ Err why → OnOk result ((why ≢ client.OutOfMemory) × (why ≢ client.Failed) × (new ≡ old ++ lines_text (fault_lines why)))
     → (IsErrOf result stop.AskFault ↔ (why ≡ client.Failed)) → (IsErrOf result stop.AskFault → new ≡ old) → Turned (λ came. came ≡ put_said outcome) old result new
 put_failed why outcome old new (Ok done) is text failed kept =
-    subst (λ (r : Result ℕ ClientFault). Turned (λ came. came ≡ put_said r) old (Ok done) new) (sym is) (Did.Put (Err why), (sym (put_other why text.0 text.1.0), text.1.1))
+    subst (λ (r : Result ℕ ClientFault). Turned (λ came. came ≡ put_said r) old (Ok done) new) (sym is) (Did.Put (Err why), (sym (put_other why text.0 text.1), text.2))
 put_failed why outcome old new (Err stop.OutOfMemory) is text failed kept =
     subst (λ (r : Result ℕ ClientFault). Turned (λ came. came ≡ put_said r) old (Err stop.OutOfMemory) new) (sym is) (put_wanting why (λ fails. another (failed.1 fails)))
 put_failed why outcome old new (Err stop.AskFault) is text failed kept =
@@ -86,7 +86,7 @@ got_wanting why fails = inr (Did.Got (Err why), refl)
 pub got_failed : (why : ClientFault) (outcome : Result (List ℕ) ClientFault) (old new : Text) (result : Result (Unit {0}) LineStop) → outcome ≡ Err why → OnOk result ((why ≢ client.OutOfMemory) × (why ≢ client.Failed) × (new ≡ old ++ lines_text (fault_lines why)))
     → (IsErrOf result stop.AskFault ↔ (why ≡ client.Failed)) → (IsErrOf result stop.AskFault → new ≡ old) → Turned (λ came. came ≡ got_said outcome) old result new
 got_failed why outcome old new (Ok done) is text failed kept =
-    subst (λ (r : Result (List ℕ) ClientFault). Turned (λ came. came ≡ got_said r) old (Ok done) new) (sym is) (Did.Got (Err why), (sym (got_other why text.0 text.1.0), text.1.1))
+    subst (λ (r : Result (List ℕ) ClientFault). Turned (λ came. came ≡ got_said r) old (Ok done) new) (sym is) (Did.Got (Err why), (sym (got_other why text.0 text.1), text.2))
 got_failed why outcome old new (Err stop.OutOfMemory) is text failed kept =
     subst (λ (r : Result (List ℕ) ClientFault). Turned (λ came. came ≡ got_said r) old (Err stop.OutOfMemory) new) (sym is) (got_wanting why (λ fails. another (failed.1 fails)))
 got_failed why outcome old new (Err stop.AskFault) is text failed kept =

@@ -39,4 +39,4 @@ returns-in-Err-clause-meaning g c = none_meant g.A.Ask.answers _ (g.S.Source.lef
 
 pub returns-in-Err-clause-usage : goal.returns-in-Err-clause-usage
 returns-in-Err-clause-usage g c = λ none.
-    (subst (IsOneOf (3 ∷ 4 ∷ 64 ∷ [])) (sym c.code-in-Err.ensures) refl, (refl, (refl, WritesPart-none (g.K.Sink.held c.args.sink.now) usage_line)))
+    (subst (IsOneOf (3 ∷ 4 ∷ 64 ∷ [])) (sym c.code-in-Err.ensures) refl, refl, refl, WritesPart-none (g.K.Sink.held c.args.sink.now) usage_line)

@@ -53,7 +53,7 @@ loop-reads-preserved g c =
     let given_mid = g.S.Source.given loop.source in
     let piece = take c.in-Ok.count c.read.new.buf in
     let size : length c.read.new.buf ≡ 65536 = let same = c.read.auto.buf in let room = loop.invariant.room in omega (arith, same, room) in
-    let bound = c.in-Ok.ensures.bound in
+    let bound = c.in-Ok.ensures.bound.0 in
     let other : c.in-Ok.count ≢ 0 = c.if-count-eq0.false in
     let long : length piece ≡ c.in-Ok.count = length-take-le c.in-Ok.count c.read.new.buf bound in
     record {
@@ -75,7 +75,7 @@ returns-in-Err-clause-means g c =
     let after = c.take.new in
     let given_mid = g.S.Source.given loop.source in
     let piece = take c.in-Ok.count c.read.new.buf in
-    let bound = c.in-Ok.ensures.bound in
+    let bound = c.in-Ok.ensures.bound.0 in
     let long : length piece ≡ c.in-Ok.count = length-take-le c.in-Ok.count c.read.new.buf bound in
     Means-stop g.A.Ask.answers c.args.user.now (g.S.Source.left c.args.source.now) (g.S.Source.left loop.source) (g.S.Source.left c.read.new.self) (g.S.Source.given c.args.source.now) given_mid (g.S.Source.given c.read.new.self)
     (g.K.Sink.held c.args.sink.now) (g.K.Sink.held loop.sink) (g.K.Sink.held after.sink) c.args.ask.now loop.ask after.ask loop.reader.line piece after.self.line loop.reader.number after.self.number loop.reads c.in-Err.why
