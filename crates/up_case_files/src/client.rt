@@ -63,6 +63,20 @@ impl Topic for ClientLines {
     }
 }
 
+/// Adds what a line `row HEX HEX` or `kept N` says to the rows of a table.
+pub(crate) fn add_row_line(
+    alloc: Global,
+    rows: &mut Items<(Request, Reply)>,
+    line: &str,
+) -> Result<(), Fault> {
+    let mut words = Words::new(line);
+    match words.word()? {
+        "row" => row_line(alloc, rows, words),
+        "kept" => kept_line(alloc, rows, words),
+        _ => Err(Fault::BadLine),
+    }
+}
+
 // Numbers joined by commas, `-` for none.
 fn numbers_of(alloc: Global, word: &str) -> Result<Items<u64>, Fault> {
     let mut numbers = Items::new(alloc);

@@ -4,5 +4,7 @@
 #![tactic(auto)]
 
 mod client;
+mod terminal;
 
 pub use client::ClientLines;
+pub use terminal::TerminalLines;

@@ -3,7 +3,7 @@ use std::hash::RandomState;
 use std::random::RandomSource;
 use std::rt::Files;
 use std::{fs, io};
-use up_case_files::ClientLines;
+use up_case_files::{ClientLines, TerminalLines};
 use up_case_hosts::Hosts;
 use up_case_lines::{File, Tally, run_lines};
 use up_case_logs::{Crashes, Fields, Logs, Moves, Records};
@@ -66,6 +66,7 @@ fn run_topic<R: RandomSource + AllocGlobal + Print>(
 ) -> io::Result<()> {
     match topic_of(file.name) {
         "client" => run_lines(rt, file, ClientLines::new(), tally),
+        "terminal" => run_lines(rt, file, TerminalLines::new(rt.alloc()), tally),
         "names" => run_lines(rt, file, Names, tally),
         "texts" => run_lines(rt, file, Texts, tally),
         "tree" => run_lines(rt, file, Trees, tally),

@@ -3,8 +3,11 @@ use Rattle.std.specs.Prelude.{Bool, ◌&&◌, nat_le, if◌then◌else◌, lengt
 use Rattle.std.specs.Option.{option_and_then}
 use Rattle.std.specs.Result.{result_ok}
 use Rattle.up_names.specs.Texts.{Text, UserName}
+use Rattle.up_names.specs.PathNames.{PathName, path_of}
 use Rattle.up_names.specs.UserNames.{user_of}
 use Rattle.up_text.specs.Words.{decoded}
+use Rattle.up_text.specs.declared.requests.ClientLine.{ClientLine}
+use Rattle.up_text.specs.declared.requests.ClientLine.TheVariants as calls
 
 -- the next step, where there was a first one
 infixl 10 ◌>>=◌
@@ -25,3 +28,8 @@ unfoldable pub key_named : Text → Option Text
 key_named word = do
   key ← decoded word
   if is_key key then Some key else None
+
+-- the path that a put or get of the client names
+abbrev pub call_path : ClientLine → Option PathName
+call_path (calls.Put name time sequence bytes) = result_ok (path_of name)
+call_path (calls.Get name) = result_ok (path_of name)

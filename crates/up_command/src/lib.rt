@@ -18,4 +18,4 @@ pub use output::{Stop, finish, flush, print};
 pub use saying::{bad_line, say, say_count, say_fault, say_numbered, say_reply};
 pub use status::Status;
 pub use usage_line::usage;
-pub use words::{is, key_named, user_named};
+pub use words::{call_path, is, key_named, user_named, words_of};

@@ -1,7 +1,7 @@
 //! The usage line.
 ghost use Rattle.std.specs.Prelude.{◌≡◌, ◌≤◌, ◌∷◌, []};
 ghost use Rattle.std.specs.Io.KnownBytes.{Appends};
-ghost use Rattle.up_lists.specs.Counts.{Rose};
+ghost use Rattle.up_lists.specs.Counts.{HasCause, Rose, StaysUnless};
 ghost use Rattle.up_ends.specs.Writing.{WritesPart};
 ghost use Rattle.up_command.specs.Statuses.{IsOneOf, code_of, usage_line};
 
@@ -20,6 +20,8 @@ pub fn usage<K: Sink>(sink: &mut K) -> Status
     ensures part { WritesPart (K.held sink.old) (K.held sink.new) usage_line }
     ensures cause { code_of result ≡ 3 → Rose (K.faults sink.old) (K.faults sink.new) }
     ensures later { K.faults sink.old ≤ K.faults sink.new }
+    ensures counts { HasCause (K.faults sink.old) (K.faults sink.new) (code_of result ≡ 3) }
+    ensures quiet { StaysUnless (K.faults sink.old) (K.faults sink.new) (code_of result ≡ 3) }
 {
     match write_all(sink, USAGE.as_bytes()) {
         Ok(()) => Status::Usage,

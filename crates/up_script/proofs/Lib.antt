@@ -1,5 +1,4 @@
 pub mod UserListLemmas
-pub mod WordLemmas
 pub mod OwnerLemmas
 pub mod LineLemmas
 pub mod FactLemmas

@@ -42,7 +42,8 @@ use Rattle.up_script.proofs.OwnerLemmas.{owners_few}
 use Rattle.up_script.specs.ScriptLines.{are_owners, line_of}
 use Rattle.up_script.specs.ScriptRuns.{Turned}
 use Rattle.up_command.specs.Printed.{all_numbered}
-use Rattle.up_script.specs.Scripts.{AskCame, CallCame, CallDone, Came, Did, EnrolCame, HostCame, OpenCame, call_path, got_said, is_new, place_of, put_said, replied, said}
+use Rattle.up_command.specs.Words.{call_path}
+use Rattle.up_script.specs.Scripts.{AskCame, CallCame, CallDone, Came, Did, EnrolCame, HostCame, OpenCame, got_said, is_new, place_of, put_said, replied, said}
 use Rattle.up_script.specs.Standing.{IsAskable}
 use Rattle.up_script.specs.Turns.{IsGood, enrol_said, host_said, sign_said}
 use Rattle.up_script.specs.declared.script_lines.NewHost.{NewHost}

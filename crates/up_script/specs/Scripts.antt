@@ -1,7 +1,6 @@
 -- What each line of a script does where the script stands, and what it prints. This project's own.
 use Rattle.std.specs.Prelude.{◌≡◌, ℕ, ℤ, Bool, true, false, not, nat_lt, ◌&&◌, List, [], ◌++◌, length, position, codes, decimal, Option, Some, None, Result, Ok, Err, is_none}
 use Rattle.std.specs.List.{flat_map, list_all, list_any}
-use Rattle.std.specs.Result.{result_ok}
 use Rattle.up_client.specs.declared.fault.ClientFault.{ClientFault}
 use Rattle.up_client.specs.declared.fault.ClientFault.TheVariants as client
 use Rattle.up_disk.specs.declared.disk.Disk as disk
@@ -13,7 +12,7 @@ use Rattle.up_host.specs.Alone.{io_of}
 use Rattle.up_host.specs.declared.event.Event.{Event}
 use Rattle.up_journal.specs.declared.fault.AppendWhy.TheVariants as append
 use Rattle.up_journal.specs.declared.limits.Limits.{Limits}
-use Rattle.up_names.specs.PathNames.{PathName, path_of}
+use Rattle.up_names.specs.PathNames.{PathName}
 use Rattle.up_names.specs.Texts.{Text, UserName}
 use Rattle.up_peer.specs.declared.loader.Loader as loader
 use Rattle.up_sessions.specs.Asking.{AsksHost}
@@ -25,16 +24,15 @@ use Rattle.up_sessions.specs.Talking as talking
 use Rattle.up_sessions.specs.Worlds.{Hosts, Parties, World, is_named, session_at}
 use Rattle.up_sessions.specs.declared.fault.LineFault.TheVariants as fault
 use Rattle.up_sessions.specs.declared.opened.Opened.{Opened}
-use Rattle.up_text.specs.ClientFaults.{fault_lines}
 use Rattle.up_text.specs.Replies.{reply_lines}
 use Rattle.up_text.specs.Requests.{request_of}
 use Rattle.up_text.specs.declared.requests.ClientLine.{ClientLine}
 use Rattle.up_text.specs.declared.requests.ClientLine.TheVariants as calls
-use Rattle.up_wire.specs.declared.replies.Done.TheVariants as done
 use Rattle.up_wire.specs.declared.replies.Reply.{Reply}
 use Rattle.up_wire.specs.declared.replies.Reply.TheVariants as reply
 use Rattle.up_wire.specs.declared.requests.Request.{Request}
-use Rattle.up_command.specs.Printed.{all_numbered, ended, numbered}
+use Rattle.up_command.specs.Printed.{all_numbered, ended, got_lines, numbered, put_lines}
+use Rattle.up_command.specs.Words.{call_path}
 use Rattle.up_script.specs.ScriptLines.{line_of}
 use Rattle.up_script.specs.declared.script_lines.NewHost.{NewHost}
 use Rattle.up_script.specs.declared.script_lines.NewSession.{NewSession}
@@ -58,16 +56,6 @@ pub data Did : Type 0 where
   Replied : ℕ → Reply → Did
   Put : ℕ → Result ℕ ClientFault → Did
   Got : ℕ → Result (List ℕ) ClientFault → Did
-
--- the lines of a put: the position, as the reply to it, or why it failed
-abbrev pub put_lines : Result ℕ ClientFault → List Text
-put_lines (Ok position) = reply_lines (reply.Ok (done.Changed position))
-put_lines (Err why) = fault_lines why
-
--- the lines of a get: the bytes, as the reply to it, or why it failed
-abbrev pub got_lines : Result (List ℕ) ClientFault → List Text
-got_lines (Ok bytes) = reply_lines (reply.Ok (done.Bytes bytes))
-got_lines (Err why) = fault_lines why
 
 -- the text that is printed
 abbrev pub said : Did → Text
@@ -150,11 +138,6 @@ put_said number result = Ok (Did.Put number result)
 abbrev pub got_said : ℕ → Result (List ℕ) ClientFault → Came
 got_said number (Err client.OutOfMemory) = Err stop.OutOfMemory
 got_said number result = Ok (Did.Got number result)
-
--- the path that the client's line names
-abbrev pub call_path : ClientLine → Option PathName
-call_path (calls.Put name time sequence bytes) = result_ok (path_of name)
-call_path (calls.Get name) = result_ok (path_of name)
 
 module _ {D P C : Type 0} (disks : disk.Ghosts D) (peers : loader.Ghosts P) (clocks : clock.Ghosts C) where
   -- The words of a request: its host is asked, for the user of the session, at the moment that the clock gives; nothing is done where

@@ -1,5 +1,5 @@
 //! The lines of a script: what each says by itself.
-ghost use Rattle.std.specs.Prelude.{◌≡◌, ◌≢◌, ◌++◌, [], ◌∷◌, length, not, IfNone, IfOk, IfSome, OnOk, None, Some, option_map, if◌then◌else◌};
+ghost use Rattle.std.specs.Prelude.{◌≡◌, ◌≢◌, ◌++◌, [], ◌∷◌, length, not, IfNone, IfOk, IfSome, None, Some, option_map, if◌then◌else◌};
 ghost use Rattle.std.specs.List.{list_all, slice_split};
 ghost use Rattle.std.specs.Option.{option_and_then, option_copied};
 ghost use Rattle.up_policy.specs.Trees.{owns_snapshots};
@@ -11,8 +11,8 @@ ghost use Rattle.up_script.specs.ScriptLines.{are_different, are_owners, enrol_l
 ghost use Rattle.up_script.specs.Standing.{IsAskable};
 
 use std::alloc::{AllocError, Global};
-use up_bytes::{Bytes, copy_of};
-use up_command::{is, key_named, user_named};
+use up_bytes::Bytes;
+use up_command::{is, key_named, user_named, words_of};
 use up_lists::Items;
 use up_names::User;
 use up_sign::HostName;
@@ -244,27 +244,6 @@ fn four_words(words: Option<&[u8]>) -> Option<(&[u8], &[u8], &[u8], &[u8])>
     let (first, after) = cut_word(words?);
     let (second, third, fourth) = three_words(after)?;
     Some((first, second, third, fourth))
-}
-
-/// The words that are left of a line.
-fn words_of(alloc: Global, words: Option<&[u8]>) -> Result<Items<Bytes>, AllocError>
-    ensures { IfOk result (λ all. all ≡ words_left (option_copied words.entry)) }
-{
-    let mut all = Items::new(alloc);
-    let mut left = words;
-    while let Some(line) = left {
-        let (word, after) = cut_word(line);
-        add_word(alloc, &mut all, word)?;
-        left = after;
-    }
-    Ok(all)
-}
-
-fn add_word(alloc: Global, words: &mut Items<Bytes>, word: &[u8]) -> Result<(), AllocError>
-    ensures { OnOk result (words.new ≡ words.old ++ word.now ∷ []) }
-{
-    words.push(copy_of(alloc, word)?)?;
-    Ok(())
 }
 
 /// The number of a session that a word is.

@@ -1,14 +1,14 @@
 //! What each kind of line of a script does.
-ghost use Rattle.std.specs.Prelude.{◌≡◌, ◌≢◌, ◌≤◌, ◌++◌, true, IfErr, IfOk, IsSome, OnOk, Some, not};
+ghost use Rattle.std.specs.Prelude.{◌≡◌, ◌≢◌, ◌≤◌, ◌++◌, true, IfErr, IsSome, OnOk, Some, not};
 ghost use Rattle.std.specs.List.{list_all, list_any};
 ghost use Rattle.up_command.specs.Printed.{all_numbered};
-ghost use Rattle.up_command.specs.Words.{is_key};
+ghost use Rattle.up_command.specs.Words.{call_path, is_key};
 ghost use Rattle.up_sessions.specs.Fitting.{IsFit};
 ghost use Rattle.up_sessions.specs.Others.{has_tree};
 ghost use Rattle.up_sessions.specs.Worlds.{session_at};
 ghost use Rattle.up_script.specs.ScriptLines.{are_owners};
 ghost use Rattle.up_script.specs.ScriptRuns.{Turned};
-ghost use Rattle.up_script.specs.Scripts.{AskCame, CallCame, EnrolCame, HostCame, LineCame, OpenCame, SaysCame, call_path, got_said, is_new, place_of, put_said, replied};
+ghost use Rattle.up_script.specs.Scripts.{AskCame, CallCame, EnrolCame, HostCame, LineCame, OpenCame, SaysCame, got_said, is_new, place_of, put_said, replied};
 ghost use Rattle.up_script.specs.Standing.{AreHostLimits, AskSomething, parties, world};
 ghost use Rattle.up_script.specs.Turns.{IsGood, enrol_said, host_said, sign_said};
 ghost use Rattle.up_text.specs.ClientFaults.{fault_lines};
@@ -19,11 +19,11 @@ use crate::stop::LineStop;
 use std::alloc::{AllocError, Global};
 use up_bytes::Bytes;
 use up_client::ClientFault;
-use up_command::{say, say_count, say_fault, say_numbered, say_reply};
+use up_command::{call_path, say, say_count, say_fault, say_numbered, say_reply};
 use up_disk::Disk;
 use up_ends::{Clock, Nonces, Verifier};
 use up_journal::{AppendWhy, Limits};
-use up_names::{NameFault, Path, User, parse_path};
+use up_names::{Path, User};
 use up_peer::Loader;
 use up_sessions::{LineFault, Sessions};
 use up_sign::HostName;
@@ -300,7 +300,7 @@ fn call_client<D: Disk, P: Loader, C: Clock>(
     let Some(_) = sessions.user(number) else {
         return Ok(say_numbered(out, number, b"nosession")?);
     };
-    match path_of(alloc, call)? {
+    match call_path(alloc, call)? {
         Some(path) => call_at(alloc, sessions, peers, clock, number, call, &path, out),
         None => {
             let _now = clock.now();
@@ -337,21 +337,6 @@ fn call_at<D: Disk, P: Loader, C: Clock>(
             let outcome = sessions.get(alloc, peers, number, path, now);
             say_got(alloc, out, number, outcome)
         }
-    }
-}
-
-// The path of a put or get, or none where it does not parse.
-fn path_of(alloc: Global, call: &ClientLine) -> Result<Option<Path>, AllocError>
-    ensures { IfOk result (λ found. found ≡ call_path call.now) }
-{
-    let text = match call {
-        ClientLine::Put(path, _, _, _) => path,
-        ClientLine::Get(path) => path,
-    };
-    match parse_path(alloc, text.as_slice()) {
-        Ok(path) => Ok(Some(path)),
-        Err(NameFault::OutOfMemory) => Err(AllocError),
-        Err(_) => Ok(None),
     }
 }
 

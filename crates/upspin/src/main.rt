@@ -7,12 +7,15 @@ use std::hash::RandomState;
 use std::process::ExitCode;
 use std::rt::Env;
 use std::{env, io};
+use up_client::{Ask, TableAsk};
 use up_disk::blank_disks;
 use up_ends::{StdSink, StdSource};
 use up_helper::{sign_run, verify_run};
-use up_net::{HelperVerifier, HostClock, Machine, SeedNonces};
+use up_lists::Items;
+use up_net::{HelperVerifier, HostClock, Machine, SeedNonces, SocketAsk, Waits};
 use up_peer::Peers;
 use up_script::{can_run, script_run};
+use up_terminal::{client_run, client_user};
 
 /// The status where the system gives no random bytes, to hash names with or to draw challenges from; nothing was read or written.
 const READ_FAULT: u8 = 2;
@@ -49,6 +52,51 @@ fn helper_status(rt: &HostRuntime, words: &[String]) -> Option<u8> {
 
 /// Runs any other command that the words name, and answers its status.
 fn command_status(rt: &HostRuntime, words: &[String]) -> u8 {
+    match words.first().map(|word| word.as_str()) {
+        Some("client") => client_status(rt, words),
+        _ => hashing_status(rt, words),
+    }
+}
+
+/// The server that the words of `upspin client` name, asked as the user whom they name. `None` where they are no such words.
+fn server_of<'a>(
+    rt: &'a HostRuntime,
+    words: &[String],
+) -> Result<Option<SocketAsk<&'a HostRuntime>>, AllocError> {
+    let Some(user) = client_user(rt.alloc(), words)? else {
+        return Ok(None);
+    };
+    let (Some(address), Some(helper)) = (words.get(1), words.get(2)) else {
+        return Ok(None);
+    };
+    let address = address.as_bytes();
+    let helper = helper.clone()?;
+    let server = SocketAsk::new(rt.alloc(), rt, address, user, helper, Waits::usual())?;
+    Ok(Some(server))
+}
+
+/// Runs `upspin client`, and answers its status. Where the words are others, nobody is asked.
+fn client_status(rt: &HostRuntime, words: &[String]) -> u8 {
+    match server_of(rt, words) {
+        Ok(Some(mut server)) => client_with(rt, words, &mut server),
+        Ok(None) => {
+            let alloc = rt.alloc();
+            let mut nobody = TableAsk::new(Items::new(alloc), Items::new(alloc));
+            client_with(rt, words, &mut nobody)
+        }
+        Err(_) => OUT_OF_MEMORY,
+    }
+}
+
+/// The same over whoever is asked.
+fn client_with<A: Ask>(rt: &HostRuntime, words: &[String], ask: &mut A) -> u8 {
+    let mut source = StdSource::new(rt.stdin());
+    let mut sink = StdSink::new(rt.stdout());
+    client_run(rt.alloc(), words, &mut source, &mut sink, ask)
+}
+
+/// Runs a command that hashes names which its input chooses.
+fn hashing_status(rt: &HostRuntime, words: &[String]) -> u8 {
     let Ok(random) = RandomState::new(rt) else {
         return READ_FAULT;
     };
@@ -113,15 +161,14 @@ fn script_with(
 /// What a status means for people, and where to read on; nothing after 0, and after 64, whose usage line was printed.
 fn meaning(status: u8) -> Option<&'static str> {
     match status {
-        1 => Some("upspin: a line of the script is malformed (docs/MISTAKES.md, docs/SCRIPTS.md)"),
-        2 => Some(
-            "upspin: no input or no random bytes, and nothing was printed (README.md, Statuses)",
-        ),
+        1 => Some("upspin: a line of the input is malformed (docs/MISTAKES.md, docs/SCRIPTS.md)"),
+        2 => Some("upspin: no input, or no random bytes (README.md, Statuses)"),
         3 => Some("upspin: standard output failed, and not all was printed (README.md, Statuses)"),
         4 => Some("upspin: there was no memory, and not all was printed (README.md, Statuses)"),
         5 => Some("upspin: the helper failed at an `open` line (docs/HELPER.md)"),
         6 => Some("upspin: a disk failed at a `host` or `enrol` line (README.md, Statuses)"),
-        7 => Some("upspin: the script is too long, and nothing was printed (README.md, Statuses)"),
+        7 => Some("upspin: the input, or a line of it, is too long (README.md, Statuses)"),
+        11 => Some("upspin: the server gave no answer (README.md, Statuses)"),
         _ => None,
     }
 }

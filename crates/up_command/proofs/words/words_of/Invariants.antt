@@ -2,8 +2,8 @@
 use Rattle.std.proofs.Common.{◌≡◌, ◌++◌}
 use Rattle.std.specs.Option.{option_copied}
 use Rattle.up_text.specs.Lines.{words_left}
-use Rattle.up_script.proofs.WordLemmas.{left_size}
-use Rattle.up_script.proofs.script_lines.words_of.Given as goal
+use Rattle.up_command.proofs.WordLemmas.{left_size}
+use Rattle.up_command.proofs.words.words_of.Given as goal
 
 abbrev pub invariant-loop-left : goal.invariant-loop-left
 invariant-loop-left l = l.all ++ words_left (option_copied l.left) ≡ words_left (option_copied l.fn.words)

@@ -1,0 +1,11 @@
+-- What is said of an answer is what is said of its reply.
+use Rattle.std.proofs.Common.{◌≡◌, Some, Result, ap, sym, ◌∙◌}
+use Rattle.std.specs.Result.{result_ok}
+use Rattle.up_terminal.specs.Answers.{replied}
+use Rattle.up_terminal.proofs.AnswerLemmas.{weaker}
+use Rattle.up_terminal.proofs.answering.say_given.Goals as goal
+
+pub returns-in-Ok-clause-said : goal.returns-in-Ok-clause-said
+returns-in-Ok-clause-said c =
+    weaker (λ came. came ≡ replied (Some c.in-Ok.reply)) (λ came. came ≡ replied (result_ok c.args.given)) c.args.out.now.items c.say_replied-said.new.out.items c.say_replied-said.result
+    (λ came told. told ∙ ap (λ given. replied (result_ok given)) (sym c.in-Ok.is)) c.say_replied-said.ensures.said
