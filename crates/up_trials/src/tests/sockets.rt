@@ -82,6 +82,26 @@ fn loaded(
     Ok(answers)
 }
 
+/// The same where the server keeps to one plan and, if it is dialled again, to one that answers.
+fn loaded_by(
+    rt: HostRuntime,
+    threads: &impl Threads,
+    folder: &Folder,
+    group: &Path,
+    first: Plan,
+    again: bool,
+) -> io::Result<([u8; 2], u64)> {
+    let answers = Plan {
+        letters: b"cwt",
+        end: End::Closes,
+    };
+    if again {
+        loaded(rt, threads, folder, group, &[first, answers])
+    } else {
+        loaded(rt, threads, folder, group, &[first])
+    }
+}
+
 /// Loads where the server keeps to a plan and, behind a failure, to one that answers: the place of the first plan at which something
 /// else comes than is wanted.
 fn wrong_peer(
@@ -90,10 +110,6 @@ fn wrong_peer(
     folder: &Folder,
     group: &Path,
 ) -> io::Result<Option<usize>> {
-    let answers = Plan {
-        letters: b"cwt",
-        end: End::Closes,
-    };
     for (place, (letters, end, again, loads, faults)) in [
         (b"cwtt".as_slice(), End::Closes, false, b"gg", 0),
         (b"cw".as_slice(), End::Resets, true, b"fg", 1),
@@ -109,14 +125,8 @@ fn wrong_peer(
     .enumerate()
     {
         let first = Plan { letters, end };
-        let plans = [first, answers];
-        let once = [first];
-        let plans = if again {
-            plans.as_slice()
-        } else {
-            once.as_slice()
-        };
-        if loaded(rt, threads, folder, group, plans)? != (*loads, faults) {
+        let came = loaded_by(rt, threads, folder, group, first, again)?;
+        if came != (*loads, faults) {
             return Ok(Some(place));
         }
     }
