@@ -118,7 +118,11 @@ impl TerminalLines {
 
     // The status of a run, and what was printed.
     fn outcome(&self, alloc: Global, piece: u64, calls: Calls) -> Result<(u8, Vec<u8>), Fault> {
-        let Calls { reads, asks, writes } = calls;
+        let Calls {
+            reads,
+            asks,
+            writes,
+        } = calls;
         let mut source = self.source(alloc, piece, reads)?;
         let mut table = TableAsk::new(self.table_rows(alloc)?, asks);
         let mut sink = MemSink::new(alloc, writes);

@@ -1,5 +1,5 @@
 -- Lines, each with its LF, and the lines of a text.
-use Rattle.std.proofs.Common.{◌≡◌, ◌≢◌, ◌==◌, ◌||◌, ℕ, zero, suc, ◌+◌, ◌<◌, ◌≤◌, Bool, true, false, not, List, [], ◌∷◌, ◌++◌, length, take, drop, cond, refl, sym, ap, subst, ◌∙◌, append_assoc, append-nil, arith}
+use Rattle.std.proofs.Common.{◌≡◌, ◌≢◌, ◌||◌, ℕ, zero, suc, ◌+◌, ◌<◌, ◌≤◌, Bool, true, false, not, List, [], ◌∷◌, ◌++◌, length, take, cond, refl, ap, subst, ◌∙◌, append_assoc, append-nil, arith}
 use Rattle.std.specs.Prelude.{codes}
 use Rattle.std.proofs.lemmas.Bool.{eqb-true, ne_eqb}
 use Rattle.std.proofs.lemmas.Grind.{flat_map-append, common_steps}
@@ -8,7 +8,7 @@ use Rattle.std.proofs.lemmas.List.Folds.{list_any-append, list_any_none}
 use Rattle.std.proofs.lemmas.List.Splits.{length-slice_split, slice_split_at, slice_split_none}
 use Rattle.std.proofs.lemmas.List.Sums.{fails_before_first, passes_at_first, prefix_len-le-length, split_at_first}
 use Rattle.std.proofs.Math.ListN.{get_or}
-use Rattle.std.specs.List.{All, AllByRecursion, after_first, before_first, list_any, onto_first, position_or_len, slice_split}
+use Rattle.std.specs.List.{All, AllByRecursion, after_first, before_first, list_any, position_or_len, slice_split}
 use Rattle.up_command.specs.Printed.{ended}
 use Rattle.up_names.specs.Texts.{Text}
 use Rattle.up_text.specs.Lines.{is_line_end, script_lines, without_empty_last}

@@ -1,5 +1,5 @@
 -- How a session goes over its input, read by read.
-use Rattle.std.proofs.Common.{◌≡◌, ◌≢◌, ◌≤◌, ◌<◌, ◌+◌, ◌*◌, ◌^◌, ℕ, Bool, true, false, List, [], ◌∷◌, ◌++◌, length, take, Option, Result, Ok, Err, refl, sym, ap, subst, ◌∙◌, append-nil, length-append, arith}
+use Rattle.std.proofs.Common.{◌≡◌, ◌≤◌, ◌<◌, ◌+◌, ◌*◌, ℕ, true, false, [], ◌++◌, length, Option, Result, Ok, Err, refl, sym, ap, subst, ◌∙◌, append-nil, length-append, arith}
 use Rattle.std.specs.Result.{IsErrAnd}
 use Rattle.std.specs.Io.KnownBytes.{Consumes, IsAtEnd, Keeps}
 use Rattle.std.proofs.KnownBytes.{Consumes-kept, Consumes-nil, Consumes-trans}
@@ -8,9 +8,9 @@ use Rattle.up_names.specs.Texts.{Text, UserName}
 use Rattle.up_wire.specs.declared.replies.Reply.{Reply}
 use Rattle.up_wire.specs.declared.requests.Request.{Request}
 use Rattle.up_terminal.proofs.SessionLemmas.{Ran-end, Running-none, Running-read, closed_text, uncut_is_absurd}
-use Rattle.up_terminal.specs.Lines.{IsLine, cut_text}
+use Rattle.up_terminal.specs.Lines.{IsLine}
 use Rattle.up_terminal.specs.Runs.{Ends, Means, Ran, is_cut, read_limit}
-use Rattle.up_terminal.specs.Sessions.{Closes, Goes, Running, behind, code_by, stopped_code}
+use Rattle.up_terminal.specs.Sessions.{Closes, Goes, Running, code_by, stopped_code}
 use Rattle.up_terminal.specs.declared.stop.Stop.{Stop}
 use Rattle.up_terminal.specs.declared.stop.Stop.TheVariants as stop
 

@@ -1,16 +1,14 @@
 -- What one line came to, by what its parts answered.
-use Rattle.std.proofs.Common.{◌≡◌, ◌≢◌, ◌⊎◌, inl, inr, ℕ, List, [], ◌∷◌, ◌++◌, length, Option, Some, None, Result, Ok, Err, refl, sym, ap, subst, ◌∙◌, arith}
+use Rattle.std.proofs.Common.{◌≡◌, inl, inr, ℕ, [], ◌∷◌, ◌++◌, length, Option, Some, None, Result, Ok, Err, refl, ap, subst, ◌∙◌, arith}
 use Rattle.std.specs.Prelude.{IsErrOf}
 use Rattle.std.specs.Io.KnownBytes.{Appends}
 use Rattle.up_ends.specs.Writing.{WritesPart}
-use Rattle.up_command.specs.Printed.{bad_line}
 use Rattle.up_names.specs.Texts.{Text, UserName}
 use Rattle.up_wire.specs.declared.replies.Reply.{Reply}
 use Rattle.up_wire.specs.declared.requests.Request.{Request}
-use Rattle.up_terminal.specs.Answers.{Did, LineCame, SaysCame, Turned, said}
+use Rattle.up_terminal.specs.Answers.{LineCame, SaysCame, Turned, said}
 use Rattle.up_terminal.specs.Lines.{line_of}
 use Rattle.up_terminal.specs.Sessions.{DoneAndPrinted, LineRan, Named}
-use Rattle.up_terminal.specs.declared.stop.LineStop.TheVariants as stops
 use Rattle.up_terminal.specs.declared.stop.Stop.{Stop}
 use Rattle.up_terminal.specs.declared.stop.Stop.TheVariants as stop
 use Rattle.up_terminal.specs.declared.terminal_line.TerminalLine.{TerminalLine}

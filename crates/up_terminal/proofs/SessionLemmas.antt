@@ -2,12 +2,11 @@
 use Rattle.std.proofs.Common.{◌≡◌, ◌≢◌, ◌≤◌, ◌<◌, ◌+◌, ◌⊎◌, inl, inr, ℕ, Bool, true, false, List, [], ◌∷◌, ◌++◌, length, Option, None, Result, Ok, Err, refl, sym, ap, subst, ◌∙◌, append_assoc, append-nil, length-append, arith}
 use Rattle.std.specs.Prelude.{codes, IfErr, IsErrOf, OnOk}
 use Rattle.std.specs.Io.KnownBytes.{Appends}
-use Rattle.std.specs.List.{AllByRecursion, before_first, flat_map}
+use Rattle.std.specs.List.{before_first}
 use Rattle.std.proofs.KnownBytes.{Appends-nil, Appends-trans}
 use Rattle.std.proofs.lemmas.Grind.{flat_map-append}
-use Rattle.up_ends.specs.Writing.{Going, WritesPart}
+use Rattle.up_ends.specs.Writing.{WritesPart}
 use Rattle.up_ends.proofs.Going.{WritesPart-all, WritesPart-none}
-use Rattle.up_lists.specs.Runs.{Run}
 use Rattle.up_lists.proofs.RunLemmas.{Run-snoc}
 use Rattle.up_command.specs.Printed.{bad_line, ended}
 use Rattle.up_command.specs.Statuses.{input_limit}
@@ -19,7 +18,7 @@ use Rattle.up_terminal.proofs.CutLemmas.{IsUnbroken, before_cons, before_none, e
 use Rattle.up_terminal.specs.Answers.{Did, LineCame, said}
 use Rattle.up_terminal.specs.Lines.{IsLine, cut_text, line_of, lines_text}
 use Rattle.up_terminal.specs.Runs.{Ends, LineDoes, Ran, is_cut, printed, stop_code}
-use Rattle.up_terminal.specs.Sessions.{Closes, Goes, LineRan, Reading, Running, behind, code_by, stopped_code}
+use Rattle.up_terminal.specs.Sessions.{Closes, Goes, LineRan, Reading, Running, behind, stopped_code}
 use Rattle.up_terminal.specs.declared.stop.LineStop.{LineStop}
 use Rattle.up_terminal.specs.declared.stop.LineStop.TheVariants as stops
 use Rattle.up_terminal.specs.declared.stop.Stop.{Stop}

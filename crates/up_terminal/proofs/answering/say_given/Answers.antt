@@ -1,5 +1,5 @@
 -- What is said of an answer is what is said of its reply.
-use Rattle.std.proofs.Common.{◌≡◌, Some, Result, ap, sym, ◌∙◌}
+use Rattle.std.proofs.Common.{◌≡◌, Some, ap, sym, ◌∙◌}
 use Rattle.std.specs.Result.{result_ok}
 use Rattle.up_terminal.specs.Answers.{replied}
 use Rattle.up_terminal.proofs.AnswerLemmas.{weaker}

@@ -1,13 +1,8 @@
 -- What a command's run promises, by what its session did, or by its words.
-use Rattle.std.proofs.Common.{◌≡◌, ◌<◌, ◌∷◌, [], ℕ, length, map, refl, sym, subst, ◌∙◌}
-use Rattle.std.specs.Prelude.{IfSome, string_bytes}
-use Rattle.std.specs.List.{AllByRecursion}
+use Rattle.std.proofs.Common.{◌≡◌, ◌∷◌, [], ℕ, refl, sym, subst, ◌∙◌}
 use Rattle.up_ends.proofs.Going.{WritesPart-none}
 use Rattle.up_command.specs.Statuses.{IsOneOf, usage_line}
-use Rattle.up_lists.specs.Counts.{Rose}
-use Rattle.up_text.specs.Lines.{script_lines}
-use Rattle.up_terminal.specs.Lines.{IsGoodLine, client_user}
-use Rattle.up_terminal.specs.Runs.{Means, read_limit}
+use Rattle.up_terminal.specs.Runs.{Means}
 use Rattle.up_terminal.specs.Sessions.{code_by}
 use Rattle.up_terminal.specs.declared.stop.Stop.TheVariants as stop
 use Rattle.up_terminal.proofs.EndLemmas.{cause_by, completes_faultless, none_meant, of_user}

@@ -1,6 +1,6 @@
 -- The bytes round the first LF.
-use Rattle.std.proofs.Common.{◌≡◌, ◌++◌, ◌∷◌, length, sym, ap, subst, ◌∙◌, arith}
-use Rattle.std.specs.List.{after_first, before_first}
+use Rattle.std.proofs.Common.{◌++◌, ◌∷◌, length, sym, ap, subst, ◌∙◌, arith}
+use Rattle.std.specs.List.{after_first}
 use Rattle.up_text.specs.Lines.{is_line_end}
 use Rattle.up_terminal.proofs.CutLemmas.{IsUnbroken, before_is_unbroken, cut_at, no_cut}
 use Rattle.up_terminal.proofs.cutting.cut_line.Goals as goal

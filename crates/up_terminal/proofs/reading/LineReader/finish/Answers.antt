@@ -1,5 +1,4 @@
 -- What was added to the line is run with it.
-use Rattle.std.proofs.Common.{◌≡◌, ◌≤◌, ◌+◌, ◌++◌, length, length-append, inl, inr, refl, sym, ap, subst, ◌∙◌, arith}
 use Rattle.up_terminal.proofs.SessionLemmas.{added_ran, run_added}
 use Rattle.up_terminal.proofs.reading.LineReader.finish.Goals as goal
 

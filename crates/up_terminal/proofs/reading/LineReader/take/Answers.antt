@@ -1,5 +1,5 @@
 -- Each exit of the loop, by the invariant and what the last call did.
-use Rattle.std.proofs.Common.{◌≡◌, ◌≤◌, ◌+◌, ◌++◌, ◌∷◌, [], length, length-append, Ok, Err, refl, sym, ap, subst, ◌∙◌, arith}
+use Rattle.std.proofs.Common.{◌≤◌, ◌++◌, length, length-append, Ok, refl, sym, ap, subst, ◌∙◌, arith}
 use Rattle.up_terminal.specs.Lines.{IsLine}
 use Rattle.up_terminal.specs.Sessions.{Goes, Reading}
 use Rattle.up_terminal.proofs.CutLemmas.{unbroken_append}
