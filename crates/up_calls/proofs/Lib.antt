@@ -9,3 +9,7 @@ pub mod GatherLemmas
 pub mod TurnLemmas
 pub mod BlockLemmas
 pub mod CameLemmas
+pub mod Told
+pub mod StoreDone
+pub mod KeysDone
+pub mod SettledLemmas

@@ -12,4 +12,5 @@ pub mod Told
 pub mod Answered
 pub mod Alike
 pub mod Done
+pub mod Settled
 pub mod Steps
