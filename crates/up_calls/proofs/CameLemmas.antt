@@ -17,7 +17,7 @@ use Rattle.up_calls.specs.Blocks.{Got, OwnBlocks, answer_at, block_answer, block
 use Rattle.up_calls.specs.Calls.{Asked, AsksLoader, IsAskedFor, IsPlain, IsReady, IsTried, KeysTurn, Outcome, StoreTurn, TreeTurn}
 use Rattle.up_calls.specs.Gathered.{BlocksGathered, missing_over, own_failed}
 use Rattle.up_calls.specs.Loads.{group_answer, group_question, load_failed}
-use Rattle.up_calls.specs.Rounds.{InRoundsOver}
+use Rattle.up_calls.specs.Rounds.{LoadedInRounds}
 use Rattle.up_calls.specs.Routes.{LogName, OwnStays, Question, locations_on, log_asked, log_by, refusal, refusal_by, route_refusal, service_of, tree_on}
 use Rattle.up_calls.specs.Services.{key_fault, store_fault}
 use Rattle.up_calls.specs.Told.{LogTold}
@@ -259,8 +259,8 @@ module _ {L : Type 0} (loader : Ghosts L) (operator : UserName) (left : LogName 
         let r : Some h.answered.w ≡ Some w = sym h.answered.after ∙ ap b.tree is ∙ is_w in
         let first : h.answered.v ≡ v = cc in
         let last : h.answered.w ≡ w = cc in
-        subst (λ (x : SeenTree). InRoundsOver (missing_over w q) (length x.seen) e.position [] e.loaded) first
-        (subst (λ (x : SeenTree). InRoundsOver (missing_over x q) (length h.answered.v.seen) e.position [] e.loaded) last h.answered.rounds);
+        subst (λ (x : SeenTree). LoadedInRounds (missing_over w q) (length x.seen) e.position e.loaded) first
+        (subst (λ (x : SeenTree). LoadedInRounds (missing_over x q) (length h.answered.v.seen) e.position e.loaded) last h.answered.rounds);
   }
 
   pub came_served : left (LogName.OfTree owner) e.position → Came loader operator left rises a b q old new e

@@ -1,14 +1,17 @@
 -- How loading goes on, while others may write to the logs.
 use Rattle.std.proofs.Common.{◌≡◌, ◌≢◌, ◌||◌, ◌≤◌, ℕ, Bool, true, false, List, [], ◌∷◌, ◌++◌, length, take, refl, sym, ap, subst, ◌∙◌, arith, append_assoc, append-nil, Option, Some, None, Result, Ok, Err}
-use Rattle.std.specs.Prelude.{OnOk, is_ok, if◌then◌else◌}
+use Rattle.std.specs.Prelude.{OnOk, is_ok, is_some, if◌then◌else◌}
 use Rattle.std.specs.List.{flat_map, list_any}
+use Rattle.std.specs.Option.{option_or}
 use Rattle.std.proofs.lemmas.Bool.{false≢true}
 use Rattle.std.proofs.lemmas.List.{take-append-le}
-use Rattle.up_lists.specs.Counts.{HasCause}
+use Rattle.up_answers.specs.Answers.{log_owner}
+use Rattle.up_lists.specs.Counts.{HasCause, StaysUnless}
+use Rattle.up_lists.proofs.Causes.{StaysUnless-more, StaysUnless-same}
 use Rattle.up_calls.proofs.AsksLemmas.{All-append, All-map, Asks-none, Asks-trans, EachAfter-append, HasCause-for, HasCause-same, Tries-none, Tries-one}
 use Rattle.up_calls.specs.Asks.{Asks, EachAfter, Tries}
 use Rattle.up_calls.specs.Gathered.{AddsName, Gathered, NameLoaded}
-use Rattle.up_calls.specs.Loads.{IsFromOwn, OwnTexts, Pair, answered_by_others, asked_of_others, group_answer, group_question, group_text_answer, load_failed, load_of}
+use Rattle.up_calls.specs.Loads.{IsFromOwn, IsOld, IsOwn, OwnTexts, Pair, answered_by_others, asked_of_others, group_answer, group_question, group_text_answer, load_failed, load_of, tree_by}
 use Rattle.up_calls.specs.Routes.{LogName, OwnStays}
 use Rattle.up_calls.specs.Views.{Later, LaterSeen, LaterTree, SeenTree, Views, log_after}
 use Rattle.up_lists.specs.Begins.{Begins}
@@ -59,26 +62,67 @@ own_text_earlier operator u v w pair later h =
     let longer = length-Begins later.begins in
     record { position = h.position; from = omega (arith, h.from, longer); to = h.to; given = h.given }
 
+-- a host has the same trees later
+pub none_before : (before now : Option SeenTree) → LaterTree before now → now ≡ None → before ≡ None
+none_before None now later is = refl
+none_before (Some v) None later is = absurd later
+none_before (Some v) (Some w) later is = absurd (cc)
+
+pub none_later : (before now : Option SeenTree) → LaterTree before now → before ≡ None → now ≡ None
+none_later None None later is = refl
+none_later None (Some w) later is = absurd later
+none_later (Some v) now later is = absurd (cc)
+
+pub as_there : (before now : Option SeenTree) → LaterTree before now → is_some now ≡ is_some before
+as_there None None later = refl
+as_there None (Some w) later = absurd later
+as_there (Some v) None later = absurd later
+as_there (Some v) (Some w) later = refl
+
+old_later : (a b : Views) → Later a b → (pair : Pair) → IsOld a pair → IsOld b pair
+old_later a b later pair h = λ none there.
+    h (none_before (a.tree pair.0.owner) (b.tree pair.0.owner) (later.trees pair.0.owner) none)
+    (sym (as_there (a.tree (log_owner pair.0.owner)) (b.tree (log_owner pair.0.owner)) (later.trees (log_owner pair.0.owner))) ∙ there)
+
+old_earlier : (a b : Views) → Later a b → (pair : Pair) → IsOld b pair → IsOld a pair
+old_earlier a b later pair h = λ none there.
+    h (none_later (a.tree pair.0.owner) (b.tree pair.0.owner) (later.trees pair.0.owner) none)
+    (as_there (a.tree (log_owner pair.0.owner)) (b.tree (log_owner pair.0.owner)) (later.trees (log_owner pair.0.owner)) ∙ there)
+
 -- what was given by then is given later
 pub own_texts_later : (operator : UserName) (a b c : Views) → Later b c → (more : Loading) → OwnTexts operator a b more → OwnTexts operator a c more
 own_texts_later operator a b c later more =
-    All-map (λ (pair : Pair). (v w : SeenTree) → a.tree pair.0.owner ≡ Some v → b.tree pair.0.owner ≡ Some w → IsFromOwn operator v w pair)
-    (λ (pair : Pair). (v w : SeenTree) → a.tree pair.0.owner ≡ Some v → c.tree pair.0.owner ≡ Some w → IsFromOwn operator v w pair)
-    (λ pair h v x is_v is_x. let t = was_there (b.tree pair.0.owner) (c.tree pair.0.owner) x (later.trees pair.0.owner) is_x in
-    own_text_later operator v t.0 x pair t.2 (h v t.0 is_v t.1)) more
+    All-map (λ (pair : Pair). IsOwn operator a b pair × IsOld a pair) (λ (pair : Pair). IsOwn operator a c pair × IsOld a pair)
+    (λ pair h. (
+      (λ v x is_v is_x. let t = was_there (b.tree pair.0.owner) (c.tree pair.0.owner) x (later.trees pair.0.owner) is_x in
+      own_text_later operator v t.0 x pair t.2 (h.0 v t.0 is_v t.1)),
+      h.1,
+    )) more
 
 pub own_texts_earlier : (operator : UserName) (a b c : Views) → Later a b → (more : Loading) → OwnTexts operator b c more → OwnTexts operator a c more
 own_texts_earlier operator a b c later more =
-    All-map (λ (pair : Pair). (v w : SeenTree) → b.tree pair.0.owner ≡ Some v → c.tree pair.0.owner ≡ Some w → IsFromOwn operator v w pair)
-    (λ (pair : Pair). (v w : SeenTree) → a.tree pair.0.owner ≡ Some v → c.tree pair.0.owner ≡ Some w → IsFromOwn operator v w pair)
-    (λ pair h u w is_u is_w. let t = is_there (a.tree pair.0.owner) (b.tree pair.0.owner) u (later.trees pair.0.owner) is_u in
-    own_text_earlier operator u t.0 w pair t.2 (h t.0 w t.1 is_w)) more
+    All-map (λ (pair : Pair). IsOwn operator b c pair × IsOld b pair) (λ (pair : Pair). IsOwn operator a c pair × IsOld a pair)
+    (λ pair h. (
+      (λ u w is_u is_w. let t = is_there (a.tree pair.0.owner) (b.tree pair.0.owner) u (later.trees pair.0.owner) is_u in
+      own_text_earlier operator u t.0 w pair t.2 (h.0 t.0 w t.1 is_w)),
+      old_earlier a b later pair h.1,
+    )) more
 
 -- ---- who is asked stays the same
 
 flat_map-same : {X Y : Type 0} (f g : X → List Y) → ((x : X) → f x ≡ g x) → (xs : List X) → flat_map f xs ≡ flat_map g xs
 flat_map-same f g same [] = refl
 flat_map-same f g same (x ∷ xs) = ap (λ ys. ys ++ flat_map f xs) (same x) ∙ ap (λ ys. g x ++ ys) (flat_map-same f g same xs)
+
+-- the tree by which a name is asked, later
+by_later : (one two x y : Option SeenTree) → LaterTree one x → LaterTree two y → LaterTree (option_or one two) (option_or x y)
+by_later None two None y p q = q
+by_later None two (Some w) y p q = absurd p
+by_later (Some v) two None y p q = absurd p
+by_later (Some v) two (Some w) y p q = p
+
+tree_later_by : (a b : Views) → Later a b → (owner : UserName) → LaterTree (tree_by a owner) (tree_by b owner)
+tree_later_by a b later owner = by_later (a.tree owner) (a.tree (log_owner owner)) (b.tree owner) (b.tree (log_owner owner)) (later.trees owner) (later.trees (log_owner owner))
 
 question_same : (operator : UserName) (before now : Option SeenTree) (name : PathName) → LaterTree before now → asked_of_others operator now name ≡ asked_of_others operator before name
 question_same operator None None name later = refl
@@ -96,11 +140,12 @@ pub asks_before : {L : Type 0} (loader : Ghosts L) (operator : UserName) (a b : 
     → Asks loader.loads loader.faults loader.tied load_failed (group_question operator b) (group_answer b) old new more
     → Asks loader.loads loader.faults loader.tied load_failed (group_question operator a) (group_answer a) old new more
 asks_before loader operator a b later old new more h =
-    let questions = flat_map-same (group_question operator b) (group_question operator a) (λ pair. question_same operator (a.tree pair.0.owner) (b.tree pair.0.owner) pair.0 (later.trees pair.0.owner)) more in
-    let answers = flat_map-same (group_answer b) (group_answer a) (λ pair. answer_same (a.tree pair.0.owner) (b.tree pair.0.owner) pair.1 (later.trees pair.0.owner)) more in
+    let questions = flat_map-same (group_question operator b) (group_question operator a) (λ pair. question_same operator (tree_by a pair.0.owner) (tree_by b pair.0.owner) pair.0 (tree_later_by a b later pair.0.owner)) more in
+    let answers = flat_map-same (group_answer b) (group_answer a) (λ pair. answer_same (tree_by a pair.0.owner) (tree_by b pair.0.owner) pair.1 (tree_later_by a b later pair.0.owner)) more in
     record {
       asked = subst (λ qs. Run loader.loads old qs (flat_map (group_answer a) more) new) questions (subst (λ xs. Run loader.loads old (flat_map (group_question operator b) more) xs new) answers h.asked);
       counts = subst (λ xs. HasCause (loader.faults old) (loader.faults new) (list_any load_failed xs ≡ true)) answers h.counts;
+      quiet = subst (λ xs. StaysUnless (loader.faults old) (loader.faults new) (list_any load_failed xs ≡ true)) answers h.quiet;
       tie = h.tie;
     }
 
@@ -123,7 +168,7 @@ module _ {L : Type 0} (loader : Ghosts L) (operator : UserName) where
     whole = two.whole ∙ ap (λ xs. xs ++ two.more) one.whole ∙ append_assoc first one.more two.more;
     needed = EachAfter-append (λ so_far (pair : Pair). wanted so_far pair.0) first one.more two.more one.needed
         (subst (λ b. EachAfter (λ so_far (pair : Pair). wanted so_far pair.0) b two.more) one.whole two.needed);
-    own = All-append (λ (pair : Pair). (v w : SeenTree) → a.tree pair.0.owner ≡ Some v → c.tree pair.0.owner ≡ Some w → IsFromOwn operator v w pair) one.more two.more
+    own = All-append (λ (pair : Pair). IsOwn operator a c pair × IsOld a pair) one.more two.more
         (own_texts_later operator a b c on one.more one.own) (own_texts_earlier operator a b c to two.more two.own);
     asks = Asks-trans loader.loads loader.faults loader.tied load_failed (group_question operator a) (group_answer a) joined x y z one.more two.more one.asks (asks_before loader operator a b to y z two.more two.asks);
   }
@@ -157,6 +202,10 @@ or_false false h = absurd (cc)
 pub same_some : {X : Type 0} (x : Option X) (v w : X) → x ≡ Some v → x ≡ Some w → v ≡ w
 same_some x v w p q = let k : Some v ≡ Some w = sym p ∙ q in cc
 
+some_of : {X : Type 0} (x : Option X) → is_some x ≡ true → (y : X) × (x ≡ Some y)
+some_of None h = absurd (false≢true h)
+some_of (Some y) h = (y, refl)
+
 module _ {L : Type 0} (loader : Ghosts L) (same : (l : L) → loader.tied l l) (operator : UserName) (a b : Views) where
   -- what is asked and answered of a name, by whether the host has the tree
   abbrev asked_for : (old new : L) (name : PathName) (answer : LoadAnswer) → Option SeenTree → Type 0
@@ -164,6 +213,19 @@ module _ {L : Type 0} (loader : Ghosts L) (same : (l : L) → loader.tied l l) (
 
   abbrev counted_for : (old new : L) (answer : LoadAnswer) → Option SeenTree → Type 0
   counted_for old new answer found = HasCause (loader.faults old) (loader.faults new) (list_any load_failed (answered_by_others found answer ++ []) ≡ true)
+
+  abbrev quiet_for : (old new : L) (answer : LoadAnswer) → Option SeenTree → Type 0
+  quiet_for old new answer found = StaysUnless (loader.faults old) (loader.faults new) (list_any load_failed (answered_by_others found answer ++ []) ≡ true)
+
+  -- nobody else was asked for a name whose owner's tree, or that of its base user, is the host's
+  asks_none : (old new : L) (name : PathName) (answer : LoadAnswer) (found : SeenTree) → tree_by a name.owner ≡ Some found → new ≡ old
+      → Asks loader.loads loader.faults loader.tied load_failed (group_question operator a) (group_answer a) old new ((name, answer) ∷ [])
+  asks_none old new name answer found is still = record {
+    asked = subst (asked_for old new name answer) (sym is) still;
+    counts = subst (counted_for old new answer) (sym is) (subst (λ l. HasCause (loader.faults old) (loader.faults l) (false ≡ true)) (sym still) (HasCause-same (loader.faults old) (false ≡ true) false≢true));
+    quiet = subst (quiet_for old new answer) (sym is) (subst (λ l. StaysUnless (loader.faults old) (loader.faults l) (false ≡ true)) (sym still) (StaysUnless-same (loader.faults old) (false ≡ true)));
+    tie = subst (λ l. loader.tied old l) (sym still) (same old);
+  }
 
   -- one name more
   pub gathered_one : (wanted : Loading → PathName → Type 0) (old new : L) (before : Loading) (name : PathName) (answer : LoadAnswer) → wanted before name
@@ -173,38 +235,72 @@ module _ {L : Type 0} (loader : Ghosts L) (same : (l : L) → loader.tied l l) (
     whole = refl;
     needed = (want, tt);
     own = (
-      (λ x y is_x is_y.
-          let r = same_some (a.tree name.owner) own.0 x own.2 is_x in
-          let s = same_some (b.tree name.owner) own.1 y own.3 is_y in
-          let k : Some answer ≡ Some other = is in
-          let t : other ≡ answer = cc in
-          subst (λ z. IsFromOwn operator z y (name, answer)) r (subst (λ z. IsFromOwn operator own.0 z (name, answer)) s (subst (λ z. IsFromOwn operator own.0 own.1 (name, z)) t own.4))),
+      (
+        (λ x y is_x is_y.
+            let r = same_some (a.tree name.owner) own.0 x own.2 is_x in
+            let s = same_some (b.tree name.owner) own.1 y own.3 is_y in
+            let k : Some answer ≡ Some other = is in
+            let t : other ≡ answer = cc in
+            subst (λ z. IsFromOwn operator z y (name, answer)) r (subst (λ z. IsFromOwn operator own.0 z (name, answer)) s (subst (λ z. IsFromOwn operator own.0 own.1 (name, z)) t own.4))),
+        (λ none there. let k : Some own.0 ≡ None = sym own.2 ∙ none in absurd (cc)),
+      ),
       tt,
     );
-    asks = record {
-      asked = subst (asked_for old new name answer) (sym own.2) still;
-      counts = subst (counted_for old new answer) (sym own.2) (subst (λ l. HasCause (loader.faults old) (loader.faults l) (false ≡ true)) (sym still) (HasCause-same (loader.faults old) (false ≡ true) false≢true));
-      tie = subst (λ l. loader.tied old l) (sym still) (same old);
-    };
+    asks = asks_none old new name answer own.0 (ap (λ found. option_or found (a.tree (log_owner name.owner))) own.2) still;
   }
-  gathered_one wanted old new before name answer want (NameLoaded.ByLoader none h) = record {
-    more = (name, answer) ∷ [];
-    whole = refl;
-    needed = (want, tt);
-    own = ((λ x y is_x is_y. let k : None ≡ Some x = sym none ∙ is_x in absurd (cc)), tt);
-    asks = record {
-      asked = subst (asked_for old new name answer) (sym none) (new, (h.given_is, refl));
-      counts = subst (counted_for old new answer) (sym none) (HasCause-for (loader.faults old) (loader.faults new) (load_failed (Some answer) ≡ true) _ (or_false (load_failed (Some answer))) h.counts);
-      tie = h.tie;
-    };
-  }
+  gathered_one wanted old new before name answer want (NameLoaded.ByUser is none there still) =
+      let k : Some answer ≡ Some loads.Missing = is in
+      let t : answer ≡ loads.Missing = cc in
+      let found = some_of (a.tree (log_owner name.owner)) there in
+      record {
+        more = (name, answer) ∷ [];
+        whole = refl;
+        needed = (want, tt);
+        own = (((λ x y is_x is_y. let m : None ≡ Some x = sym none ∙ is_x in absurd (cc)), (λ lacks has. t)), tt);
+        asks = asks_none old new name answer found.0 (ap (λ one. option_or one (a.tree (log_owner name.owner))) none ∙ found.1) still;
+      }
+  gathered_one wanted old new before name answer want (NameLoaded.ByLoader none lacks h) =
+      let nowhere : tree_by a name.owner ≡ None = ap (λ one. option_or one (a.tree (log_owner name.owner))) none ∙ lacks in
+      record {
+        more = (name, answer) ∷ [];
+        whole = refl;
+        needed = (want, tt);
+        own = (
+          (
+            (λ x y is_x is_y. let k : None ≡ Some x = sym none ∙ is_x in absurd (cc)),
+            (λ one there. absurd (false≢true (sym (ap is_some lacks) ∙ there))),
+          ),
+          tt,
+        );
+        asks = record {
+          asked = subst (asked_for old new name answer) (sym nowhere) (new, (h.given_is, refl));
+          counts = subst (counted_for old new answer) (sym nowhere) (HasCause-for (loader.faults old) (loader.faults new) (load_failed (Some answer) ≡ true) _ (or_false (load_failed (Some answer))) h.counts);
+          quiet = subst (quiet_for old new answer) (sym nowhere) (StaysUnless-more (loader.faults old) (loader.faults new) (load_failed (Some answer) ≡ true) _ h.quiet (ap (λ b. b || false)));
+          tie = h.tie;
+        };
+      }
   gathered_one wanted old new before name answer want (NameLoaded.Wanting is still) = let k : Some answer ≡ None = is in absurd (cc)
 
+  tries_still : (old new : L) → new ≡ old → Tries loader.loads loader.faults loader.tied old new
+  tries_still old new still = subst (λ l. Tries loader.loads loader.faults loader.tied old l) (sym still) (Tries-none loader.loads loader.faults loader.tied same old)
+
   pub tries_loaded : (old new : L) (name : PathName) (given : Option LoadAnswer) → NameLoaded loader operator a b old new name given → Tries loader.loads loader.faults loader.tied old new
-  tries_loaded old new name given (NameLoaded.ByTree answer is own still) = subst (λ l. Tries loader.loads loader.faults loader.tied old l) (sym still) (Tries-none loader.loads loader.faults loader.tied same old)
-  tries_loaded old new name given (NameLoaded.ByLoader none h) =
+  tries_loaded old new name given (NameLoaded.ByTree answer is own still) = tries_still old new still
+  tries_loaded old new name given (NameLoaded.ByUser is none there still) = tries_still old new still
+  tries_loaded old new name given (NameLoaded.ByLoader none lacks h) =
       Tries-one loader.loads loader.faults loader.tied old new (record { asker = operator; name = name }) given (load_failed given ≡ true) h.given_is h.counts h.tie
-  tries_loaded old new name given (NameLoaded.Wanting is still) = subst (λ l. Tries loader.loads loader.faults loader.tied old l) (sym still) (Tries-none loader.loads loader.faults loader.tied same old)
+  tries_loaded old new name given (NameLoaded.Wanting is still) = tries_still old new still
+
+-- what a longer call loaded: the trees that the host lacks at its end it lacked at its start
+pub loaded_since : {L : Type 0} (loader : Ghosts L) (operator : UserName) (a b : Views) → Later a b → (old new : L) (name : PathName) (given : Option LoadAnswer) → a.tree name.owner ≡ None → NameLoaded loader operator b b old new name given
+    → NameLoaded loader operator a b old new name given
+loaded_since loader operator a b later old new name given none (NameLoaded.ByTree answer is own still) =
+    let k : Some own.0 ≡ None = sym own.2 ∙ none_later (a.tree name.owner) (b.tree name.owner) (later.trees name.owner) none in absurd (cc)
+loaded_since loader operator a b later old new name given none (NameLoaded.ByUser is lacks there still) =
+    NameLoaded.ByUser is none (sym (as_there (a.tree (log_owner name.owner)) (b.tree (log_owner name.owner)) (later.trees (log_owner name.owner))) ∙ there) still
+loaded_since loader operator a b later old new name given none (NameLoaded.ByLoader here lacks h) =
+    NameLoaded.ByLoader none (none_before (a.tree (log_owner name.owner)) (b.tree (log_owner name.owner)) (later.trees (log_owner name.owner)) lacks) h
+loaded_since loader operator a b later old new name given none (NameLoaded.Wanting is still) = NameLoaded.Wanting is still
 
 -- ---- own records
 

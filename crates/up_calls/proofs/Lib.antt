@@ -13,3 +13,4 @@ pub mod Told
 pub mod StoreDone
 pub mod KeysDone
 pub mod SettledLemmas
+pub mod StepLemmas

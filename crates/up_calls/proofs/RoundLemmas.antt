@@ -1,14 +1,14 @@
 -- How rounds of loads go on.
 use Rattle.std.proofs.Common.{◌≡◌, ◌≢◌, ◌⊎◌, ◌≤◌, ◌<◌, ◌+◌, ◌-◌, ℕ, zero, suc, Bool, true, false, cond, List, [], ◌∷◌, ◌++◌, length, map, take, refl, inl, inr, sym, ap, subst, ◌∙◌, arith, add-one, append_assoc, append-nil, length-append, Option, Some, None, slice_get}
 use Rattle.std.specs.Prelude.{Contains}
-use Rattle.std.specs.List.{AllByRecursion, IsDistinct}
+use Rattle.std.specs.List.{AllByRecursion, IsDistinct, flat_map}
 use Rattle.std.specs.Map.{keys_of}
 use Rattle.std.proofs.lemmas.Bool.{false≢true}
 use Rattle.std.proofs.lemmas.List.{take_all}
 use Rattle.up_answers.specs.Needs.{needs}
 use Rattle.up_calls.proofs.NeedLemmas.{needs_more, needs_new}
 use Rattle.up_calls.proofs.PlaceLemmas.{places_listed}
-use Rattle.up_calls.specs.Rounds.{AddsFirst, AreNew, AreRounds, AreRoundsAlone, InRounds, InRoundsOver, IsMissing, IsRound, RoundMade, bound}
+use Rattle.up_calls.specs.Rounds.{AreNew, AreRound, AreRounds, AreRoundsOver, InRounds, InRoundsOver, IsMissing, IsRound, IsWhole, LoadedInRounds, LoadsFirst, LoadsRound, RoundMade, bound}
 use Rattle.up_names.specs.PathNames.{PathName}
 use Rattle.up_names.specs.PathOrder.{path_eq}
 use Rattle.up_names.specs.PathOrderLaws.{path_eq-Decides}
@@ -36,54 +36,52 @@ needed_new log user request names before is = record {
 -- ---- rounds
 
 module _ (missing : ℕ → Loading → List PathName) where
-  order : (from to : ℕ) (x : Loading) (rounds : List RoundMade) (y : Loading) → AreRounds missing from to x rounds y → from ≤ to
+  order : (from to : ℕ) (x : Loading) (rounds : List RoundMade) (y : Loading) → AreRoundsOver missing from to x rounds y → from ≤ to
   order from to x [] y h = h.0
-  order from to x (r ∷ rounds) y h = let k = order r.position to (x ++ r.more) rounds y h.1 in omega (arith, h.0.not_before, k)
+  order from to x (r ∷ rounds) y h = let k = order r.position to (x ++ r.round) rounds y h.1 in omega (arith, h.0.not_before, k)
 
   pub rounds_order : (from to : ℕ) (x y : Loading) → InRoundsOver missing from to x y → from ≤ to
   rounds_order from to x y h = order from to x h.rounds y h.made
 
-  earlier : (low from to : ℕ) (x : Loading) (rounds : List RoundMade) (y : Loading) → low ≤ from → AreRounds missing from to x rounds y → AreRounds missing low to x rounds y
+  earlier : (low from to : ℕ) (x : Loading) (rounds : List RoundMade) (y : Loading) → low ≤ from → AreRoundsOver missing from to x rounds y → AreRoundsOver missing low to x rounds y
   earlier low from to x [] y below h = (omega (arith, below, h.0), h.1)
-  earlier low from to x (r ∷ rounds) y below h = (record { not_before = omega (arith, below, h.0.not_before); some = h.0.some; few = h.0.few; names = h.0.names }, h.1)
+  earlier low from to x (r ∷ rounds) y below h = (record { not_before = omega (arith, below, h.0.not_before); is_round = h.0.is_round }, h.1)
 
   -- from an earlier position, and to a later one
   pub rounds_earlier : (low from to : ℕ) (x y : Loading) → low ≤ from → InRoundsOver missing from to x y → InRoundsOver missing low to x y
   rounds_earlier low from to x y below h = record { rounds = h.rounds; made = earlier low from to x h.rounds y below h.made }
 
-  until : (from to high : ℕ) (x : Loading) (rounds : List RoundMade) (y : Loading) → to ≤ high → AreRounds missing from to x rounds y → AreRounds missing from high x rounds y
+  until : (from to high : ℕ) (x : Loading) (rounds : List RoundMade) (y : Loading) → to ≤ high → AreRoundsOver missing from to x rounds y → AreRoundsOver missing from high x rounds y
   until from to high x [] y above h = (omega (arith, above, h.0), h.1)
-  until from to high x (r ∷ rounds) y above h = (h.0, until r.position to high (x ++ r.more) rounds y above h.1)
+  until from to high x (r ∷ rounds) y above h = (h.0, until r.position to high (x ++ r.round) rounds y above h.1)
 
   pub rounds_until : (from to high : ℕ) (x y : Loading) → to ≤ high → InRoundsOver missing from to x y → InRoundsOver missing from high x y
   rounds_until from to high x y above h = record { rounds = h.rounds; made = until from to high x h.rounds y above h.made }
 
-  next : (from to at : ℕ) (x : Loading) (rounds : List RoundMade) (y z : Loading) → to ≤ at → missing at y ≢ [] → length y ≢ bound → (round : IsRound (missing at y) y z) → AreRounds missing from to x rounds y
-      → AreRounds missing from at x (rounds ++ (record { position = at; more = round.more }) ∷ []) z
-  next from to at x [] y z above some few round h = (
+  next : (from to at : ℕ) (x : Loading) (rounds : List RoundMade) (y z : Loading) → to ≤ at → missing at y ≢ [] → length y < bound → (loads : LoadsRound (missing at y) y z) → AreRoundsOver missing from to x rounds y
+      → AreRoundsOver missing from at x (rounds ++ (record { position = at; round = loads.round }) ∷ []) z
+  next from to at x [] y z above some room loads h = (
     record {
       not_before = omega (arith, above, h.0);
-      some = subst (λ l. missing at l ≢ []) h.1 some;
-      few = subst (λ l. length l ≢ bound) h.1 few;
-      names = subst (λ l. keys_of round.more ≡ take (bound - length l) (missing at l)) h.1 round.names;
+      is_round = subst (λ l. IsRound (missing at l) l loads.round) h.1 (record { some = some; room = room; names_are = loads.names_are });
     },
-    (omega arith, round.whole ∙ ap (λ l. l ++ round.more) h.1),
+    (omega arith, loads.whole ∙ ap (λ l. l ++ loads.round) h.1),
   )
-  next from to at x (r ∷ rounds) y z above some few round h = (h.0, next r.position to at (x ++ r.more) rounds y z above some few round h.1)
+  next from to at x (r ∷ rounds) y z above some room loads h = (h.0, next r.position to at (x ++ r.round) rounds y z above some room loads h.1)
 
   -- one round more
-  pub rounds_next : (from to at : ℕ) (x y z : Loading) → to ≤ at → missing at y ≢ [] → length y ≢ bound → IsRound (missing at y) y z → InRoundsOver missing from to x y → InRoundsOver missing from at x z
-  rounds_next from to at x y z above some few round h = record {
-    rounds = h.rounds ++ (record { position = at; more = round.more }) ∷ [];
-    made = next from to at x h.rounds y z above some few round h.made;
+  pub rounds_next : (from to at : ℕ) (x y z : Loading) → to ≤ at → missing at y ≢ [] → length y < bound → LoadsRound (missing at y) y z → InRoundsOver missing from to x y → InRoundsOver missing from at x z
+  rounds_next from to at x y z above some room loads h = record {
+    rounds = h.rounds ++ (record { position = at; round = loads.round }) ∷ [];
+    made = next from to at x h.rounds y z above some room loads h.made;
   }
 
-made_for : (missing other : ℕ → Loading → List PathName) (from to : ℕ) (x : Loading) (rounds : List RoundMade) (y : Loading) → ((k : ℕ) → k ≤ to → missing k ≡ other k) → AreRounds missing from to x rounds y → AreRounds other from to x rounds y
+made_for : (missing other : ℕ → Loading → List PathName) (from to : ℕ) (x : Loading) (rounds : List RoundMade) (y : Loading) → ((k : ℕ) → k ≤ to → missing k ≡ other k) → AreRoundsOver missing from to x rounds y → AreRoundsOver other from to x rounds y
 made_for missing other from to x [] y alike h = h
 made_for missing other from to x (r ∷ rounds) y alike h =
-    let is : missing r.position x ≡ other r.position x = ap (λ f. f x) (alike r.position (order missing r.position to (x ++ r.more) rounds y h.1)) in (
-      record { not_before = h.0.not_before; some = subst (λ names. names ≢ []) is h.0.some; few = h.0.few; names = subst (λ names. keys_of r.more ≡ take (bound - length x) names) is h.0.names },
-      made_for missing other r.position to (x ++ r.more) rounds y alike h.1,
+    let is : missing r.position x ≡ other r.position x = ap (λ f. f x) (alike r.position (order missing r.position to (x ++ r.round) rounds y h.1)) in (
+      record { not_before = h.0.not_before; is_round = subst (λ names. IsRound names x r.round) is h.0.is_round },
+      made_for missing other r.position to (x ++ r.round) rounds y alike h.1,
     )
 
 -- what is missing over as many records is the same
@@ -91,26 +89,34 @@ pub rounds_for : (missing other : ℕ → Loading → List PathName) (from to : 
 rounds_for missing other from to x y alike h = record { rounds = h.rounds; made = made_for missing other from to x h.rounds y alike h.made }
 
 -- where the log stays as it is, all rounds are over the same records
-alone : (missing : ℕ → Loading → List PathName) (n from to : ℕ) (x : Loading) (rounds : List RoundMade) (y : Loading) → n ≤ from → to ≤ n → AreRounds missing from to x rounds y
-    → AreRoundsAlone (missing n) x (map (λ (r : RoundMade). r.more) rounds) y
-alone missing n from to x [] y low high h = h.1
-alone missing n from to x (r ∷ rounds) y low high h =
-    let within : r.position ≤ to = order missing r.position to (x ++ r.more) rounds y h.1 in
+alone : (missing : ℕ → Loading → List PathName) (n from to : ℕ) (x : Loading) (rounds : List RoundMade) (y : Loading) → n ≤ from → to ≤ n → IsWhole (missing n y) y → AreRoundsOver missing from to x rounds y
+    → AreRounds (missing n) x (map (λ (r : RoundMade). r.round) rounds)
+alone missing n from to x [] y low high ends h = subst (λ l. IsWhole (missing n l) l) h.1 ends
+alone missing n from to x (r ∷ rounds) y low high ends h =
+    let within : r.position ≤ to = order missing r.position to (x ++ r.round) rounds y h.1 in
     let starts : from ≤ r.position = h.0.not_before in
     let here : r.position ≡ n = omega (arith, within, low, high, starts) in (
-      subst (λ k. missing k x ≢ []) here h.0.some,
-      h.0.few,
-      subst (λ k. keys_of r.more ≡ take (bound - length x) (missing k x)) here h.0.names,
-      alone missing n r.position to (x ++ r.more) rounds y (omega (arith, low, starts)) high h.1,
+      subst (λ k. IsRound (missing k x) x r.round) here h.0.is_round,
+      alone missing n r.position to (x ++ r.round) rounds y (omega (arith, low, starts)) high ends h.1,
     )
 
-pub rounds_alone : (missing : ℕ → Loading → List PathName) (n from to : ℕ) (x y : Loading) → n ≤ from → to ≤ n → InRoundsOver missing from to x y → InRounds (missing n) x y
-rounds_alone missing n from to x y low high h = record { rounds = map (λ (r : RoundMade). r.more) h.rounds; made = alone missing n from to x h.rounds y low high h.made }
+all_of : (missing : ℕ → Loading → List PathName) (from to : ℕ) (x : Loading) (rounds : List RoundMade) (y : Loading) → AreRoundsOver missing from to x rounds y
+    → y ≡ x ++ flat_map (λ (round : Loading). round) (map (λ (r : RoundMade). r.round) rounds)
+all_of missing from to x [] y h = h.1 ∙ sym (append-nil x)
+all_of missing from to x (r ∷ rounds) y h =
+    all_of missing r.position to (x ++ r.round) rounds y h.1 ∙ append_assoc x r.round (flat_map (λ (round : Loading). round) (map (λ (r : RoundMade). r.round) rounds))
+
+pub rounds_alone : (missing : ℕ → Loading → List PathName) (n : ℕ) (loaded : Loading) → LoadedInRounds missing n n loaded → InRounds (missing n) [] loaded
+rounds_alone missing n loaded h = record {
+  rounds = map (λ (r : RoundMade). r.round) h.rounds.rounds;
+  whole = all_of missing n n [] h.rounds.rounds loaded h.rounds.made;
+  each = alone missing n n n [] h.rounds.rounds loaded (omega arith) (omega arith) h.whole h.rounds.made;
+}
 
 -- ---- one round, name by name
 
-pub adds_none : (names : List PathName) (before : Loading) → AddsFirst 0 names before before
-adds_none names before = record { more = []; whole = sym (append-nil before); long = refl; added = refl }
+pub adds_none : (names : List PathName) (before : Loading) → LoadsFirst 0 names before before
+adds_none names before = record { more = []; whole = sym (append-nil before); long = refl; names_are = refl }
 
 take-next : {X : Type 0} (xs : List X) (i : ℕ) (x : X) → slice_get xs i ≡ Some x → take (suc i) xs ≡ take i xs ++ x ∷ []
 take-next [] i x h = absurd (cc)
@@ -131,30 +137,30 @@ take_most (suc n) [] = omega arith
 take_most (suc n) (x ∷ xs) = let rest : length (take n xs) ≤ n = take_most n xs in omega (arith, rest)
 
 pub adds_next : (names : List PathName) (i : ℕ) (name : PathName) (answer : LoadAnswer) (old now new : Loading) → slice_get names i ≡ Some name → new ≡ now ++ (name, answer) ∷ []
-    → AddsFirst i names old now → AddsFirst (i + 1) names old new
+    → LoadsFirst i names old now → LoadsFirst (i + 1) names old new
 adds_next names i name answer old now new at is h = record {
   more = h.more ++ (name, answer) ∷ [];
   whole = is ∙ ap (λ xs. xs ++ (name, answer) ∷ []) h.whole ∙ append_assoc old h.more ((name, answer) ∷ []);
   long = let l : length (h.more ++ (name, answer) ∷ []) ≡ length h.more + 1 = length-append h.more ((name, answer) ∷ []) in omega (arith, l, h.long);
-  added = keys-append h.more ((name, answer) ∷ []) ∙ ap (λ ks. ks ++ name ∷ []) h.added ∙ sym (ap (λ n. take n names) (add-one i) ∙ take-next names i name at);
+  names_are = keys-append h.more ((name, answer) ∷ []) ∙ ap (λ ks. ks ++ name ∷ []) h.names_are ∙ sym (ap (λ n. take n names) (add-one i) ∙ take-next names i name at);
 }
 
-pub adds_length : (names : List PathName) (i : ℕ) (old now : Loading) → AddsFirst i names old now → length now ≡ length old + i
+pub adds_length : (names : List PathName) (i : ℕ) (old now : Loading) → LoadsFirst i names old now → length now ≡ length old + i
 adds_length names i old now h = let l : length now ≡ length old + length h.more = ap length h.whole ∙ length-append old h.more in omega (arith, l, h.long)
 
 -- all were added, or as many as there was room for
-pub round_ends : (names : List PathName) (i : ℕ) (old now : Loading) → length now ≤ bound → (length names ≤ i ⊎ (length now ≡ bound)) → AddsFirst i names old now → IsRound names old now
+pub round_ends : (names : List PathName) (i : ℕ) (old now : Loading) → length now ≤ bound → (length names ≤ i ⊎ (length now ≡ bound)) → LoadsFirst i names old now → LoadsRound names old now
 round_ends names i old now few (inl all) h = record {
-  more = h.more;
+  round = h.more;
   whole = h.whole;
-  names = let l = adds_length names i old now h in
-      h.added ∙ take_all i names all ∙ sym (take_all (bound - length old) names (omega (arith, l, few, all)));
+  names_are = let l = adds_length names i old now h in
+      h.names_are ∙ take_all i names all ∙ sym (take_all (bound - length old) names (omega (arith, l, few, all)));
 }
 round_ends names i old now few (inr full) h = record {
-  more = h.more;
+  round = h.more;
   whole = h.whole;
-  names = let l = adds_length names i old now h in
-      h.added ∙ ap (λ n. take n names) (let k : i ≡ bound - length old = omega (arith, l, full) in k);
+  names_are = let l = adds_length names i old now h in
+      h.names_are ∙ ap (λ n. take n names) (let k : i ≡ bound - length old = omega (arith, l, full) in k);
 }
 
 -- ---- a name that is not loaded yet
@@ -194,29 +200,29 @@ none_before (y ∷ names) (suc i) (pair ∷ more) name apart same at =
     let differs : path_eq y name ≡ false = at_place (λ z. path_eq y z ≡ false) names i name apart.0 at in
     ap (λ b. cond b (Some pair.1) (answer_for more name)) (ap (path_eq name) first ∙ differs_too name y differs) ∙ none_before names i more name apart.1 rest at
 
-pub new_still : (names : List PathName) (i : ℕ) (name : PathName) (old now : Loading) → IsDistinct path_eq names → AreNew names old → AddsFirst i names old now → slice_get names i ≡ Some name → answer_for now name ≡ None
+pub new_still : (names : List PathName) (i : ℕ) (name : PathName) (old now : Loading) → IsDistinct path_eq names → AreNew names old → LoadsFirst i names old now → slice_get names i ≡ Some name → answer_for now name ≡ None
 new_still names i name old now apart fresh h at =
-    ap (λ l. answer_for l name) h.whole ∙ none_append old h.more name (fresh.new name (Contains-at names i name at)) (none_before names i h.more name apart h.added at)
+    ap (λ l. answer_for l name) h.whole ∙ none_append old h.more name (fresh.new name (Contains-at names i name at)) (none_before names i h.more name apart h.names_are at)
 
-pub missing_still : (names : List PathName) (i : ℕ) (name : PathName) (old now : Loading) → IsDistinct path_eq names → AreNew names old → AddsFirst i names old now → slice_get names i ≡ Some name → IsMissing names now name
+pub missing_still : (names : List PathName) (i : ℕ) (name : PathName) (old now : Loading) → IsDistinct path_eq names → AreNew names old → LoadsFirst i names old now → slice_get names i ≡ Some name → IsMissing names now name
 missing_still names i name old now apart fresh h at = (Contains-at names i name at, new_still names i name old now apart fresh h at)
 
 -- a round adds a name where something is missing and there is room
-pub round_grows : (names : List PathName) (before after : Loading) → names ≢ [] → length before ≤ bound → length before ≢ bound → IsRound names before after → length before < length after
+pub round_grows : (names : List PathName) (before after : Loading) → names ≢ [] → length before ≤ bound → length before ≢ bound → LoadsRound names before after → length before < length after
 round_grows [] before after some few room h = absurd (some refl)
-round_grows (name ∷ names) before after some few room h = by (bound - length before) refl (keys_length h.more ∙ ap length h.names)
+round_grows (name ∷ names) before after some few room h = by (bound - length before) refl (keys_length h.round ∙ ap length h.names_are)
   where
-    whole : length after ≡ length before + length h.more
-    whole = ap length h.whole ∙ length-append before h.more
+    whole : length after ≡ length before + length h.round
+    whole = ap length h.whole ∙ length-append before h.round
 
-    by : (n : ℕ) → bound - length before ≡ n → length h.more ≡ length (take n (name ∷ names)) → length before < length after
+    by : (n : ℕ) → bound - length before ≡ n → length h.round ≡ length (take n (name ∷ names)) → length before < length after
     by zero e k = absurd (room (omega (arith, few, e)))
     by (suc n) e k = let l : length (take (suc n) (name ∷ names)) ≡ length (take n names) + 1 = omega arith in omega (arith, whole, k, l)
 
 -- and leaves no more than the bound
-pub round_few : (names : List PathName) (before after : Loading) → length before ≤ bound → IsRound names before after → length after ≤ bound
+pub round_few : (names : List PathName) (before after : Loading) → length before ≤ bound → LoadsRound names before after → length after ≤ bound
 round_few names before after few h =
-    let whole : length after ≡ length before + length h.more = ap length h.whole ∙ length-append before h.more in
-    let keys : length h.more ≡ length (take (bound - length before) names) = keys_length h.more ∙ ap length h.names in
+    let whole : length after ≡ length before + length h.round = ap length h.whole ∙ length-append before h.round in
+    let keys : length h.round ≡ length (take (bound - length before) names) = keys_length h.round ∙ ap length h.names_are in
     let most : length (take (bound - length before) names) ≤ bound - length before = take_most (bound - length before) names in
     omega (arith, whole, keys, most, few)

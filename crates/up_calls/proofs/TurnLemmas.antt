@@ -1,5 +1,5 @@
 -- How a request to a tree goes on, turn by turn, while others may write to the logs.
-use Rattle.std.proofs.Common.{◌≡◌, ◌≢◌, ◌⊎◌, ◌≤◌, ◌+◌, ℕ, Bool, true, false, List, [], ◌∷◌, ◌++◌, length, take, refl, inl, inr, sym, ap, subst, ◌∙◌, arith, bytes_eq, Option, Some, None, slice_get}
+use Rattle.std.proofs.Common.{◌≡◌, ◌≢◌, ◌⊎◌, ◌≤◌, ◌<◌, ◌+◌, ℕ, Bool, true, false, List, [], ◌∷◌, ◌++◌, length, take, refl, inl, inr, sym, ap, subst, ◌∙◌, arith, bytes_eq, Option, Some, None, slice_get}
 use Rattle.std.specs.Prelude.{Contains, is_some}
 use Rattle.std.specs.List.{IsDistinct}
 use Rattle.std.specs.Map.{keys_of}
@@ -14,7 +14,7 @@ use Rattle.up_calls.specs.Answered.{TreeAnswered}
 use Rattle.up_calls.specs.Asks.{Asks, EachAfter}
 use Rattle.up_calls.specs.Gathered.{Gathered, HasRounds, IsWanted, missing_over}
 use Rattle.up_calls.specs.Loads.{OwnTexts, Pair, group_answer, group_question, load_failed}
-use Rattle.up_calls.specs.Rounds.{IsMissing, IsRound, bound}
+use Rattle.up_calls.specs.Rounds.{IsMissing, IsWhole, LoadedInRounds, LoadsRound, bound}
 use Rattle.up_calls.specs.Routes.{LogName, OwnStays, Question}
 use Rattle.up_calls.specs.Told.{IsSaid, IsSaidToFail, Misses, TreeTold}
 use Rattle.up_calls.specs.Turns.{Recorded}
@@ -178,9 +178,9 @@ module _ {L : Type 0} (loader : Ghosts L) (joined : (x y z : L) → loader.tied 
       (λ more name h. wanted_later a c d owner q past (loaded ++ more) name (missing_wanted a b c owner q v w to is_v is_w loaded names missing more name h)) two)
 
 -- one round more
-pub round_made : (a b c d : Views) (owner : UserName) (q : Question) (v w : SeenTree) → Later a b → Later b c → Later c d → b.tree owner ≡ Some v → c.tree owner ≡ Some w → (loaded after : Loading) (names : List PathName) → Misses v w q loaded names
-    → IsRound names loaded after → HasRounds a b owner q loaded → HasRounds a d owner q after
-round_made a b c d owner q v w to on past is_v is_w loaded after names missing round h =
+pub round_made : (a b c d : Views) (owner : UserName) (q : Question) (v w : SeenTree) → Later a b → Later b c → Later c d → b.tree owner ≡ Some v → c.tree owner ≡ Some w → (loaded after : Loading) (names : List PathName) → length loaded < bound → Misses v w q loaded names
+    → LoadsRound names loaded after → HasRounds a b owner q loaded → HasRounds a d owner q after
+round_made a b c d owner q v w to on past is_v is_w loaded after names room missing round h =
     let x = is_there (c.tree owner) (d.tree owner) w (past.trees owner) is_w in
     let here : h.w ≡ v = same_some (b.tree owner) h.w v h.after is_v in
     let grown : LaterSeen h.w w = subst (λ z. LaterSeen z w) (sym here) (tree_later b c owner v w on is_v is_w) in
@@ -195,8 +195,8 @@ round_made a b c d owner q v w to on past is_v is_w loaded after names missing r
       position = missing.position;
       within = omega (arith, missing.to, more);
       rounds = rounds_for (missing_over w q) (missing_over x.0 q) (length h.v.seen) missing.position [] after (λ k low. missing_later w x.0 q k x.2 (omega (arith, low, missing.to)))
-          (rounds_next (missing_over w q) (length h.v.seen) h.position missing.position [] loaded after (omega (arith, h.within, from)) (subst (λ ns. ns ≢ []) missing.needed missing.some) missing.few
-          (subst (λ ns. IsRound ns loaded after) missing.needed round)
+          (rounds_next (missing_over w q) (length h.v.seen) h.position missing.position [] loaded after (omega (arith, h.within, from)) (subst (λ ns. ns ≢ []) missing.needed missing.some) room
+          (subst (λ ns. LoadsRound ns loaded after) missing.needed round)
           (rounds_for (missing_over h.w q) (missing_over w q) (length h.v.seen) h.position [] loaded (λ k low. missing_later h.w w q k grown (omega (arith, low, h.within))) h.rounds));
     }
 
@@ -245,9 +245,12 @@ module _ {L : Type 0} (loader : Ghosts L) (operator : UserName) (owner : UserNam
               );
           ended = told.told.1.enough;
         };
-        rounds = rounds_until (missing_over told.w q) (length h.v.seen) h.position position [] loaded (omega (arith, within, low))
-            (rounds_for (missing_over h.w q) (missing_over told.w q) (length h.v.seen) h.position [] loaded
-            (λ k below. ap (λ (z : SeenTree). missing_over z q k) here ∙ missing_later told.v told.w q k grown (omega (arith, below, within))) h.rounds);
+        rounds = record {
+          rounds = rounds_until (missing_over told.w q) (length h.v.seen) h.position position [] loaded (omega (arith, within, low))
+              (rounds_for (missing_over h.w q) (missing_over told.w q) (length h.v.seen) h.position [] loaded
+              (λ k below. ap (λ (z : SeenTree). missing_over z q k) here ∙ missing_later told.v told.w q k grown (omega (arith, below, within))) h.rounds);
+          whole = record { enough = told.told.1.enough };
+        };
         few = few;
         texts = subst (OwnTexts operator a c) (sym gathered.whole) (own_texts_later operator a b c on gathered.more gathered.own);
         asks = subst (Asks loader.loads loader.faults loader.tied load_failed (group_question operator a) (group_answer a) x y) (sym gathered.whole) gathered.asks;
@@ -274,7 +277,7 @@ module _ {L : Type 0} (loader : Ghosts L) (operator : UserName) (owner : UserNam
           stood = λ i pair at. let s = h.loading.stood i pair at in (s.0, omega (arith, longer, s.1), s.2, s.3);
           ended = h.loading.ended;
         };
-        rounds = rounds_earlier (missing_over h.w q) (length u.0.seen) (length h.v.seen) e.position [] e.loaded longer h.rounds;
+        rounds = record { rounds = rounds_earlier (missing_over h.w q) (length u.0.seen) (length h.v.seen) e.position [] e.loaded longer h.rounds.rounds; whole = h.rounds.whole };
         few = h.few;
         texts = own_texts_earlier operator a b c to e.loaded h.texts;
         asks = asks_before loader operator a b to x y e.loaded h.asks;

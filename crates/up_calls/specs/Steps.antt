@@ -1,5 +1,5 @@
 -- What is done in one turn of one log, over its state. This project's own.
-use Rattle.std.specs.Prelude.{◌≡◌, ◌≢◌, ◌≤◌, ◌⊎◌, ℕ, List, [], length, Option, Some, None, Result, Ok, Err}
+use Rattle.std.specs.Prelude.{◌≡◌, ◌≢◌, ◌≤◌, ◌⊎◌, ◌+◌, ◌++◌, ◌∷◌, ℕ, List, [], length, Option, Some, None, Result, Ok, Err}
 use Rattle.up_adding.specs.Steps.{IsApplied, Steps}
 use Rattle.up_answers.specs.Answers.{added, answer}
 use Rattle.up_answers.specs.Fetching.{Fetched}
@@ -13,6 +13,7 @@ use Rattle.up_calls.specs.Routes.{Question}
 use Rattle.up_calls.specs.Rounds.{IsWhole, bound}
 use Rattle.up_calls.specs.Services.{KeysSay, StoreSays, key_fault, key_leads, store_fault, store_leads}
 use Rattle.up_calls.specs.Settled.{KeepsSettled}
+use Rattle.up_calls.specs.Views.{Seen}
 use Rattle.up_calls.specs.declared.logs.Turn.{Turn}
 use Rattle.up_calls.specs.declared.logs.Turn.TheVariants as turn
 use Rattle.up_disk.specs.declared.disk.Disk.{Ghosts}
@@ -28,6 +29,17 @@ use Rattle.up_tree.specs.States.{State, log_of}
 use Rattle.up_wire.specs.declared.keys.KeyRecord.{KeyRecord}
 use Rattle.up_wire.specs.declared.replies.Reply.{Reply}
 use Rattle.up_wire.specs.declared.replies.Reply.TheVariants as reply
+
+-- ---- any log
+
+-- What a turn of a log left of what its caller has: all of the log was seen, and a record that came is an own one. `rises` says how
+-- whoever has the logs counts that its disk failed.
+pub record Takes {E F : Type 0} (before after : List E) (v w : Seen E F) (faults_before faults_after : ℕ) (rises : Type 0) : Type 0 where
+  pub from : length v.seen ≤ length before
+  pub seen : w.seen ≡ after
+  pub same : after ≡ before → w.own ≡ v.own
+  pub one : (x : E) → after ≡ before ++ x ∷ [] → w.own ≡ v.own ++ (length before + 1) ∷ []
+  pub rose : Rose faults_before faults_after → Rose v.failed w.failed × rises
 
 -- ---- a tree
 
@@ -86,11 +98,13 @@ BlockRead disks old new reference given = GivenBy old.log reference given ⊎ ((
 -- The store answered, over so many records.
 pub record StoreTried {D : Type 0} (disks : Ghosts D) (operator : UserName) (q : Question) (old new : LogState D BlockRecord) (said : Reply) (position : ℕ) : Type 0 where
   pub done : IsDone StoreSays (store_fault q.request) (store_leads operator q.user q.request old.limits old.log) old.log new.log (disks.faults old.disk) (disks.faults new.disk) said
+  pub rose : said ≡ reply.Io → Rose (disks.faults old.disk) (disks.faults new.disk)
   pub stays : KeepsSettled disks old new
   pub position_is : position ≡ length old.log
 
 -- so did the keys
 pub record KeysTried {D : Type 0} (disks : Ghosts D) (q : Question) (old new : LogState D KeyRecord) (said : Reply) (position : ℕ) : Type 0 where
   pub done : IsDone (λ log. KeysSay) (key_fault q.request) (key_leads q.user q.request old.limits old.log) old.log new.log (disks.faults old.disk) (disks.faults new.disk) said
+  pub rose : said ≡ reply.Io → Rose (disks.faults old.disk) (disks.faults new.disk)
   pub stays : KeepsSettled disks old new
   pub position_is : position ≡ length old.log

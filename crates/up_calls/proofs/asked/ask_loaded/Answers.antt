@@ -1,4 +1,4 @@
-use Rattle.std.proofs.Common.{◌≡◌, ◌≢◌, ◌≤◌, [], None, Some, arith, length, refl, subst, sym, ◌∙◌}
+use Rattle.std.proofs.Common.{◌≡◌, ◌≢◌, ◌≤◌, ◌<◌, [], None, Some, arith, length, refl, subst, sym, ◌∙◌}
 use Rattle.up_calls.proofs.AsksLemmas.{Tries-Asks, Tries-trans}
 use Rattle.up_calls.proofs.GatherLemmas.{gathered_none, stays_same, stays_trans}
 use Rattle.up_calls.proofs.RoundLemmas.{needed_new, round_few, round_grows}
@@ -9,7 +9,11 @@ use Rattle.up_calls.specs.Rounds.{IsMissing, bound}
 use Rattle.up_calls.specs.Routes.{LogName, Question}
 use Rattle.up_calls.specs.Told.{TreeTold, answered_at}
 use Rattle.up_calls.specs.Views.{log_after}
+use Rattle.up_policy.specs.Loadings.{Loading}
 use Rattle.up_calls.proofs.asked.ask_loaded.Goals as goal
+
+less : (loaded : Loading) → length loaded ≤ bound → length loaded ≢ bound → length loaded < bound
+less loaded few room = omega (arith, few, room)
 
 pub loop-reply-init : goal.loop-reply-init
 loop-reply-init g c =
@@ -50,7 +54,7 @@ loop-reply-preserved g c =
     record {
       gathered = round_gathered g.L.Loader g.met.L.Loader.joined op c.args.owner.now q a b d e told.v told.w to on past told.before told.after c.args.loader.now c.loop-reply.loader c.gather_round.new.loader c.loop-reply.loaded c.gather_round.new.loaded names told.told.0
           c.loop-reply.invariant.gathered gathered;
-      rounds = round_made a b d e c.args.owner.now q told.v told.w to on past told.before told.after c.loop-reply.loaded c.gather_round.new.loaded names told.told.0 c.in_ok-gather_round-in-Missing.ensures.round c.loop-reply.invariant.rounds;
+      rounds = round_made a b d e c.args.owner.now q told.v told.w to on past told.before told.after c.loop-reply.loaded c.gather_round.new.loaded names (less c.loop-reply.loaded c.loop-reply.invariant.few told.told.0.few) told.told.0 c.in_ok-gather_round-in-Missing.ensures.round c.loop-reply.invariant.rounds;
       few = round_few names c.loop-reply.loaded c.gather_round.new.loaded c.loop-reply.invariant.few c.in_ok-gather_round-in-Missing.ensures.round;
       own = stays_trans None a b e c.loop-reply.invariant.own
           (stays_trans None b d e (own_quiet b d c.args.owner.now told.v told.w told.before told.after (g.met.B.Logs.stays who c.loop-reply.logs c.ask_tree.new.self c.ask_tree.ensures.tie) told.told.1)

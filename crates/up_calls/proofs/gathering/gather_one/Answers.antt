@@ -1,4 +1,6 @@
-use Rattle.std.proofs.Common.{refl, subst}
+use Rattle.std.proofs.Common.{None, refl, subst}
+use Rattle.std.specs.Result.{result_ok}
+use Rattle.up_calls.proofs.GatherLemmas.{loaded_by, loaded_since, none_later}
 use Rattle.up_calls.specs.Gathered.{NameLoaded, OwnText}
 use Rattle.up_calls.proofs.gathering.gather_one.Goals as goal
 
