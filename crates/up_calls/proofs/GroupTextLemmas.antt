@@ -10,7 +10,7 @@ use Rattle.up_entry.specs.declared.fault.EntryFault.{EntryFault}
 use Rattle.up_entry.specs.declared.fault.EntryFault.TheVariants.{Invalid}
 use Rattle.up_entry.specs.declared.records.Rec.{Rec}
 use Rattle.up_entry.specs.declared.what.What.TheVariants as what
-use Rattle.up_host.specs.Loads.{group_text_answer}
+use Rattle.up_calls.specs.Loads.{group_text_answer}
 use Rattle.up_list.specs.Asking.{asked_of}
 use Rattle.up_list.specs.Changes.{answer_of}
 use Rattle.up_list.specs.Looks.{look_now}

@@ -1,6 +1,6 @@
 use Rattle.std.proofs.Common.{◌≡◌, [], sym, ap, ◌∙◌}
-use Rattle.up_host.proofs.GroupTextLemmas.{group_text_is, no_group}
-use Rattle.up_host.proofs.loading.group_text_of.Goals as goal
+use Rattle.up_calls.proofs.GroupTextLemmas.{group_text_is, no_group}
+use Rattle.up_calls.proofs.loads.group_text_of.Goals as goal
 use Rattle.up_list.specs.Looks.{look_now}
 use Rattle.up_list.specs.Reads.{group_text_reply}
 use Rattle.up_tree.specs.States.{log_of}

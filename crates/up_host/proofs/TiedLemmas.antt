@@ -1,0 +1,326 @@
+-- What every call leaves of a host that is not shared.
+use Rattle.std.proofs.Common.{◌≡◌, ◌≢◌, ◌≤◌, ◌<◌, ◌+◌, ℕ, zero, suc, Bool, true, false, cond, List, [], ◌∷◌, ◌++◌, length, take, map, refl, sym, ap, subst, ◌∙◌, arith, append-nil, Option, Some, None, option_map, slice_get, slice_set, bytes_eq}
+use Rattle.std.specs.Prelude.{is_some, position}
+use Rattle.std.specs.List.{sum_by}
+use Rattle.std.proofs.Math.Seq.{take-length}
+use Rattle.std.proofs.lemmas.Bool.{false≢true}
+use Rattle.std.proofs.lemmas.Slice.Eq.{bytes_eq-Decides}
+use Rattle.up_blocks.specs.Blocks as blocks
+use Rattle.up_blocks.specs.declared.record.BlockRecord.{BlockRecord}
+use Rattle.up_calls.proofs.SettledLemmas.{settled_same}
+use Rattle.up_calls.proofs.GatherLemmas.{is_there, stays_same, stays_trans}
+use Rattle.up_calls.proofs.TurnLemmas.{later_trans, stays_more}
+use Rattle.up_calls.specs.Gathered.{OwnText}
+use Rattle.up_calls.specs.Loads.{group_text_answer, load_of}
+use Rattle.up_calls.specs.Routes.{LogName, OwnStays}
+use Rattle.up_calls.specs.Settled.{KeepsSettled}
+use Rattle.up_calls.specs.Steps.{Takes}
+use Rattle.up_calls.specs.Views.{Later, LaterSeen, LaterTree, Seen, SeenTree, Views, own_of}
+use Rattle.up_disk.specs.declared.disk.Disk.{Ghosts}
+use Rattle.up_ends.specs.Growing.{OnlyGrows}
+use Rattle.up_host.proofs.AloneLemmas.{grown_own, positions_next}
+use Rattle.up_host.proofs.PlaceLemmas.{find_other, found_at, found_is, found_set}
+use Rattle.up_host.proofs.SettledLemmas.{host_keys, host_same, host_store, host_tree, stays_then}
+use Rattle.up_host.proofs.SumLemmas.{sum_most, sum_set}
+use Rattle.up_host.specs.Alone.{AddsOwn, HostState, disk_faults, ends_at, is_of, positions, tree_for, tree_view, view_of, views}
+use Rattle.up_host.specs.Tied.{DiskRose, IsTied}
+use Rattle.up_host.specs.declared.held.Held.{Held}
+use Rattle.up_journal.specs.Logs.{LogState}
+use Rattle.up_keys.specs.Keys as keys
+use Rattle.up_lists.proofs.BeginsLemmas.{length-Begins}
+use Rattle.up_lists.proofs.Causes.{Rose-after, Rose-before}
+use Rattle.up_lists.specs.Counts.{Rose}
+use Rattle.up_names.specs.PathNames.{PathName}
+use Rattle.up_names.specs.Texts.{UserName}
+use Rattle.up_policy.specs.declared.load_answer.LoadAnswer.{LoadAnswer}
+use Rattle.up_tree.specs.States.{State, entries_of, fixed_of, log_of, over_journal}
+use Rattle.up_wire.specs.declared.keys.KeyRecord.{KeyRecord}
+
+-- ---- one log
+
+pub later_tree : (view : Option SeenTree) → LaterTree view view
+later_tree None = tt
+later_tree (Some v) = record { begins = record { rest = []; whole = append-nil v.seen }; failed = omega arith; fixed = refl }
+
+seen_same : {E F : Type 0} (v : Seen E F) → LaterSeen v v
+seen_same v = record { begins = record { rest = []; whole = append-nil v.seen }; failed = omega arith; fixed = refl }
+
+adds_both : {E F : Type 0} (u v w : Seen E F) → AddsOwn u v → AddsOwn v w → AddsOwn u w
+adds_both u v w one two = omega (arith, one, two)
+
+same_view : (x : Option SeenTree) (v w : SeenTree) → x ≡ Some v → x ≡ Some w → AddsOwn v w
+same_view x v w p q =
+    let k : Some v ≡ Some w = sym p ∙ q in
+    let same : v ≡ w = cc in
+    subst (AddsOwn v) same refl
+
+-- where no own record came, and none but own ones come, the log is as long
+as_long : {E F : Type 0} (v w : Seen E F) → AddsOwn v w → w.own ≡ v.own → length v.seen ≡ length w.seen
+as_long v w grown same = let k = ap length same in omega (arith, grown, k)
+
+-- what a turn of a log of a host takes
+pub took_view : {E F : Type 0} (before after : List E) (base failed_before failed_after : ℕ) (fixed_before fixed_after : F) (rises : Type 0) → base ≤ length before → (Rose failed_before failed_after → rises)
+    → Takes before after (view_of before base failed_before fixed_before) (view_of after base failed_after fixed_after) failed_before failed_after rises
+took_view before after base failed_before failed_after fixed_before fixed_after rises fits up = record {
+  from = omega arith;
+  seen = refl;
+  same = λ h. ap (λ (xs : List _). positions base (length xs)) h;
+  one = λ x h. ap (λ (xs : List _). positions base (length xs)) h ∙ ap (positions base) (length-one before x) ∙ positions_next base (length before) fits;
+  rose = λ h. (h, up h);
+}
+  where
+    length-one : {X : Type 0} (xs : List X) (x : X) → length (xs ++ x ∷ []) ≡ length xs + 1
+    length-one [] x = refl
+    length-one (y ∷ ys) x = let rest = length-one ys x in omega (arith, rest)
+
+module _ {D : Type 0} (disks : Ghosts D) where
+  -- ---- any calls
+
+  pub tied_same : (a : HostState D) → IsTied disks None a a
+  tied_same a = record {
+    name = refl;
+    operator = refl;
+    trees = λ owner n. refl;
+    keys = λ n. refl;
+    later = record { trees = λ owner. later_tree ((views disks a).tree owner); store = seen_same _; keys = seen_same _ };
+    own = stays_same None (views disks a);
+    tree_grown = λ owner v w is_v is_w. same_view ((views disks a).tree owner) v w is_v is_w;
+    store_grown = refl;
+    keys_grown = refl;
+    stays = host_same disks a a refl;
+    counts = omega arith;
+  }
+
+  pub tied_joined : (but : Option LogName) (a b c : HostState D) → IsTied disks but a b → IsTied disks but b c → IsTied disks but a c
+  tied_joined but a b c one two = record {
+    name = two.name ∙ one.name;
+    operator = two.operator ∙ one.operator;
+    trees = λ owner n. two.trees owner n ∙ one.trees owner n;
+    keys = λ n. two.keys n ∙ one.keys n;
+    later = later_trans (views disks a) (views disks b) (views disks c) one.later two.later;
+    own = stays_trans but (views disks a) (views disks b) (views disks c) one.own two.own;
+    tree_grown = λ owner v w is_v is_w.
+        let t = is_there ((views disks a).tree owner) ((views disks b).tree owner) v (one.later.trees owner) is_v in
+        adds_both v t.0 w (one.tree_grown owner v t.0 is_v t.1) (two.tree_grown owner t.0 w t.1 is_w);
+    store_grown = adds_both (views disks a).store (views disks b).store (views disks c).store one.store_grown two.store_grown;
+    keys_grown = adds_both (views disks a).keys (views disks b).keys (views disks c).keys one.keys_grown two.keys_grown;
+    stays = stays_then disks a b c one.stays two.stays;
+    counts = let x = one.counts in let y = two.counts in omega (arith, x, y);
+  }
+
+  pub tied_wider : (but : Option LogName) (a b : HostState D) → IsTied disks None a b → IsTied disks but a b
+  tied_wider but a b h = record {
+    name = h.name;
+    operator = h.operator;
+    trees = λ owner n. h.trees owner (λ e. cc);
+    keys = λ n. h.keys (λ e. cc);
+    later = h.later;
+    own = stays_more but (views disks a) (views disks b) h.own;
+    tree_grown = h.tree_grown;
+    store_grown = h.store_grown;
+    keys_grown = h.keys_grown;
+    stays = h.stays;
+    counts = h.counts;
+  }
+
+  tree_long : (n : ℕ) (x y : Option SeenTree) → LaterTree x y → own_of y ≡ own_of x → ((v w : SeenTree) → x ≡ Some v → y ≡ Some w → AddsOwn v w)
+      → option_map (λ (v : SeenTree). length v.seen) y ≡ Some n → option_map (λ (v : SeenTree). length v.seen) x ≡ Some n
+  tree_long n None None later own grown at = at
+  tree_long n None (Some w) later own grown at = absurd later
+  tree_long n (Some v) None later own grown at = absurd later
+  tree_long n (Some v) (Some w) later own grown at = let same : w.own ≡ v.own = cc in ap Some (as_long v w (grown v w refl refl) same) ∙ at
+
+  pub left_since : (log : LogName) (n : ℕ) (a b : HostState D) → IsTied disks (Some log) a b → OwnStays None (views disks a) (views disks b) → ends_at (Some log) (views disks b) ≡ Some n → ends_at (Some log) (views disks a) ≡ Some n
+  left_since (LogName.OfTree owner) n a b tie own at =
+      tree_long n ((views disks a).tree owner) ((views disks b).tree owner) (tie.later.trees owner) (own.trees owner (λ e. cc)) (tie.tree_grown owner) at
+  left_since LogName.OfStore n a b tie own at = ap Some (as_long (views disks a).store (views disks b).store tie.store_grown (own.store (λ e. cc))) ∙ at
+  left_since LogName.OfKeys n a b tie own at = ap Some (as_long (views disks a).keys (views disks b).keys tie.keys_grown (own.keys (λ e. cc))) ∙ at
+
+  pub rises_within : (but : Option LogName) (a b c d : HostState D) → IsTied disks but a b → DiskRose disks b c → IsTied disks but c d → DiskRose disks a d
+  rises_within but a b c d one h two =
+      let x = one.counts in
+      let y = h.later in
+      let z = two.counts in
+      record { later = omega (arith, x, y, z); rose = within x y z h.rose }
+    where
+      within : disk_faults disks a ≤ disk_faults disks b → disk_faults disks b ≤ disk_faults disks c → disk_faults disks c ≤ disk_faults disks d → Rose (disk_faults disks b) (disk_faults disks c) → Rose (disk_faults disks a) (disk_faults disks d)
+      within x y z rose = Rose-before (disk_faults disks a) (disk_faults disks c) (disk_faults disks d) (Rose-after (disk_faults disks a) (disk_faults disks b) (disk_faults disks c) x y rose) z
+
+  -- ---- a tree was changed
+
+  module _ (host : HostState D) (owner : UserName) (place : ℕ) (before : Held (State D)) (state : State D) (at : position (is_of owner) host.trees ≡ Some place) (there : slice_get host.trees place ≡ Some before)
+      (grows : OnlyGrows entries_of (λ (s : State D). disks.faults s.disk) fixed_of before.state state) (fits : before.base ≤ length before.state.log) where
+    abbrev held : Held (State D)
+    held = record { state = state; base = before.base }
+
+    abbrev after : HostState D
+    after = record host { trees = slice_set host.trees place (record { state = state; base = before.base }) }
+
+    found : tree_for host.trees owner ≡ Some before
+    found = found_at (is_of owner) host.trees place at ∙ there
+
+    owner_is : before.state.owner ≡ owner
+    owner_is = found_is host.trees owner before found
+
+    owner_then : state.owner ≡ owner
+    owner_then = ap (λ fixed. fixed.0) grows.stays ∙ owner_is
+
+    found_then : tree_for after.trees owner ≡ Some held
+    found_then = found_set (is_of owner) host.trees place held at ((bytes_eq-Decides state.owner owner).1 owner_then)
+
+    pub view_before : (views disks host).tree owner ≡ Some (tree_view disks before)
+    view_before = ap (option_map (tree_view disks)) found
+
+    pub view_after : (views disks after).tree owner ≡ Some (tree_view disks held)
+    view_after = ap (option_map (tree_view disks)) found_then
+
+    not_of : (o : UserName) → o ≢ owner → (h : Held (State D)) → h.state.owner ≡ owner → is_of o h ≡ false
+    not_of o differs h is = by (bytes_eq h.state.owner o) refl
+      where
+        by : (b : Bool) → bytes_eq h.state.owner o ≡ b → b ≡ false
+        by false e = refl
+        by true e = absurd (differs (sym ((bytes_eq-Decides h.state.owner o).0 e) ∙ is))
+
+    other_tree : (o : UserName) → o ≢ owner → (views disks after).tree o ≡ (views disks host).tree o
+    other_tree o differs = ap (option_map (tree_view disks)) (find_other (is_of o) host.trees place before held there (not_of o differs before owner_is) (not_of o differs held owner_then))
+
+    tree_later : LaterSeen (tree_view disks before) (tree_view disks held)
+    tree_later = record { begins = grows.begins; failed = grows.later; fixed = grows.stays }
+
+    each_later : (o : UserName) → LaterTree ((views disks host).tree o) ((views disks after).tree o)
+    each_later o = by (bytes_eq o owner) refl
+      where
+        by : (b : Bool) → bytes_eq o owner ≡ b → LaterTree ((views disks host).tree o) ((views disks after).tree o)
+        by true h =
+            let same : o ≡ owner = (bytes_eq-Decides o owner).0 h in
+            subst (λ p. LaterTree ((views disks host).tree p) ((views disks after).tree p)) (sym same)
+            (subst (λ v. LaterTree v ((views disks after).tree owner)) (sym view_before) (subst (λ w. LaterTree (Some (tree_view disks before)) w) (sym view_after) tree_later))
+        by false h = subst (LaterTree ((views disks host).tree o)) (sym (other_tree o (λ same. false≢true (sym h ∙ (bytes_eq-Decides o owner).1 same)))) (later_tree ((views disks host).tree o))
+
+    own_grown : AddsOwn (tree_view disks before) (tree_view disks held)
+    own_grown =
+        let grown : length before.state.log ≤ length state.log = length-Begins grows.begins in
+        grown_own before.state.log state.log before.base (disks.faults before.state.disk) (disks.faults state.disk) (tree_view disks before).fixed (tree_view disks held).fixed fits (omega (arith, fits, grown))
+
+    each_grown : (o : UserName) (v w : SeenTree) → (views disks host).tree o ≡ Some v → (views disks after).tree o ≡ Some w → AddsOwn v w
+    each_grown o v w is_v is_w = by (bytes_eq o owner) refl
+      where
+        by : (b : Bool) → bytes_eq o owner ≡ b → AddsOwn v w
+        by false h = same_view ((views disks host).tree o) v w is_v (sym (other_tree o (λ same. false≢true (sym h ∙ (bytes_eq-Decides o owner).1 same))) ∙ is_w)
+        by true h =
+            let same : o ≡ owner = (bytes_eq-Decides o owner).0 h in
+            let k : Some (tree_view disks before) ≡ Some v = sym view_before ∙ ap (λ p. (views disks host).tree p) (sym same) ∙ is_v in
+            let l : Some (tree_view disks held) ≡ Some w = sym view_after ∙ ap (λ p. (views disks after).tree p) (sym same) ∙ is_w in
+            let old_is : tree_view disks before ≡ v = cc in
+            let new_is : tree_view disks held ≡ w = cc in
+            subst (λ x. AddsOwn x w) old_is (subst (AddsOwn (tree_view disks before)) new_is own_grown)
+
+    -- the disks failed as often as the tree's did
+    abbrev of_tree : Held (State D) → ℕ
+    of_tree h = disks.faults h.state.disk
+
+    sums : sum_by of_tree after.trees + disks.faults before.state.disk ≡ sum_by of_tree host.trees + disks.faults state.disk
+    sums = sum_set of_tree host.trees place before held there
+
+    tree_counts : disk_faults disks host ≤ disk_faults disks after
+    tree_counts = let s = sums in let l = grows.later in omega (arith, s, l)
+
+    pub tree_rose : Rose (disks.faults before.state.disk) (disks.faults state.disk) → DiskRose disks host after
+    tree_rose rose = record {
+      later = tree_counts;
+      rose = λ small.
+          let s = sums in
+          let most : disks.faults before.state.disk ≤ sum_by of_tree host.trees = sum_most of_tree host.trees place before there in
+          let more : disks.faults before.state.disk < disks.faults state.disk = rose (omega (arith, most, small)) in
+          omega (arith, s, more);
+    }
+
+    pub tied_tree : KeepsSettled disks (over_journal before.state) (over_journal state) → IsTied disks (Some (LogName.OfTree owner)) host after
+    tied_tree keeps = record {
+      name = refl;
+      operator = refl;
+      trees = λ o n. other_tree o (λ same. n (ap (λ p. Some (LogName.OfTree p)) (sym same)));
+      keys = λ n. refl;
+      later = record { trees = each_later; store = seen_same _; keys = seen_same _ };
+      own = record { trees = λ o n. ap own_of (other_tree o (λ same. n (ap (λ p. Some (LogName.OfTree p)) (sym same)))); store = λ n. refl; keys = λ n. refl };
+      tree_grown = each_grown;
+      store_grown = refl;
+      keys_grown = refl;
+      stays = host_tree disks host after place before held host.store.state there refl (ap (λ (fixed : UserName × _). fixed.0) grows.stays) keeps (settled_same disks host.store.state);
+      counts = tree_counts;
+    }
+
+  -- ---- the store was changed, or read
+
+  module _ (host : HostState D) (state : LogState D BlockRecord) (grows : OnlyGrows blocks.log_of (λ (b : LogState D BlockRecord). disks.faults b.disk) blocks.limits_of host.store.state state)
+      (fits : host.store.base ≤ length host.store.state.log) where
+    abbrev stored : HostState D
+    stored = record host { store = record { state = state; base = host.store.base } }
+
+    pub store_rose : Rose (disks.faults host.store.state.disk) (disks.faults state.disk) → DiskRose disks host stored
+    store_rose rose =
+        let l = grows.later in
+        record { later = omega (arith, l); rose = λ small. (let more : disks.faults host.store.state.disk < disks.faults state.disk = rose (omega (arith, small)) in omega (arith, more)) }
+
+    pub tied_store : (but : Option LogName) → (but ≢ Some LogName.OfStore → state.log ≡ host.store.state.log) → KeepsSettled disks host.store.state state → IsTied disks but host stored
+    tied_store but same keeps = record {
+      name = refl;
+      operator = refl;
+      trees = λ o n. refl;
+      keys = λ n. refl;
+      later = record { trees = λ o. later_tree ((views disks host).tree o); store = record { begins = grows.begins; failed = grows.later; fixed = grows.stays }; keys = seen_same _ };
+      own = record { trees = λ o n. refl; store = λ n. ap (λ (xs : List BlockRecord). positions host.store.base (length xs)) (same n); keys = λ n. refl };
+      tree_grown = λ o v w is_v is_w. same_view ((views disks host).tree o) v w is_v is_w;
+      store_grown = (
+          let grown : length host.store.state.log ≤ length state.log = length-Begins grows.begins in
+          grown_own host.store.state.log state.log host.store.base (disks.faults host.store.state.disk) (disks.faults state.disk) host.store.state.limits state.limits fits (omega (arith, fits, grown)));
+      keys_grown = refl;
+      stays = host_store disks host stored state refl keeps;
+      counts = let l = grows.later in omega (arith, l);
+    }
+
+  -- ---- the keys were changed
+
+  module _ (host : HostState D) (state : LogState D KeyRecord) (grows : OnlyGrows keys.log_of (λ (k : LogState D KeyRecord). disks.faults k.disk) keys.limits_of host.keys.state state)
+      (fits : host.keys.base ≤ length host.keys.state.log) where
+    abbrev keyed : HostState D
+    keyed = record host { keys = record { state = state; base = host.keys.base } }
+
+    pub keys_rose : Rose (disks.faults host.keys.state.disk) (disks.faults state.disk) → DiskRose disks host keyed
+    keys_rose rose =
+        let l = grows.later in
+        record { later = omega (arith, l); rose = λ small. (let more : disks.faults host.keys.state.disk < disks.faults state.disk = rose (omega (arith, small)) in omega (arith, more)) }
+
+    pub tied_keys : KeepsSettled disks host.keys.state state → IsTied disks (Some LogName.OfKeys) host keyed
+    tied_keys keeps = record {
+      name = refl;
+      operator = refl;
+      trees = λ o n. refl;
+      keys = λ n. absurd (n refl);
+      later = record { trees = λ o. later_tree ((views disks host).tree o); store = seen_same _; keys = record { begins = grows.begins; failed = grows.later; fixed = grows.stays } };
+      own = record { trees = λ o n. refl; store = λ n. refl; keys = λ n. absurd (n refl) };
+      tree_grown = λ o v w is_v is_w. same_view ((views disks host).tree o) v w is_v is_w;
+      store_grown = refl;
+      keys_grown = (
+          let grown : length host.keys.state.log ≤ length state.log = length-Begins grows.begins in
+          grown_own host.keys.state.log state.log host.keys.base (disks.faults host.keys.state.disk) (disks.faults state.disk) host.keys.state.limits state.limits fits (omega (arith, fits, grown)));
+      stays = host_keys disks host keyed state refl keeps;
+      counts = let l = grows.later in omega (arith, l);
+    }
+
+  -- ---- the text of a group
+
+  pub text_told : (operator : UserName) (host : HostState D) (name : PathName) (one : Held (State D)) (answer : LoadAnswer) → tree_for host.trees name.owner ≡ Some one
+      → answer ≡ load_of name.owner (group_text_answer (log_of one.state) operator name) → OwnText operator (views disks host) (views disks host) name (Some answer)
+  text_told operator host name one answer is given = (
+    tree_view disks one,
+    tree_view disks one,
+    ap (option_map (tree_view disks)) is,
+    ap (option_map (tree_view disks)) is,
+    record {
+      position = length one.state.log;
+      from = omega arith;
+      to = omega arith;
+      given = given ∙ sym (ap (λ records. load_of name.owner (group_text_answer (record { owner = one.state.owner; limits = one.state.limits; records = records }) operator name)) (take-length one.state.log));
+    },
+  )
