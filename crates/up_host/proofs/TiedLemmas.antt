@@ -36,6 +36,32 @@ use Rattle.up_policy.specs.declared.load_answer.LoadAnswer.{LoadAnswer}
 use Rattle.up_tree.specs.States.{State, entries_of, fixed_of, log_of, over_journal}
 use Rattle.up_wire.specs.declared.keys.KeyRecord.{KeyRecord}
 
+-- ---- numbers
+
+le_same : (n : ℕ) → n ≤ n
+le_same n = omega arith
+
+le_then : (a b c : ℕ) → a ≤ b → b ≤ c → a ≤ c
+le_then a b c p q = omega (arith, p, q)
+
+first_later : (t u a b s k : ℕ) → u + a ≡ t + b → a ≤ b → t + (s + k) ≤ u + (s + k)
+first_later t u a b s k sums later = omega (arith, sums, later)
+
+first_rose : (t u a b s k : ℕ) → u + a ≡ t + b → a ≤ t → Rose a b → Rose (t + (s + k)) (u + (s + k))
+first_rose t u a b s k sums most rose = λ small. (let more : a < b = rose (omega (arith, most, small)) in omega (arith, sums, more))
+
+middle_later : (t a b k : ℕ) → a ≤ b → t + (a + k) ≤ t + (b + k)
+middle_later t a b k later = omega (arith, later)
+
+middle_rose : (t a b k : ℕ) → Rose a b → Rose (t + (a + k)) (t + (b + k))
+middle_rose t a b k rose = λ small. (let more : a < b = rose (omega (arith, small)) in omega (arith, more))
+
+last_later : (t s a b : ℕ) → a ≤ b → t + (s + a) ≤ t + (s + b)
+last_later t s a b later = omega (arith, later)
+
+last_rose : (t s a b : ℕ) → Rose a b → Rose (t + (s + a)) (t + (s + b))
+last_rose t s a b rose = λ small. (let more : a < b = rose (omega (arith, small)) in omega (arith, more))
+
 -- ---- one log
 
 pub later_tree : (view : Option SeenTree) → LaterTree view view
@@ -46,7 +72,10 @@ seen_same : {E F : Type 0} (v : Seen E F) → LaterSeen v v
 seen_same v = record { begins = record { rest = []; whole = append-nil v.seen }; failed = omega arith; fixed = refl }
 
 adds_both : {E F : Type 0} (u v w : Seen E F) → AddsOwn u v → AddsOwn v w → AddsOwn u w
-adds_both u v w one two = omega (arith, one, two)
+adds_both u v w one two =
+    let p : length v.seen + length u.own ≡ length u.seen + length v.own = one in
+    let q : length w.seen + length v.own ≡ length v.seen + length w.own = two in
+    omega (arith, p, q)
 
 same_view : (x : Option SeenTree) (v w : SeenTree) → x ≡ Some v → x ≡ Some w → AddsOwn v w
 same_view x v w p q =
@@ -56,22 +85,25 @@ same_view x v w p q =
 
 -- where no own record came, and none but own ones come, the log is as long
 as_long : {E F : Type 0} (v w : Seen E F) → AddsOwn v w → w.own ≡ v.own → length v.seen ≡ length w.seen
-as_long v w grown same = let k = ap length same in omega (arith, grown, k)
+as_long v w grown same =
+    let p : length w.seen + length v.own ≡ length v.seen + length w.own = grown in
+    let k : length w.own ≡ length v.own = ap length same in
+    omega (arith, p, k)
 
 -- what a turn of a log of a host takes
 pub took_view : {E F : Type 0} (before after : List E) (base failed_before failed_after : ℕ) (fixed_before fixed_after : F) (rises : Type 0) → base ≤ length before → (Rose failed_before failed_after → rises)
     → Takes before after (view_of before base failed_before fixed_before) (view_of after base failed_after fixed_after) failed_before failed_after rises
-took_view before after base failed_before failed_after fixed_before fixed_after rises fits up = record {
-  from = omega arith;
+took_view {E} before after base failed_before failed_after fixed_before fixed_after rises fits up = record {
+  from = le_same (length before);
   seen = refl;
-  same = λ h. ap (λ (xs : List _). positions base (length xs)) h;
-  one = λ x h. ap (λ (xs : List _). positions base (length xs)) h ∙ ap (positions base) (length-one before x) ∙ positions_next base (length before) fits;
+  same = λ h. ap (λ (xs : List E). positions base (length xs)) h;
+  one = λ x h. ap (λ (xs : List E). positions base (length xs)) h ∙ ap (positions base) (length-one before x) ∙ positions_next base (length before) fits;
   rose = λ h. (h, up h);
 }
   where
     length-one : {X : Type 0} (xs : List X) (x : X) → length (xs ++ x ∷ []) ≡ length xs + 1
     length-one [] x = refl
-    length-one (y ∷ ys) x = let rest = length-one ys x in omega (arith, rest)
+    length-one (y ∷ ys) x = let rest : length (ys ++ x ∷ []) ≡ length ys + 1 = length-one ys x in omega (arith, rest)
 
 module _ {D : Type 0} (disks : Ghosts D) where
   -- ---- any calls
@@ -88,7 +120,7 @@ module _ {D : Type 0} (disks : Ghosts D) where
     store_grown = refl;
     keys_grown = refl;
     stays = host_same disks a a refl;
-    counts = omega arith;
+    counts = le_same (disk_faults disks a);
   }
 
   pub tied_joined : (but : Option LogName) (a b c : HostState D) → IsTied disks but a b → IsTied disks but b c → IsTied disks but a c
@@ -105,7 +137,7 @@ module _ {D : Type 0} (disks : Ghosts D) where
     store_grown = adds_both (views disks a).store (views disks b).store (views disks c).store one.store_grown two.store_grown;
     keys_grown = adds_both (views disks a).keys (views disks b).keys (views disks c).keys one.keys_grown two.keys_grown;
     stays = stays_then disks a b c one.stays two.stays;
-    counts = let x = one.counts in let y = two.counts in omega (arith, x, y);
+    counts = le_then (disk_faults disks a) (disk_faults disks b) (disk_faults disks c) one.counts two.counts;
   }
 
   pub tied_wider : (but : Option LogName) (a b : HostState D) → IsTied disks None a b → IsTied disks but a b
@@ -137,14 +169,10 @@ module _ {D : Type 0} (disks : Ghosts D) where
   left_since LogName.OfKeys n a b tie own at = ap Some (as_long (views disks a).keys (views disks b).keys tie.keys_grown (own.keys (λ e. cc))) ∙ at
 
   pub rises_within : (but : Option LogName) (a b c d : HostState D) → IsTied disks but a b → DiskRose disks b c → IsTied disks but c d → DiskRose disks a d
-  rises_within but a b c d one h two =
-      let x = one.counts in
-      let y = h.later in
-      let z = two.counts in
-      record { later = omega (arith, x, y, z); rose = within x y z h.rose }
-    where
-      within : disk_faults disks a ≤ disk_faults disks b → disk_faults disks b ≤ disk_faults disks c → disk_faults disks c ≤ disk_faults disks d → Rose (disk_faults disks b) (disk_faults disks c) → Rose (disk_faults disks a) (disk_faults disks d)
-      within x y z rose = Rose-before (disk_faults disks a) (disk_faults disks c) (disk_faults disks d) (Rose-after (disk_faults disks a) (disk_faults disks b) (disk_faults disks c) x y rose) z
+  rises_within but a b c d one h two = record {
+    later = le_then (disk_faults disks a) (disk_faults disks b) (disk_faults disks d) one.counts (le_then (disk_faults disks b) (disk_faults disks c) (disk_faults disks d) h.later two.counts);
+    rose = Rose-before (disk_faults disks a) (disk_faults disks c) (disk_faults disks d) (Rose-after (disk_faults disks a) (disk_faults disks b) (disk_faults disks c) one.counts h.later h.rose) two.counts;
+  }
 
   -- ---- a tree was changed
 
@@ -223,16 +251,13 @@ module _ {D : Type 0} (disks : Ghosts D) where
     sums = sum_set of_tree host.trees place before held there
 
     tree_counts : disk_faults disks host ≤ disk_faults disks after
-    tree_counts = let s = sums in let l = grows.later in omega (arith, s, l)
+    tree_counts = first_later (sum_by of_tree host.trees) (sum_by of_tree after.trees) (disks.faults before.state.disk) (disks.faults state.disk) (disks.faults host.store.state.disk) (disks.faults host.keys.state.disk) sums grows.later
 
     pub tree_rose : Rose (disks.faults before.state.disk) (disks.faults state.disk) → DiskRose disks host after
     tree_rose rose = record {
       later = tree_counts;
-      rose = λ small.
-          let s = sums in
-          let most : disks.faults before.state.disk ≤ sum_by of_tree host.trees = sum_most of_tree host.trees place before there in
-          let more : disks.faults before.state.disk < disks.faults state.disk = rose (omega (arith, most, small)) in
-          omega (arith, s, more);
+      rose = first_rose (sum_by of_tree host.trees) (sum_by of_tree after.trees) (disks.faults before.state.disk) (disks.faults state.disk) (disks.faults host.store.state.disk) (disks.faults host.keys.state.disk) sums
+          (sum_most of_tree host.trees place before there) rose;
     }
 
     pub tied_tree : KeepsSettled disks (over_journal before.state) (over_journal state) → IsTied disks (Some (LogName.OfTree owner)) host after
@@ -257,10 +282,11 @@ module _ {D : Type 0} (disks : Ghosts D) where
     abbrev stored : HostState D
     stored = record host { store = record { state = state; base = host.store.base } }
 
+    store_counts : disk_faults disks host ≤ disk_faults disks stored
+    store_counts = middle_later (sum_by (λ (h : Held (State D)). disks.faults h.state.disk) host.trees) (disks.faults host.store.state.disk) (disks.faults state.disk) (disks.faults host.keys.state.disk) grows.later
+
     pub store_rose : Rose (disks.faults host.store.state.disk) (disks.faults state.disk) → DiskRose disks host stored
-    store_rose rose =
-        let l = grows.later in
-        record { later = omega (arith, l); rose = λ small. (let more : disks.faults host.store.state.disk < disks.faults state.disk = rose (omega (arith, small)) in omega (arith, more)) }
+    store_rose rose = record { later = store_counts; rose = middle_rose (sum_by (λ (h : Held (State D)). disks.faults h.state.disk) host.trees) (disks.faults host.store.state.disk) (disks.faults state.disk) (disks.faults host.keys.state.disk) rose }
 
     pub tied_store : (but : Option LogName) → (but ≢ Some LogName.OfStore → state.log ≡ host.store.state.log) → KeepsSettled disks host.store.state state → IsTied disks but host stored
     tied_store but same keeps = record {
@@ -276,7 +302,7 @@ module _ {D : Type 0} (disks : Ghosts D) where
           grown_own host.store.state.log state.log host.store.base (disks.faults host.store.state.disk) (disks.faults state.disk) host.store.state.limits state.limits fits (omega (arith, fits, grown)));
       keys_grown = refl;
       stays = host_store disks host stored state refl keeps;
-      counts = let l = grows.later in omega (arith, l);
+      counts = store_counts;
     }
 
   -- ---- the keys were changed
@@ -286,10 +312,11 @@ module _ {D : Type 0} (disks : Ghosts D) where
     abbrev keyed : HostState D
     keyed = record host { keys = record { state = state; base = host.keys.base } }
 
+    keys_counts : disk_faults disks host ≤ disk_faults disks keyed
+    keys_counts = last_later (sum_by (λ (h : Held (State D)). disks.faults h.state.disk) host.trees) (disks.faults host.store.state.disk) (disks.faults host.keys.state.disk) (disks.faults state.disk) grows.later
+
     pub keys_rose : Rose (disks.faults host.keys.state.disk) (disks.faults state.disk) → DiskRose disks host keyed
-    keys_rose rose =
-        let l = grows.later in
-        record { later = omega (arith, l); rose = λ small. (let more : disks.faults host.keys.state.disk < disks.faults state.disk = rose (omega (arith, small)) in omega (arith, more)) }
+    keys_rose rose = record { later = keys_counts; rose = last_rose (sum_by (λ (h : Held (State D)). disks.faults h.state.disk) host.trees) (disks.faults host.store.state.disk) (disks.faults host.keys.state.disk) (disks.faults state.disk) rose }
 
     pub tied_keys : KeepsSettled disks host.keys.state state → IsTied disks (Some LogName.OfKeys) host keyed
     tied_keys keeps = record {
@@ -305,7 +332,7 @@ module _ {D : Type 0} (disks : Ghosts D) where
           let grown : length host.keys.state.log ≤ length state.log = length-Begins grows.begins in
           grown_own host.keys.state.log state.log host.keys.base (disks.faults host.keys.state.disk) (disks.faults state.disk) host.keys.state.limits state.limits fits (omega (arith, fits, grown)));
       stays = host_keys disks host keyed state refl keeps;
-      counts = let l = grows.later in omega (arith, l);
+      counts = keys_counts;
     }
 
   -- ---- the text of a group
@@ -319,8 +346,8 @@ module _ {D : Type 0} (disks : Ghosts D) where
     ap (option_map (tree_view disks)) is,
     record {
       position = length one.state.log;
-      from = omega arith;
-      to = omega arith;
+      from = le_same (length one.state.log);
+      to = le_same (length one.state.log);
       given = given ∙ sym (ap (λ records. load_of name.owner (group_text_answer (record { owner = one.state.owner; limits = one.state.limits; records = records }) operator name)) (take-length one.state.log));
     },
   )
