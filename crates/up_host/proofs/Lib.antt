@@ -3,6 +3,7 @@ pub mod SumLemmas
 pub mod AloneLemmas
 pub mod SettledLemmas
 pub mod TiedLemmas
+pub mod TurnedLemmas
 pub mod AskedLemmas
 pub mod RunLemmas
 pub mod OpeningLemmas
