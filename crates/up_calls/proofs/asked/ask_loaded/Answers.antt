@@ -107,7 +107,7 @@ returns-in-Said-clause-answered g c =
     (λ h. g.met.B.Logs.rises_within (LogName.OfTree c.args.owner.now) who c.args.logs.now c.loop-reply.logs c.ask_tree.new.self c.ask_tree.new.self c.loop-reply.invariant.tie h (g.met.B.Logs.wider who c.ask_tree.new.self c.ask_tree.new.self (g.met.B.Logs.same c.ask_tree.new.self)))
     a b d (g.met.B.Logs.later who c.args.logs.now c.loop-reply.logs c.loop-reply.invariant.tie) (g.met.B.Logs.later who c.loop-reply.logs c.ask_tree.new.self c.ask_tree.ensures.tie)
     c.args.loader.now c.loop-reply.loader c.loop-reply.loaded c.in-Said.reply c.in-Said.position told
-    c.loop-reply.invariant.own c.loop-reply.invariant.gathered c.loop-reply.invariant.rounds c.loop-reply.invariant.few c.len-_names.ensures.names)
+    c.loop-reply.invariant.own c.loop-reply.invariant.gathered c.loop-reply.invariant.rounds c.loop-reply.invariant.few c.len-names.ensures.names)
 
 pub returns-in-Said-clause-left : goal.returns-in-Said-clause-left
 returns-in-Said-clause-left g c =
