@@ -1,5 +1,5 @@
 -- What a call came to.
-use Rattle.std.proofs.Common.{◌≡◌, ◌≢◌, ◌⊎◌, ◌≤◌, ◌||◌, ℕ, Bool, true, false, List, [], ◌∷◌, ◌++◌, length, map, refl, sym, ap, subst, ◌∙◌, inl, inr, arith, Option, Some, None, Result, Ok, Err, option_map}
+use Rattle.std.proofs.Common.{◌≡◌, ◌≢◌, ◌⊎◌, ◌||◌, ℕ, Bool, true, false, List, [], ◌∷◌, ◌++◌, length, map, refl, sym, ap, subst, ◌∙◌, inl, inr, Option, Some, None, Result, Ok, Err, option_map}
 use Rattle.std.specs.Prelude.{IfOk, OnErr, if◌then◌else◌, is_some}
 use Rattle.std.specs.List.{flat_map, list_any}
 use Rattle.std.proofs.lemmas.Bool.{false≢true}
@@ -11,17 +11,16 @@ use Rattle.up_calls.proofs.AsksLemmas.{Asks-none, Rose-left, Tries-Asks, Tries-n
 use Rattle.up_calls.proofs.BlockLemmas.{blocks_until}
 use Rattle.up_calls.proofs.QuietLemmas.{fault_quiet, has_failed, is_io, quiet_answer}
 use Rattle.up_calls.proofs.TurnLemmas.{answered_since}
-use Rattle.up_calls.specs.Answered.{Came, HasFailed, Leaves, LoadsInRounds, Risen, TreeAnswered, TreeServed}
+use Rattle.up_calls.specs.Answered.{Came, HasFailed, LoadsInRounds, TreeAnswered, TreeServed}
 use Rattle.up_calls.specs.Asks.{Asks}
 use Rattle.up_calls.specs.Blocks.{Got, OwnBlocks, answer_at, block_answer, block_question}
-use Rattle.up_calls.specs.Calls.{Asked, AsksLoader, IsAskedFor, IsPlain, IsReady, IsTried, KeysTurn, Outcome, StoreTurn, TreeTurn}
+use Rattle.up_calls.specs.Calls.{Asked, AsksLoader, IsPlain, IsReady, IsTried, KeysTurn, Outcome, StoreTurn, TreeTurn}
 use Rattle.up_calls.specs.Gathered.{BlocksGathered, missing_over, own_failed}
 use Rattle.up_calls.specs.Loads.{group_answer, group_question, load_failed}
 use Rattle.up_calls.specs.Rounds.{LoadedInRounds}
 use Rattle.up_calls.specs.Routes.{LogName, OwnStays, Question, locations_on, log_asked, log_by, refusal, refusal_by, route_refusal, service_of, tree_on}
 use Rattle.up_calls.specs.Services.{key_fault, store_fault}
 use Rattle.up_calls.specs.Told.{LogTold}
-use Rattle.up_calls.specs.Turns.{IsReplied}
 use Rattle.up_calls.specs.Views.{Later, SeenTree, Views, log_after, log_seen}
 use Rattle.up_calls.specs.declared.event.Event.{Event}
 use Rattle.up_calls.specs.declared.service.Service.{Service}
@@ -38,7 +37,6 @@ use Rattle.up_entry.specs.declared.fetch.Fetch.TheVariants as fetch
 use Rattle.up_entry.specs.declared.what.What.{What}
 use Rattle.up_list.specs.Asking.{asked_of, owner_asked}
 use Rattle.up_list.specs.declared.asking.Asked.{Asked as Asking}
-use Rattle.up_lists.specs.Counts.{Rose}
 use Rattle.up_names.specs.Texts.{UserName}
 use Rattle.up_peer.specs.declared.loader.Loader.{Ghosts}
 use Rattle.up_policy.specs.Loadings.{Loading}

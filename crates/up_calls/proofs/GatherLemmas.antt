@@ -1,5 +1,5 @@
 -- How loading goes on, while others may write to the logs.
-use Rattle.std.proofs.Common.{◌≡◌, ◌≢◌, ◌||◌, ◌≤◌, ℕ, Bool, true, false, List, [], ◌∷◌, ◌++◌, length, take, refl, sym, ap, subst, ◌∙◌, arith, append_assoc, append-nil, Option, Some, None, Result, Ok, Err}
+use Rattle.std.proofs.Common.{◌≡◌, ◌||◌, ◌≤◌, ℕ, Bool, true, false, List, [], ◌∷◌, ◌++◌, length, take, refl, sym, ap, subst, ◌∙◌, arith, append_assoc, append-nil, Option, Some, None, Result, Ok, Err}
 use Rattle.std.specs.Prelude.{OnOk, is_ok, is_some, if◌then◌else◌}
 use Rattle.std.specs.List.{flat_map, list_any}
 use Rattle.std.specs.Option.{option_or}
@@ -15,7 +15,6 @@ use Rattle.up_calls.specs.Gathered.{AddsName, AsksGroup, Gathered, NameLoaded}
 use Rattle.up_calls.specs.Loads.{IsFromOwn, IsOld, IsOwn, OwnTexts, Pair, answered_by_others, asked_of_others, group_answer, group_question, group_text_answer, load_failed, load_of, tree_by}
 use Rattle.up_calls.specs.Routes.{LogName, OwnStays}
 use Rattle.up_calls.specs.Views.{Later, LaterSeen, LaterTree, SeenTree, Views, log_after}
-use Rattle.up_lists.specs.Begins.{Begins}
 use Rattle.up_lists.proofs.BeginsLemmas.{length-Begins}
 use Rattle.up_lists.specs.Runs.{Run}
 use Rattle.up_names.specs.PathNames.{PathName}
@@ -97,7 +96,7 @@ own_texts_later operator a b c later more =
     All-map (λ (pair : Pair). IsOwn operator a b pair × IsOld a pair) (λ (pair : Pair). IsOwn operator a c pair × IsOld a pair)
     (λ pair h. (
       (λ v x is_v is_x. let t = was_there (b.tree pair.0.owner) (c.tree pair.0.owner) x (later.trees pair.0.owner) is_x in
-      own_text_later operator v t.0 x pair t.2 (h.0 v t.0 is_v t.1)),
+          own_text_later operator v t.0 x pair t.2 (h.0 v t.0 is_v t.1)),
       h.1,
     )) more
 
@@ -106,7 +105,7 @@ own_texts_earlier operator a b c later more =
     All-map (λ (pair : Pair). IsOwn operator b c pair × IsOld b pair) (λ (pair : Pair). IsOwn operator a c pair × IsOld a pair)
     (λ pair h. (
       (λ u w is_u is_w. let t = is_there (a.tree pair.0.owner) (b.tree pair.0.owner) u (later.trees pair.0.owner) is_u in
-      own_text_earlier operator u t.0 w pair t.2 (h.0 t.0 w t.1 is_w)),
+          own_text_earlier operator u t.0 w pair t.2 (h.0 t.0 w t.1 is_w)),
       old_earlier a b later pair h.1,
     )) more
 

@@ -9,7 +9,7 @@ use Rattle.std.proofs.lemmas.List.{take_all}
 use Rattle.up_answers.specs.Needs.{needs}
 use Rattle.up_calls.proofs.NeedLemmas.{needs_more, needs_new}
 use Rattle.up_calls.proofs.PlaceLemmas.{places_listed}
-use Rattle.up_calls.specs.Rounds.{AreNew, AreRound, AreRounds, AreRoundsOver, InRounds, InRoundsOver, IsMissing, IsRound, IsWhole, LoadedInRounds, LoadsFirst, LoadsRound, RoundMade, bound}
+use Rattle.up_calls.specs.Rounds.{AreNew, AreRounds, AreRoundsOver, InRounds, InRoundsOver, IsMissing, IsRound, IsWhole, LoadedInRounds, LoadsFirst, LoadsRound, RoundMade, bound}
 use Rattle.up_names.specs.PathNames.{PathName}
 use Rattle.up_names.specs.PathOrder.{path_eq}
 use Rattle.up_names.specs.PathOrderLaws.{path_eq-Decides}

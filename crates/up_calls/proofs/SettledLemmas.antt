@@ -1,5 +1,5 @@
 -- How a log stays settled.
-use Rattle.std.proofs.Common.{arith, ◌≡◌, ◌≢◌, ◌≤◌, ℕ, zero, suc, Bool, true, false, List, [], ◌∷◌, length, map, refl, sym, ap, subst, ◌∙◌, inl, inr, Option, Some, None, Result, Ok, Err, slice_get, slice_set, nat_lt, bytes_eq}
+use Rattle.std.proofs.Common.{arith, ◌≡◌, ◌≢◌, ◌≤◌, ℕ, Bool, true, false, List, length, refl, sym, ap, subst, ◌∙◌, inl, inr, Option, Some, None, Result, Ok, Err, nat_lt, bytes_eq}
 use Rattle.std.specs.Prelude.{IfErr, IsErrOf, is_some}
 use Rattle.up_adding.specs.Steps.{Steps}
 use Rattle.up_blocks.specs.Blocks.{AddsBlock, DeletesBlock, GivesBlock, PutsBlock}

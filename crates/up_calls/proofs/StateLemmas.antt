@@ -1,6 +1,6 @@
 -- What is done in one turn over a state.
-use Rattle.std.proofs.Common.{◌≡◌, ◌≢◌, ◌⊎◌, ℕ, Bool, true, false, List, [], ◌∷◌, ◌++◌, length, refl, sym, ap, subst, ◌∙◌, inl, inr, append-nil, Option, Some, None, Result, Ok, Err}
-use Rattle.std.specs.Prelude.{IfOk, IfSome, if◌then◌else◌, is_some}
+use Rattle.std.proofs.Common.{◌≡◌, ◌≢◌, ℕ, List, length, refl, sym, ap, subst, ◌∙◌, inl, inr, append-nil, Some, None, Result, Ok, Err}
+use Rattle.std.specs.Prelude.{IfOk, is_some}
 use Rattle.std.specs.List.{AllByRecursion}
 use Rattle.std.specs.Result.{result_ok}
 use Rattle.up_adding.specs.Steps.{Steps}
@@ -14,7 +14,7 @@ use Rattle.up_blocks.specs.declared.fault.BlockWhy.TheVariants as why
 use Rattle.up_blocks.specs.declared.record.BlockRecord.{BlockRecord}
 use Rattle.up_calls.proofs.SettledLemmas.{gives_settled}
 use Rattle.up_calls.proofs.StoreDone.{told_bytes}
-use Rattle.up_calls.specs.Loads.{group_text_answer, load_of}
+use Rattle.up_calls.specs.Loads.{load_of}
 use Rattle.up_calls.specs.Routes.{Question, service_of}
 use Rattle.up_calls.specs.Rounds.{IsWhole}
 use Rattle.up_calls.specs.Steps.{BlockRead, FetchedAs, StoreReads, Tried, said_at}

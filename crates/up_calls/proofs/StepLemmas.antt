@@ -1,9 +1,8 @@
 -- What is done in one turn over a state, as whoever has the logs tells it.
 use Rattle.std.proofs.Common.{◌≡◌, ◌≢◌, ◌⊎◌, ◌≤◌, ◌+◌, ℕ, Bool, true, false, List, [], ◌∷◌, ◌++◌, length, take, refl, sym, ap, subst, ◌∙◌, inl, inr, arith, Option, Some, None, slice_get, length-append, append-nil, Result, Ok, Err, not, bytes_eq}
 use Rattle.std.specs.Prelude.{if◌then◌else◌}
-use Rattle.std.proofs.lemmas.Bool.{false≢true}
 use Rattle.std.proofs.lemmas.List.{take_all}
-use Rattle.up_adding.specs.Steps.{Steps, is_changed}
+use Rattle.up_adding.specs.Steps.{is_changed}
 use Rattle.up_answers.specs.Answers.{added, answer}
 use Rattle.up_answers.specs.Fetching.{Fetched}
 use Rattle.up_answers.specs.Needs.{needs}
@@ -28,8 +27,8 @@ use Rattle.up_rights.specs.declared.Right.TheVariants as right
 use Rattle.up_wire.specs.declared.replies.Done.TheVariants as done
 use Rattle.up_wire.specs.declared.requests.Request.{Request}
 use Rattle.up_wire.specs.declared.requests.Request.TheVariants as request
-use Rattle.up_calls.specs.Steps.{Answers, BlockRead, KeysTried, Lacks, StoreReads, StoreTried, Takes, Tried, Wants}
-use Rattle.up_calls.specs.Told.{IsSaid, IsSaidToFail, LogTold, Misses, TurnTold}
+use Rattle.up_calls.specs.Steps.{Answers, BlockRead, KeysTried, Lacks, StoreReads, StoreTried, Takes, Tried}
+use Rattle.up_calls.specs.Told.{IsSaidToFail, LogTold, TurnTold}
 use Rattle.up_calls.specs.Turns.{IsFailed, IsReplied, Recorded}
 use Rattle.up_calls.specs.Views.{Seen, SeenKeys, SeenStore, SeenTree, log_after, log_seen}
 use Rattle.up_calls.specs.declared.event.Event.{Event}
@@ -43,7 +42,6 @@ use Rattle.up_entry.specs.declared.what.What.{What}
 use Rattle.up_journal.specs.Logs.{LogState}
 use Rattle.up_journal.specs.declared.limits.Limits.{Limits}
 use Rattle.up_lists.proofs.BeginsLemmas.{length-Begins, take-Begins}
-use Rattle.up_lists.specs.Begins.{Begins}
 use Rattle.up_lists.specs.Counts.{Rose}
 use Rattle.up_names.specs.PathNames.{PathName}
 use Rattle.up_names.specs.Texts.{UserName}
@@ -160,8 +158,8 @@ module _ {D : Type 0} (disks : Ghosts D) (q : Question) (loaded : Loading) (fetc
     abbrev event : Event
     event = record { reply = said; position = position; loaded = loaded; fetched = fetched; moment = now }
 
-    abbrev meant : Reply
-    meant = answer (log_of old) loaded fetched q.user q.request now
+    abbrev over_log : Reply
+    over_log = answer (log_of old) loaded fetched q.user q.request now
 
     abbrev would_add : List Rec
     would_add = added (log_of old) loaded fetched q.user q.request now
@@ -176,7 +174,7 @@ module _ {D : Type 0} (disks : Ghosts D) (q : Question) (loaded : Loading) (fetc
           | inr applied ↦ inr (applied.rec, applied.one)
         ]
 
-    says : said ≡ meant → TreeSays w q event old.log said (if is_changed said then would_add else [])
+    says : said ≡ over_log → TreeSays w q event old.log said (if is_changed said then would_add else [])
     says is =
         let same : log_of old ≡ record (log_seen w) { records = old.log } = sym (log_by old.log refl) in
         record {
@@ -185,11 +183,11 @@ module _ {D : Type 0} (disks : Ghosts D) (q : Question) (loaded : Loading) (fetc
           added = ap (λ log. if is_changed said then added log loaded fetched q.user q.request now else []) same;
         }
 
-    replied : said ≡ meant → IsReplied (TreeSays w q event) v w event ⊎ IsSaidToFail rises v w q event
+    replied : said ≡ over_log → IsReplied (TreeSays w q event) v w event ⊎ IsSaidToFail rises v w q event
     replied is =
         inl (replied_of old.log new.log v w (disks.faults old.disk) (disks.faults new.disk) rises took (TreeSays w q event) event (if is_changed said then would_add else []) few h.steps.log h.position_is (says is))
 
-    failed : said ≡ reply.Io → is_changed meant ≡ true → Rose (disks.faults old.disk) (disks.faults new.disk) → IsReplied (TreeSays w q event) v w event ⊎ IsSaidToFail rises v w q event
+    failed : said ≡ reply.Io → is_changed over_log ≡ true → Rose (disks.faults old.disk) (disks.faults new.disk) → IsReplied (TreeSays w q event) v w event ⊎ IsSaidToFail rises v w q event
     failed io change rose =
         let stays : new.log ≡ old.log = h.steps.log ∙ ap (λ b. old.log ++ (if b then would_add else [])) (ap is_changed io) ∙ append-nil old.log in
         let same : log_of old ≡ record (log_seen w) { records = old.log } = sym (log_by old.log refl) in

@@ -1,24 +1,24 @@
 -- How a request to a tree goes on, turn by turn, while others may write to the logs.
-use Rattle.std.proofs.Common.{◌≡◌, ◌≢◌, ◌⊎◌, ◌≤◌, ◌<◌, ◌+◌, ℕ, Bool, true, false, List, [], ◌∷◌, ◌++◌, length, take, refl, inl, inr, sym, ap, subst, ◌∙◌, arith, bytes_eq, Option, Some, None, slice_get}
+use Rattle.std.proofs.Common.{◌≡◌, ◌≢◌, ◌≤◌, ◌<◌, ◌+◌, ℕ, Bool, true, false, List, [], ◌∷◌, ◌++◌, length, take, refl, inl, inr, sym, ap, subst, ◌∙◌, arith, bytes_eq, Option, Some, None, slice_get}
 use Rattle.std.specs.Prelude.{Contains, is_some}
 use Rattle.std.specs.List.{IsDistinct}
 use Rattle.std.specs.Map.{keys_of}
 use Rattle.std.proofs.lemmas.Bool.{false≢true}
 use Rattle.std.proofs.lemmas.Slice.Eq.{bytes_eq-Decides}
 use Rattle.up_answers.specs.Fetching.{Fetched}
-use Rattle.up_answers.specs.Needs.{IsLoading, needs}
+use Rattle.up_answers.specs.Needs.{needs}
 use Rattle.up_calls.proofs.AsksLemmas.{EachAfter-at, Rose-right}
-use Rattle.up_calls.proofs.GatherLemmas.{asks_before, gathered_for, gathered_trans, is_there, log_later, own_texts_earlier, own_texts_later, same_some, stays_trans, was_there}
+use Rattle.up_calls.proofs.GatherLemmas.{asks_before, gathered_for, gathered_trans, is_there, log_later, own_texts_earlier, own_texts_later, same_some, was_there}
 use Rattle.up_calls.proofs.RoundLemmas.{missing_needed, rounds_earlier, rounds_for, rounds_next, rounds_until}
 use Rattle.up_calls.specs.Answered.{TreeAnswered}
 use Rattle.up_calls.specs.Asks.{Asks, EachAfter}
 use Rattle.up_calls.specs.Gathered.{Gathered, HasRounds, IsWanted, missing_over}
 use Rattle.up_calls.specs.Loads.{OwnTexts, Pair, group_answer, group_question, load_failed}
-use Rattle.up_calls.specs.Rounds.{IsMissing, IsWhole, LoadedInRounds, LoadsRound, bound}
+use Rattle.up_calls.specs.Rounds.{IsMissing, LoadsRound, bound}
 use Rattle.up_calls.specs.Routes.{LogName, OwnStays, Question}
-use Rattle.up_calls.specs.Told.{IsSaid, IsSaidToFail, Misses, TreeTold}
+use Rattle.up_calls.specs.Told.{IsSaid, Misses, TreeTold}
 use Rattle.up_calls.specs.Turns.{Recorded}
-use Rattle.up_calls.specs.Views.{Later, LaterSeen, LaterTree, Seen, SeenTree, Views, log_after, log_seen, own_of}
+use Rattle.up_calls.specs.Views.{Later, LaterSeen, LaterTree, Seen, SeenTree, Views, log_after, own_of}
 use Rattle.up_calls.specs.declared.event.Event.{Event}
 use Rattle.up_calls.specs.declared.logs.Turn.TheVariants as turn
 use Rattle.up_lists.proofs.BeginsLemmas.{Begins-trans, length-Begins}
@@ -27,9 +27,7 @@ use Rattle.up_names.specs.PathOrder.{path_eq}
 use Rattle.up_names.specs.Texts.{UserName}
 use Rattle.up_peer.specs.declared.loader.Loader.{Ghosts}
 use Rattle.up_policy.specs.Loadings.{Loading}
-use Rattle.up_replay.specs.Logs.{Log}
 use Rattle.up_wire.specs.declared.replies.Reply.{Reply}
-use Rattle.up_wire.specs.declared.replies.Reply.TheVariants as reply
 
 -- ---- what is seen later
 

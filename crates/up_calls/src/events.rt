@@ -9,7 +9,13 @@ use up_policy::Loaded;
 use up_wire::Reply;
 
 /// An event with nothing loaded or fetched, at this position of its log, or 0 where no log was looked at.
-pub(crate) fn bare(alloc: Global, random: RandomState, reply: Reply, position: u64, now: u64) -> Event
+pub(crate) fn bare(
+    alloc: Global,
+    random: RandomState,
+    reply: Reply,
+    position: u64,
+    now: u64,
+) -> Event
     ensures { result ≡ record {
       reply = reply;
       position = position;

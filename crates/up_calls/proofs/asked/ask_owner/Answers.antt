@@ -1,4 +1,4 @@
-use Rattle.std.proofs.Common.{Some, ap, sym, ◌∙◌}
+use Rattle.std.proofs.Common.{Some, sym, ◌∙◌}
 use Rattle.up_calls.proofs.CameLemmas.{came_elsewhere, came_served, wanting_bare}
 use Rattle.up_calls.specs.Routes.{LogName, Question}
 use Rattle.up_calls.proofs.asked.ask_owner.Goals as goal

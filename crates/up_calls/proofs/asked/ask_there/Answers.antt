@@ -1,10 +1,9 @@
-use Rattle.std.proofs.Common.{None, Some, sym}
+use Rattle.std.proofs.Common.{None, Some}
 use Rattle.up_calls.proofs.AsksLemmas.{Tries-none}
 use Rattle.up_calls.proofs.CameLemmas.{if_ok, on_err, on_err_now, served_if}
 use Rattle.up_calls.proofs.GatherLemmas.{stays_trans}
 use Rattle.up_calls.proofs.TurnLemmas.{some_later}
-use Rattle.up_calls.specs.Answered.{TreeAnswered}
-use Rattle.up_calls.specs.Routes.{LogName, OwnStays, Question}
+use Rattle.up_calls.specs.Routes.{LogName, Question}
 use Rattle.up_calls.specs.declared.event.Event.{Event}
 use Rattle.up_calls.proofs.asked.ask_there.Goals as goal
 

@@ -1,6 +1,5 @@
 use Rattle.up_calls.proofs.ApartLemmas.{tells_no_more}
 use Rattle.up_calls.proofs.CameLemmas.{asked_by, tied_by}
-use Rattle.up_calls.specs.Calls.{Asked}
 use Rattle.up_calls.specs.Routes.{Question, log_asked}
 use Rattle.up_calls.proofs.asking.ask.Goals as goal
 

@@ -1,7 +1,7 @@
 use Rattle.std.proofs.Common.{◌∷◌, ◌++◌, [], List, None, map, sym, ap, ◌∙◌, append_assoc}
 use Rattle.up_answers.specs.Fetching.{is_failed}
 use Rattle.up_calls.proofs.AsksLemmas.{Tries-Asks, Tries-trans}
-use Rattle.up_calls.proofs.BlockLemmas.{blocks_none, blocks_trans}
+use Rattle.up_calls.proofs.BlockLemmas.{blocks_trans}
 use Rattle.up_calls.specs.Blocks.{Got, block_answer, block_question}
 use Rattle.up_calls.specs.Routes.{LogName}
 use Rattle.up_entry.specs.declared.entries.Location.{Location}

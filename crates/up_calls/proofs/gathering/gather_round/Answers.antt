@@ -1,8 +1,8 @@
-use Rattle.std.proofs.Common.{◌≡◌, ◌≢◌, ◌∷◌, [], Some, None, ap, arith, length, length-append, slice_get, sym, ◌∙◌, inl, inr}
+use Rattle.std.proofs.Common.{◌≡◌, ◌≢◌, ◌∷◌, [], Some, None, ap, arith, length, length-append, slice_get, sym, ◌∙◌}
 use Rattle.std.specs.Option.{option_copied}
 use Rattle.up_calls.proofs.AsksLemmas.{Tries-Asks, Tries-trans}
 use Rattle.up_calls.proofs.GatherLemmas.{adds_of, gathered_adds, gathered_none, gathered_trans}
-use Rattle.up_calls.proofs.RoundLemmas.{adds_next, adds_none, missing_still, new_still, round_ends}
+use Rattle.up_calls.proofs.RoundLemmas.{adds_next, adds_none, missing_still, new_still}
 use Rattle.up_calls.specs.Loads.{group_answer, group_question, load_failed}
 use Rattle.up_calls.specs.Rounds.{IsMissing}
 use Rattle.up_calls.proofs.gathering.gather_round.Goals as goal
@@ -42,7 +42,7 @@ loop-i-preserved g c =
     let names = c.args.missing.now in
     let at : slice_get names c.loop-i.i ≡ Some c.in-Some.name.now = sym c.get.ensures ∙ ap option_copied c.in-Some.is in
     let one = adds_of g.L.Loader op (g.B.Logs.operator_of c.loop-i.logs) b d c.loop-i.loader c.gather_new.new.loader c.in-Some.name.now c.loop-i.loaded c.gather_new.new.loaded
-        (g.met.B.Logs.asks_as None c.args.logs.now c.loop-i.logs c.loop-i.invariant.tie) c.in_ok-gather_new.ensures.adds in
+    (g.met.B.Logs.asks_as None c.args.logs.now c.loop-i.logs c.loop-i.invariant.tie) c.in_ok-gather_new.ensures.adds in
     let long = ap length one.whole ∙ length-append c.loop-i.loaded ((c.in-Some.name.now, one.answer) ∷ []) in
     let full : length c.loop-i.loaded ≢ 1024 = omega (arith, c.if-len-eq-BOUND.false, c.len.ensures.len) in
     record {

@@ -1,4 +1,4 @@
-use Rattle.std.proofs.Common.{◌≡◌, ◌≤◌, length}
+use Rattle.std.proofs.Common.{◌≤◌, length}
 use Rattle.std.specs.Prelude.{None}
 use Rattle.up_calls.specs.Gathered.{Gathered}
 use Rattle.up_calls.specs.Rounds.{LoadsFirst, IsMissing, bound}

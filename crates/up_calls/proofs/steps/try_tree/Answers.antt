@@ -1,4 +1,4 @@
-use Rattle.std.proofs.Common.{◌≡◌, ap, inl, refl, subst, sym, ◌∙◌}
+use Rattle.std.proofs.Common.{ap, inl, refl, subst, sym, ◌∙◌}
 use Rattle.up_answers.specs.Needs.{needs}
 use Rattle.up_calls.proofs.RoundLemmas.{is_whole, not_enough, not_full}
 use Rattle.up_calls.proofs.StateLemmas.{tried_said}
