@@ -8,8 +8,6 @@ use Rattle.std.proofs.lemmas.Slice.Eq.{bytes_eq-Decides}
 use Rattle.up_blocks.specs.Blocks as blocks
 use Rattle.up_blocks.specs.declared.record.BlockRecord.{BlockRecord}
 use Rattle.up_calls.proofs.SettledLemmas.{settled_same}
-use Rattle.up_calls.proofs.GatherLemmas.{is_there, stays_same, stays_trans}
-use Rattle.up_calls.proofs.TurnLemmas.{later_trans, stays_more}
 use Rattle.up_calls.specs.Gathered.{OwnText}
 use Rattle.up_calls.specs.Loads.{group_text_answer, load_of}
 use Rattle.up_calls.specs.Routes.{LogName, OwnStays}
@@ -20,10 +18,11 @@ use Rattle.up_disk.specs.declared.disk.Disk.{Ghosts}
 use Rattle.up_ends.specs.Growing.{OnlyGrows}
 use Rattle.up_host.proofs.AloneLemmas.{grown_own, positions_next}
 use Rattle.up_host.proofs.PlaceLemmas.{find_other, found_at, found_is, found_set}
-use Rattle.up_host.proofs.SettledLemmas.{host_keys, host_same, host_store, host_tree, stays_then}
+use Rattle.up_host.proofs.SettledLemmas.{host_keys, host_store, host_tree}
 use Rattle.up_host.proofs.SumLemmas.{sum_most, sum_set}
 use Rattle.up_host.specs.Alone.{AddsOwn, HostState, disk_faults, ends_at, is_of, positions, tree_for, tree_view, view_of, views}
 use Rattle.up_host.specs.Tied.{DiskRose, IsTied}
+use Rattle.up_host.specs.TiedLaws.{later_tree, le_same, same_view, seen_same}
 use Rattle.up_host.specs.declared.held.Held.{Held}
 use Rattle.up_journal.specs.Logs.{LogState}
 use Rattle.up_keys.specs.Keys as keys
@@ -37,12 +36,6 @@ use Rattle.up_tree.specs.States.{State, entries_of, fixed_of, log_of, over_journ
 use Rattle.up_wire.specs.declared.keys.KeyRecord.{KeyRecord}
 
 -- ---- numbers
-
-le_same : (n : ℕ) → n ≤ n
-le_same n = omega arith
-
-le_then : (a b c : ℕ) → a ≤ b → b ≤ c → a ≤ c
-le_then a b c p q = omega (arith, p, q)
 
 first_later : (t u a b s k : ℕ) → u + a ≡ t + b → a ≤ b → t + (s + k) ≤ u + (s + k)
 first_later t u a b s k sums later = omega (arith, sums, later)
@@ -64,31 +57,9 @@ last_rose t s a b rose = λ small. (let more : a < b = rose (omega (arith, small
 
 -- ---- one log
 
-pub later_tree : (view : Option SeenTree) → LaterTree view view
-later_tree None = tt
-later_tree (Some v) = record { begins = record { rest = []; whole = append-nil v.seen }; failed = omega arith; fixed = refl }
-
-seen_same : {E F : Type 0} (v : Seen E F) → LaterSeen v v
-seen_same v = record { begins = record { rest = []; whole = append-nil v.seen }; failed = omega arith; fixed = refl }
-
-adds_both : {E F : Type 0} (u v w : Seen E F) → AddsOwn u v → AddsOwn v w → AddsOwn u w
-adds_both u v w one two =
-    let p : length v.seen + length u.own ≡ length u.seen + length v.own = one in
-    let q : length w.seen + length v.own ≡ length v.seen + length w.own = two in
-    omega (arith, p, q)
-
-same_view : (x : Option SeenTree) (v w : SeenTree) → x ≡ Some v → x ≡ Some w → AddsOwn v w
-same_view x v w p q =
-    let k : Some v ≡ Some w = sym p ∙ q in
-    let same : v ≡ w = cc in
-    subst (AddsOwn v) same refl
-
--- where no own record came, and none but own ones come, the log is as long
-as_long : {E F : Type 0} (v w : Seen E F) → AddsOwn v w → w.own ≡ v.own → length v.seen ≡ length w.seen
-as_long v w grown same =
-    let p : length w.seen + length v.own ≡ length v.seen + length w.own = grown in
-    let k : length w.own ≡ length v.own = ap length same in
-    omega (arith, p, k)
+length-one : {X : Type 0} (xs : List X) (x : X) → length (xs ++ x ∷ []) ≡ length xs + 1
+length-one [] x = refl
+length-one (y ∷ ys) x = let rest : length (ys ++ x ∷ []) ≡ length ys + 1 = length-one ys x in omega (arith, rest)
 
 -- what a turn of a log of a host takes
 pub took_view : {E F : Type 0} (before after : List E) (base failed_before failed_after : ℕ) (fixed_before fixed_after : F) (rises : Type 0) → base ≤ length before → (Rose failed_before failed_after → rises)
@@ -100,80 +71,8 @@ took_view {E} before after base failed_before failed_after fixed_before fixed_af
   one = λ x h. ap (λ (xs : List E). positions base (length xs)) h ∙ ap (positions base) (length-one before x) ∙ positions_next base (length before) fits;
   rose = λ h. (h, up h);
 }
-  where
-    length-one : {X : Type 0} (xs : List X) (x : X) → length (xs ++ x ∷ []) ≡ length xs + 1
-    length-one [] x = refl
-    length-one (y ∷ ys) x = let rest : length (ys ++ x ∷ []) ≡ length ys + 1 = length-one ys x in omega (arith, rest)
 
 module _ {D : Type 0} (disks : Ghosts D) where
-  -- ---- any calls
-
-  pub tied_same : (a : HostState D) → IsTied disks None a a
-  tied_same a = record {
-    name = refl;
-    operator = refl;
-    trees = λ owner n. refl;
-    keys = λ n. refl;
-    later = record { trees = λ owner. later_tree ((views disks a).tree owner); store = seen_same _; keys = seen_same _ };
-    own = stays_same None (views disks a);
-    tree_grown = λ owner v w is_v is_w. same_view ((views disks a).tree owner) v w is_v is_w;
-    store_grown = refl;
-    keys_grown = refl;
-    stays = host_same disks a a refl;
-    counts = le_same (disk_faults disks a);
-  }
-
-  pub tied_joined : (but : Option LogName) (a b c : HostState D) → IsTied disks but a b → IsTied disks but b c → IsTied disks but a c
-  tied_joined but a b c one two = record {
-    name = two.name ∙ one.name;
-    operator = two.operator ∙ one.operator;
-    trees = λ owner n. two.trees owner n ∙ one.trees owner n;
-    keys = λ n. two.keys n ∙ one.keys n;
-    later = later_trans (views disks a) (views disks b) (views disks c) one.later two.later;
-    own = stays_trans but (views disks a) (views disks b) (views disks c) one.own two.own;
-    tree_grown = λ owner v w is_v is_w.
-        let t = is_there ((views disks a).tree owner) ((views disks b).tree owner) v (one.later.trees owner) is_v in
-        adds_both v t.0 w (one.tree_grown owner v t.0 is_v t.1) (two.tree_grown owner t.0 w t.1 is_w);
-    store_grown = adds_both (views disks a).store (views disks b).store (views disks c).store one.store_grown two.store_grown;
-    keys_grown = adds_both (views disks a).keys (views disks b).keys (views disks c).keys one.keys_grown two.keys_grown;
-    stays = stays_then disks a b c one.stays two.stays;
-    counts = le_then (disk_faults disks a) (disk_faults disks b) (disk_faults disks c) one.counts two.counts;
-  }
-
-  pub tied_wider : (but : Option LogName) (a b : HostState D) → IsTied disks None a b → IsTied disks but a b
-  tied_wider but a b h = record {
-    name = h.name;
-    operator = h.operator;
-    trees = λ owner n. h.trees owner (λ e. cc);
-    keys = λ n. h.keys (λ e. cc);
-    later = h.later;
-    own = stays_more but (views disks a) (views disks b) h.own;
-    tree_grown = h.tree_grown;
-    store_grown = h.store_grown;
-    keys_grown = h.keys_grown;
-    stays = h.stays;
-    counts = h.counts;
-  }
-
-  tree_long : (n : ℕ) (x y : Option SeenTree) → LaterTree x y → own_of y ≡ own_of x → ((v w : SeenTree) → x ≡ Some v → y ≡ Some w → AddsOwn v w)
-      → option_map (λ (v : SeenTree). length v.seen) y ≡ Some n → option_map (λ (v : SeenTree). length v.seen) x ≡ Some n
-  tree_long n None None later own grown at = at
-  tree_long n None (Some w) later own grown at = absurd later
-  tree_long n (Some v) None later own grown at = absurd later
-  tree_long n (Some v) (Some w) later own grown at = let same : w.own ≡ v.own = cc in ap Some (as_long v w (grown v w refl refl) same) ∙ at
-
-  pub left_since : (log : LogName) (n : ℕ) (a b : HostState D) → IsTied disks (Some log) a b → OwnStays None (views disks a) (views disks b) → ends_at (Some log) (views disks b) ≡ Some n → ends_at (Some log) (views disks a) ≡ Some n
-  left_since (LogName.OfTree owner) n a b tie own at =
-      tree_long n ((views disks a).tree owner) ((views disks b).tree owner) (tie.later.trees owner) (own.trees owner (λ e. cc)) (tie.tree_grown owner) at
-  left_since LogName.OfStore n a b tie own at = ap Some (as_long (views disks a).store (views disks b).store tie.store_grown (own.store (λ e. cc))) ∙ at
-  left_since LogName.OfKeys n a b tie own at = ap Some (as_long (views disks a).keys (views disks b).keys tie.keys_grown (own.keys (λ e. cc))) ∙ at
-
-  pub rises_within : (but : Option LogName) (a b c d : HostState D) → IsTied disks but a b → DiskRose disks b c → IsTied disks but c d → DiskRose disks a d
-  rises_within but a b c d one h two = record {
-    later = le_then (disk_faults disks a) (disk_faults disks b) (disk_faults disks d) one.counts (le_then (disk_faults disks b) (disk_faults disks c) (disk_faults disks d) h.later two.counts);
-    rose = Rose-before (disk_faults disks a) (disk_faults disks c) (disk_faults disks d) (Rose-after (disk_faults disks a) (disk_faults disks b) (disk_faults disks c) one.counts h.later h.rose) two.counts;
-  }
-
   -- ---- a tree was changed
 
   module _ (host : HostState D) (owner : UserName) (place : ℕ) (before : Held (State D)) (state : State D) (at : position (is_of owner) host.trees ≡ Some place) (there : slice_get host.trees place ≡ Some before)

@@ -11,6 +11,7 @@ pub use Rattle.up_calls.specs.Alike
 pub mod Alone
 pub mod Settled
 pub mod Tied
+pub mod TiedLaws
 pub mod Runs
 pub mod Opens
 pub mod Peers

@@ -17,7 +17,7 @@ impl<D: Disk> Logs for Host<D> {
     ghost use Rattle.std.specs.Prelude.{◌≡◌, Some};
     ghost use Rattle.up_host.specs.Alone.{ends_at, views};
     ghost use Rattle.up_host.specs.Tied.{DiskRose, IsTied};
-    ghost use Rattle.up_host.proofs.TiedLemmas.{left_since, rises_within, tied_joined, tied_same, tied_wider};
+    ghost use Rattle.up_host.specs.TiedLaws.{left_since, rises_within, tied_joined, tied_same, tied_wider};
 
     ghost operator_of = { λ host. host.operator };
 
