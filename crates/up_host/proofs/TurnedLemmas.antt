@@ -66,8 +66,8 @@ module _ {D : Type 0} (disks : Ghosts D) where
     at_end (turn.Said said n) h = tree_end ∙ ap Some (sym h.position_is)
     at_end turn.Wanting h = tt
 
-    pub tree_left : answered_at came (λ n. ends_at (Some (LogName.OfTree owner)) (views disks host) ≡ Some n)
-    tree_left = at_end came tried
+    pub tree_left : (now_is : HostState D) → host ≡ now_is → answered_at came (λ n. ends_at (Some (LogName.OfTree owner)) (views disks now_is) ≡ Some n)
+    tree_left now_is is = subst (λ (h : HostState D). answered_at came (λ n. ends_at (Some (LogName.OfTree owner)) (views disks h) ≡ Some n)) is (at_end came tried)
 
     pub tree_tied : IsTied disks (Some (LogName.OfTree owner)) host after
     tree_tied = tied_tree disks host owner place before state at there grows fits (tried_settled disks q loaded fetched now before.state state came tried)
@@ -92,13 +92,18 @@ module _ {D : Type 0} (disks : Ghosts D) where
     pub read_tied : StoreReads disks host.store.state state → IsTied disks None host stored
     read_tied reads = tied_store disks host state grows fits None (λ n. reads.log) reads.stays
 
-    pub read_given : {E : Type 0} (reference : List ℕ) (result : Result Fetch E) → StoreReads disks host.store.state state → IfOk result (BlockRead disks host.store.state state reference)
+    read_gives : {E : Type 0} (reference : List ℕ) (result : Result Fetch E) → StoreReads disks host.store.state state → IfOk result (BlockRead disks host.store.state state reference)
         → IfOk result (IsFromStore (views disks host).store (views disks stored).store reference)
-    read_given reference (Ok given) reads h =
+    read_gives reference (Ok given) reads h =
         block_told disks host.store.state state (store_view disks host.store) (store_view disks stored.store) (DiskRose disks host stored)
         (took_view host.store.state.log state.log host.store.base (disks.faults host.store.state.disk) (disks.faults state.disk) host.store.state.limits state.limits (DiskRose disks host stored) fits (store_rose disks host state grows fits))
         reads reference given h
-    read_given reference (Err e) reads h = tt
+    read_gives reference (Err e) reads h = tt
+
+    pub read_given : {E : Type 0} (now_is : HostState D) → host ≡ now_is → (reference : List ℕ) (result : Result Fetch E) → StoreReads disks host.store.state state → IfOk result (BlockRead disks host.store.state state reference)
+        → IfOk result (IsFromStore (views disks now_is).store (views disks stored).store reference)
+    read_given now_is is reference result reads h =
+        subst (λ (x : HostState D). IfOk result (IsFromStore (views disks x).store (views disks stored).store reference)) is (read_gives reference result reads h)
 
     failed_read : (reference : List ℕ) (given : Fetch) → BlockRead disks host.store.state state reference given → given ≡ fetch.Failed → DiskRose disks host stored
     failed_read reference fetch.Failed (inl none) is = absurd none

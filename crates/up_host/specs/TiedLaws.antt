@@ -89,8 +89,9 @@ module _ {D : Type 0} (disks : Ghosts D) where
     keys = settled_trans disks a.keys.state b.keys.state c.keys.state one.keys.later two.keys.later one.keys two.keys;
   }
 
-  -- ---- any calls
+-- ---- any calls
 
+module _ {D : Type 0} {disks : Ghosts D} where
   pub tied_same : (a : HostState D) → IsTied disks None a a
   tied_same a = record {
     name = refl;

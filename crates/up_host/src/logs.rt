@@ -88,11 +88,11 @@ impl<D: Disk> Logs for Host<D> {
         try_keys(&mut self.keys.state, user, request)
     }
 
-    ghost same = { λ a. tied_same D.Disk a };
+    ghost same = { λ a. tied_same a };
 
-    ghost joined = { λ but a b c. tied_joined D.Disk but a b c };
+    ghost joined = { λ but a b c. tied_joined but a b c };
 
-    ghost wider = { λ but a b. tied_wider D.Disk but a b };
+    ghost wider = { λ but a b. tied_wider but a b };
 
     ghost asks_as = { λ but a b tie. tie.operator };
 
@@ -102,7 +102,7 @@ impl<D: Disk> Logs for Host<D> {
 
     ghost stays = { λ but a b tie. tie.own };
 
-    ghost left_since = { λ log n a b c. left_since D.Disk log n a b };
+    ghost left_since = { λ log n a b c. left_since log n a b };
 
-    ghost rises_within = { λ log but a b c d. rises_within D.Disk but a b c d };
+    ghost rises_within = { λ log but a b c d. rises_within but a b c d };
 }

@@ -48,7 +48,7 @@ returns-clause-left g c =
     let there : slice_get c.self.inside.trees.items c.in-Some.place ≡ Some c.index_mut-held.result.now =
     slice_get-get_or c.self.inside.trees.items c.in-Some.place c.index_mut-held.result.now (position-place (is_of c.args.owner.now) c.self.inside.trees.items c.in-Some.place at).1 ∙ ap Some (sym c.index_mut-held.ensures.value) in
     let fits : c.index_mut-held.result.now.base ≤ length c.index_mut-held.result.now.state.log = base_at c.self.inside.trees.items c.in-Some.place c.index_mut-held.result.now c.self.invariant.trees_base there in
-    rw (← c.self.view_is) (tree_left g.D.Disk _ c.args.owner.now c.in-Some.place c.index_mut-held.result.now c.try_tree.new.state at there c.try_tree.ensures.grows fits (record { user = c.args.user.now; request = c.args.request.now }) c.args.loaded.now c.args.fetched.now c.args.now c.try_tree.result c.try_tree.ensures.tried)
+    tree_left g.D.Disk _ c.args.owner.now c.in-Some.place c.index_mut-held.result.now c.try_tree.new.state at there c.try_tree.ensures.grows fits (record { user = c.args.user.now; request = c.args.request.now }) c.args.loaded.now c.args.fetched.now c.args.now c.try_tree.result c.try_tree.ensures.tried c.args.self.now c.self.view_is
 
 pub returns-clause-tie : goal.returns-clause-tie
 returns-clause-tie g c =

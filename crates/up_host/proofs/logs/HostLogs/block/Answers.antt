@@ -5,7 +5,7 @@ use Rattle.up_host.proofs.logs.HostLogs.block.Goals as goal
 
 pub returns-clause-given : goal.returns-clause-given
 returns-clause-given g c =
-    rw (← c.self.view_is) (read_given g.D.Disk _ c.read_block.new.state c.read_block.ensures.grows c.self.invariant.store_base c.args.reference.now c.read_block.result c.read_block.ensures.reads c.read_block.ensures.given)
+    read_given g.D.Disk _ c.read_block.new.state c.read_block.ensures.grows c.self.invariant.store_base c.args.self.now c.self.view_is c.args.reference.now c.read_block.result c.read_block.ensures.reads c.read_block.ensures.given
 
 pub returns-clause-failed : goal.returns-clause-failed
 returns-clause-failed g c =
