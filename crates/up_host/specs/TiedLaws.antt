@@ -50,6 +50,14 @@ as_long v w grown same =
     let k : length w.own ≡ length v.own = ap length same in
     omega (arith, p, k)
 
+-- so with a tree that a host has
+tree_long : (n : ℕ) (x y : Option SeenTree) → LaterTree x y → own_of y ≡ own_of x → ((v w : SeenTree) → x ≡ Some v → y ≡ Some w → AddsOwn v w)
+    → option_map (λ (v : SeenTree). length v.seen) y ≡ Some n → option_map (λ (v : SeenTree). length v.seen) x ≡ Some n
+tree_long n None None later own grown at = at
+tree_long n None (Some w) later own grown at = absurd later
+tree_long n (Some v) None later own grown at = absurd later
+tree_long n (Some v) (Some w) later own grown at = let same : w.own ≡ v.own = cc in ap Some (as_long v w (grown v w refl refl) same) ∙ at
+
 -- ---- settled logs
 
 -- a list that is as long has an item there too
@@ -138,13 +146,6 @@ module _ {D : Type 0} {disks : Ghosts D} where
     stays = h.stays;
     counts = h.counts;
   }
-
-  tree_long : (n : ℕ) (x y : Option SeenTree) → LaterTree x y → own_of y ≡ own_of x → ((v w : SeenTree) → x ≡ Some v → y ≡ Some w → AddsOwn v w)
-      → option_map (λ (v : SeenTree). length v.seen) y ≡ Some n → option_map (λ (v : SeenTree). length v.seen) x ≡ Some n
-  tree_long n None None later own grown at = at
-  tree_long n None (Some w) later own grown at = absurd later
-  tree_long n (Some v) None later own grown at = absurd later
-  tree_long n (Some v) (Some w) later own grown at = let same : w.own ≡ v.own = cc in ap Some (as_long v w (grown v w refl refl) same) ∙ at
 
   pub left_since : (log : LogName) (n : ℕ) (a b : HostState D) → IsTied disks (Some log) a b → OwnStays None (views disks a) (views disks b) → ends_at (Some log) (views disks b) ≡ Some n → ends_at (Some log) (views disks a) ≡ Some n
   left_since (LogName.OfTree owner) n a b tie own at =

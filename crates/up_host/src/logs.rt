@@ -69,15 +69,7 @@ impl<D: Disk> Logs for Host<D> {
             unreachable!();
         };
         let held = &mut self.trees[place];
-        try_tree(
-            alloc,
-            &mut held.state,
-            user,
-            request,
-            loaded,
-            fetched,
-            now,
-        )
+        try_tree(alloc, &mut held.state, user, request, loaded, fetched, now)
     }
 
     fn ask_store(&mut self, user: &User, request: &Request) -> (Reply, u64) {
