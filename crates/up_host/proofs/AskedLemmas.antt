@@ -1,6 +1,5 @@
 -- What a caller alone learns of a call.
-use Rattle.std.proofs.Common.{◌≡◌, ◌≢◌, ◌≤◌, ◌<◌, ◌+◌, ◌-◌, ◌^◌, ◌⊎◌, inl, inr, ℕ, List, [], length, take, refl, sym, ap, subst, ◌∙◌, arith, Option, Some, None, option_map}
-use Rattle.std.specs.Prelude.{if◌then◌else◌, is_some}
+use Rattle.std.proofs.Common.{◌≡◌, ◌≢◌, ◌≤◌, ◌<◌, ◌+◌, ◌-◌, ◌^◌, ◌⊎◌, inl, inr, ℕ, [], length, refl, sym, ap, subst, ◌∙◌, arith, Some, None, option_map}
 use Rattle.std.proofs.Math.Seq.{take-length}
 use Rattle.up_answers.specs.Needs.{needs}
 use Rattle.up_calls.proofs.GatherLemmas.{is_there, log_later}
@@ -10,7 +9,7 @@ use Rattle.up_calls.specs.Calls.{IsTried}
 use Rattle.up_calls.specs.Gathered.{missing_over}
 use Rattle.up_calls.specs.Routes.{LogName, Question, log_asked, log_by, refusal, refusal_by, route_refusal, service_of}
 use Rattle.up_calls.specs.Rounds.{InRounds, LoadedInRounds}
-use Rattle.up_calls.specs.Views.{LaterSeen, SeenTree, Views, log_after, log_seen}
+use Rattle.up_calls.specs.Views.{SeenTree, Views, log_after, log_seen}
 use Rattle.up_calls.specs.declared.event.Event.{Event}
 use Rattle.up_calls.specs.declared.service.Service.{Service}
 use Rattle.up_calls.specs.declared.service.Service.TheVariants as service

@@ -1,5 +1,5 @@
 -- How the logs of a host stay settled.
-use Rattle.std.proofs.Common.{arith, ◌≡◌, ℕ, zero, suc, List, [], ◌∷◌, length, map, refl, sym, ap, subst, ◌∙◌, Some, slice_get, slice_set}
+use Rattle.std.proofs.Common.{◌≡◌, ℕ, zero, suc, List, [], ◌∷◌, map, refl, sym, ap, subst, ◌∙◌, Some, slice_get, slice_set}
 use Rattle.up_blocks.specs.declared.record.BlockRecord.{BlockRecord}
 use Rattle.up_calls.proofs.SettledLemmas.{settled_same}
 use Rattle.up_calls.specs.Settled.{KeepsSettled}
@@ -9,7 +9,6 @@ use Rattle.up_host.specs.Settled.{StaysSettled, owner_of}
 use Rattle.up_host.specs.TiedLaws.{trees_same}
 use Rattle.up_host.specs.declared.held.Held.{Held}
 use Rattle.up_journal.specs.Logs.{LogState}
-use Rattle.up_names.specs.Texts.{UserName}
 use Rattle.up_tree.specs.States.{State, over_journal}
 use Rattle.up_wire.specs.declared.keys.KeyRecord.{KeyRecord}
 

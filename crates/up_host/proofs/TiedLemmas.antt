@@ -1,6 +1,6 @@
 -- What every call leaves of a host that is not shared.
-use Rattle.std.proofs.Common.{◌≡◌, ◌≢◌, ◌≤◌, ◌<◌, ◌+◌, ℕ, zero, suc, Bool, true, false, cond, List, [], ◌∷◌, ◌++◌, length, take, map, refl, sym, ap, subst, ◌∙◌, arith, append-nil, Option, Some, None, option_map, slice_get, slice_set, bytes_eq}
-use Rattle.std.specs.Prelude.{is_some, position}
+use Rattle.std.proofs.Common.{◌≡◌, ◌≢◌, ◌≤◌, ◌<◌, ◌+◌, ℕ, Bool, true, false, List, [], ◌∷◌, ◌++◌, length, refl, sym, ap, subst, ◌∙◌, arith, Option, Some, option_map, slice_get, slice_set, bytes_eq}
+use Rattle.std.specs.Prelude.{position}
 use Rattle.std.specs.List.{sum_by}
 use Rattle.std.proofs.Math.Seq.{take-length}
 use Rattle.std.proofs.lemmas.Bool.{false≢true}
@@ -10,24 +10,23 @@ use Rattle.up_blocks.specs.declared.record.BlockRecord.{BlockRecord}
 use Rattle.up_calls.proofs.SettledLemmas.{settled_same}
 use Rattle.up_calls.specs.Gathered.{OwnText}
 use Rattle.up_calls.specs.Loads.{group_text_answer, load_of}
-use Rattle.up_calls.specs.Routes.{LogName, OwnStays}
+use Rattle.up_calls.specs.Routes.{LogName}
 use Rattle.up_calls.specs.Settled.{KeepsSettled}
 use Rattle.up_calls.specs.Steps.{Takes}
-use Rattle.up_calls.specs.Views.{Later, LaterSeen, LaterTree, Seen, SeenTree, Views, own_of}
+use Rattle.up_calls.specs.Views.{LaterSeen, LaterTree, SeenTree, own_of}
 use Rattle.up_disk.specs.declared.disk.Disk.{Ghosts}
 use Rattle.up_ends.specs.Growing.{OnlyGrows}
 use Rattle.up_host.proofs.AloneLemmas.{grown_own, positions_next}
 use Rattle.up_host.proofs.PlaceLemmas.{find_other, found_at, found_is, found_set}
 use Rattle.up_host.proofs.SettledLemmas.{host_keys, host_store, host_tree}
 use Rattle.up_host.proofs.SumLemmas.{sum_most, sum_set}
-use Rattle.up_host.specs.Alone.{AddsOwn, HostState, disk_faults, ends_at, is_of, positions, tree_for, tree_view, view_of, views}
+use Rattle.up_host.specs.Alone.{AddsOwn, HostState, disk_faults, is_of, positions, tree_for, tree_view, view_of, views}
 use Rattle.up_host.specs.Tied.{DiskRose, IsTied}
 use Rattle.up_host.specs.TiedLaws.{later_tree, le_same, same_view, seen_same}
 use Rattle.up_host.specs.declared.held.Held.{Held}
 use Rattle.up_journal.specs.Logs.{LogState}
 use Rattle.up_keys.specs.Keys as keys
 use Rattle.up_lists.proofs.BeginsLemmas.{length-Begins}
-use Rattle.up_lists.proofs.Causes.{Rose-after, Rose-before}
 use Rattle.up_lists.specs.Counts.{Rose}
 use Rattle.up_names.specs.PathNames.{PathName}
 use Rattle.up_names.specs.Texts.{UserName}

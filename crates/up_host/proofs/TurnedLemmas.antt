@@ -1,5 +1,5 @@
 -- What one turn of a log of a host tells its caller.
-use Rattle.std.proofs.Common.{◌≡◌, ◌≤◌, ℕ, List, length, refl, sym, ap, subst, ◌∙◌, true, false, inl, inr, Option, Some, None, Result, Ok, Err, option_map, slice_get, slice_set}
+use Rattle.std.proofs.Common.{◌≡◌, ◌≤◌, ℕ, List, length, refl, sym, ap, subst, ◌∙◌, true, inl, inr, Option, Some, None, Result, Ok, Err, option_map, slice_get, slice_set}
 use Rattle.std.specs.Prelude.{IfOk, is_some, position}
 use Rattle.std.proofs.lemmas.Bool.{false≢true}
 use Rattle.up_answers.specs.Fetching.{Fetched}

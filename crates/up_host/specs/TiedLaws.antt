@@ -1,5 +1,5 @@
 -- What every call leaves is left by two calls, one after the other.
-use Rattle.std.proofs.Common.{◌≡◌, ◌≢◌, ◌≤◌, ◌<◌, ◌+◌, ℕ, zero, suc, List, [], ◌∷◌, length, map, refl, sym, ap, subst, ◌∙◌, arith, append-nil, Option, Some, None, option_map, slice_get}
+use Rattle.std.proofs.Common.{◌≡◌, ◌≤◌, ◌+◌, ℕ, zero, suc, List, [], ◌∷◌, length, map, refl, sym, ap, subst, ◌∙◌, arith, append-nil, Option, Some, None, option_map, slice_get}
 use Rattle.up_calls.proofs.GatherLemmas.{is_there, stays_same, stays_trans}
 use Rattle.up_calls.proofs.SettledLemmas.{settled_same, settled_trans}
 use Rattle.up_calls.proofs.TurnLemmas.{later_trans, stays_more}
