@@ -1,0 +1,16 @@
+pub mod AsksLemmas
+pub mod NeedLemmas
+pub mod PlaceLemmas
+pub mod QuietLemmas
+pub mod LaterLemmas
+pub mod ApartLemmas
+pub mod RoundLemmas
+pub mod GatherLemmas
+pub mod TurnLemmas
+pub mod BlockLemmas
+pub mod CameLemmas
+pub mod Told
+pub mod StoreDone
+pub mod KeysDone
+pub mod SettledLemmas
+pub mod StepLemmas

@@ -1,0 +1,5 @@
+pub mod Pairs
+pub mod Halves
+pub mod Places
+pub mod Adding
+pub mod Turning

@@ -1,0 +1,4 @@
+pub mod Sharing
+pub mod Splits
+pub mod Records
+pub mod Callers
