@@ -3,6 +3,7 @@ use Rattle.std.proofs.Common.{◌≡◌, ◌≢◌, ◌||◌, ◌≤◌, ℕ, Bo
 use Rattle.std.specs.Prelude.{OnOk, is_ok, is_some, if◌then◌else◌}
 use Rattle.std.specs.List.{flat_map, list_any}
 use Rattle.std.specs.Option.{option_or}
+use Rattle.std.specs.Result.{result_ok}
 use Rattle.std.proofs.lemmas.Bool.{false≢true}
 use Rattle.std.proofs.lemmas.List.{take-append-le}
 use Rattle.up_answers.specs.Answers.{log_owner}
@@ -10,7 +11,7 @@ use Rattle.up_lists.specs.Counts.{HasCause, StaysUnless}
 use Rattle.up_lists.proofs.Causes.{StaysUnless-more, StaysUnless-same}
 use Rattle.up_calls.proofs.AsksLemmas.{All-append, All-map, Asks-none, Asks-trans, EachAfter-append, HasCause-for, HasCause-same, Tries-none, Tries-one}
 use Rattle.up_calls.specs.Asks.{Asks, EachAfter, Tries}
-use Rattle.up_calls.specs.Gathered.{AddsName, Gathered, NameLoaded}
+use Rattle.up_calls.specs.Gathered.{AddsName, AsksGroup, Gathered, NameLoaded}
 use Rattle.up_calls.specs.Loads.{IsFromOwn, IsOld, IsOwn, OwnTexts, Pair, answered_by_others, asked_of_others, group_answer, group_question, group_text_answer, load_failed, load_of, tree_by}
 use Rattle.up_calls.specs.Routes.{LogName, OwnStays}
 use Rattle.up_calls.specs.Views.{Later, LaterSeen, LaterTree, SeenTree, Views, log_after}
@@ -19,6 +20,7 @@ use Rattle.up_lists.proofs.BeginsLemmas.{length-Begins}
 use Rattle.up_lists.specs.Runs.{Run}
 use Rattle.up_names.specs.PathNames.{PathName}
 use Rattle.up_names.specs.Texts.{UserName}
+use Rattle.up_peer.specs.Loading.{GroupQuestion}
 use Rattle.up_peer.specs.declared.loader.Loader.{Ghosts}
 use Rattle.up_policy.specs.Loadings.{Loading}
 use Rattle.up_policy.specs.declared.load_answer.LoadAnswer.{LoadAnswer}
@@ -301,6 +303,29 @@ loaded_since loader operator a b later old new name given none (NameLoaded.ByUse
 loaded_since loader operator a b later old new name given none (NameLoaded.ByLoader here lacks h) =
     NameLoaded.ByLoader none (none_before (a.tree (log_owner name.owner)) (b.tree (log_owner name.owner)) (later.trees (log_owner name.owner)) lacks) h
 loaded_since loader operator a b later old new name given none (NameLoaded.Wanting is still) = NameLoaded.Wanting is still
+
+-- ---- what the loader gave
+
+-- a load that failed is one, and its count rose nowhere else
+pub load_asked : {L E : Type 0} (loader : Ghosts L) (old new : L) (question : GroupQuestion) (result : Result LoadAnswer E) → loader.loads old question (result_ok result) new
+    → HasCause (loader.faults old) (loader.faults new) (result ≡ Ok loads.Failed) → StaysUnless (loader.faults old) (loader.faults new) (result ≡ Ok loads.Failed) → loader.tied old new
+    → AsksGroup loader old new question (result_ok result)
+load_asked {E = E} loader old new question result given cause quiet tie = record {
+  given_is = given;
+  counts = HasCause-for (loader.faults old) (loader.faults new) (result ≡ Ok loads.Failed) (load_failed (result_ok result) ≡ true) (failed result) cause;
+  quiet = StaysUnless-more (loader.faults old) (loader.faults new) (result ≡ Ok loads.Failed) (load_failed (result_ok result) ≡ true) quiet (ap (λ r. load_failed (result_ok r)));
+  tie = tie;
+}
+  where
+    of_answer : (answer : LoadAnswer) → load_failed (Some answer) ≡ true → answer ≡ loads.Failed
+    of_answer loads.Failed e = refl
+    of_answer (loads.Text items) e = absurd (false≢true e)
+    of_answer loads.Missing e = absurd (false≢true e)
+    of_answer (loads.BadText line) e = absurd (false≢true e)
+
+    failed : (result : Result LoadAnswer E) → load_failed (result_ok result) ≡ true → result ≡ Ok loads.Failed
+    failed (Ok answer) e = ap Ok (of_answer answer e)
+    failed (Err x) e = absurd (false≢true e)
 
 -- ---- own records
 

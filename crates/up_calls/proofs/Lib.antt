@@ -14,3 +14,4 @@ pub mod StoreDone
 pub mod KeysDone
 pub mod SettledLemmas
 pub mod StepLemmas
+pub mod GroupTextLemmas

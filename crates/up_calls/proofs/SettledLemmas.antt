@@ -12,7 +12,13 @@ use Rattle.up_disk.specs.declared.disk.Disk.{Ghosts}
 use Rattle.up_entry.specs.declared.records.Rec.{Rec}
 use Rattle.up_lists.specs.Counts.{HasCause}
 use Rattle.up_calls.proofs.AsksLemmas.{Rose-left, Rose-right}
+use Rattle.up_answers.specs.Fetching.{Fetched}
+use Rattle.up_calls.specs.Routes.{Question}
 use Rattle.up_calls.specs.Settled.{KeepsSettled}
+use Rattle.up_calls.specs.Steps.{Tried}
+use Rattle.up_calls.specs.declared.logs.Turn.{Turn}
+use Rattle.up_calls.specs.declared.logs.Turn.TheVariants as turn
+use Rattle.up_policy.specs.Loadings.{Loading}
 use Rattle.up_journal.specs.Damages.{Damage}
 use Rattle.up_journal.specs.Logs.{AddsRecord, IsSettledLog, LogState}
 use Rattle.up_journal.specs.declared.fault.AppendWhy.{AppendWhy}
@@ -65,6 +71,15 @@ module _ {D : Type 0} (disks : Ghosts D) where
   -- to a tree
   pub steps_settled : (meant : Reply) (added : List Rec) (old new : State D) (answered : Reply) → Steps disks meant added old new answered → KeepsSettled disks (over_journal old) (over_journal new)
   steps_settled meant added old new answered steps = elim steps.stands [
+    | inl same ↦ settled_equal (over_journal old) (over_journal new) (ap over_journal same)
+    | inr a ↦ settled_adds over_journal (tree.records_in old.owner) a.rec old new a.result a.applies.added a.applies.untouched a.applies.cause
+  ]
+
+  -- one turn of a tree
+  pub tried_settled : (q : Question) (loaded : Loading) (fetched : Fetched) (now : ℕ) (old new : State D) (came : Turn) → Tried disks q loaded fetched now old new came → KeepsSettled disks (over_journal old) (over_journal new)
+  tried_settled q loaded fetched now old new (turn.Missing names) h = settled_equal (over_journal old) (over_journal new) (ap over_journal h.stays)
+  tried_settled q loaded fetched now old new (turn.Said said position) h = steps_settled _ _ old new said h.steps
+  tried_settled q loaded fetched now old new turn.Wanting h = elim h.stands [
     | inl same ↦ settled_equal (over_journal old) (over_journal new) (ap over_journal same)
     | inr a ↦ settled_adds over_journal (tree.records_in old.owner) a.rec old new a.result a.applies.added a.applies.untouched a.applies.cause
   ]

@@ -1,9 +1,8 @@
 -- Seats at trees, as they are split and joined one by one.
 use Rattle.std.proofs.Common.{◌≡◌, ◌<◌, ◌≤◌, ◌+◌, ℕ, List, [], ◌∷◌, ◌++◌, length, refl, sym, ap, subst, ◌∙◌, arith, slice_get, slice_set, Some, append_assoc, append-nil, length-append}
 use Rattle.std.specs.Prelude.{map}
-use Rattle.up_cell.specs.Known.{first_of, second_of}
 use Rattle.up_names.specs.Texts.{UserName}
-use Rattle.up_shared.proofs.Pairs.{each_at, each_length, get_behind, length_map, map_append, set_behind}
+use Rattle.up_shared.proofs.Pairs.{cons_none, cons_same, get_behind, length_map, map_append, set_behind}
 use Rattle.up_shared.specs.Sharing.{EachPair, IsTreeSeat}
 use Rattle.up_shared.specs.Splits.{both_trees, first_tree, joined_trees, second_tree}
 use Rattle.up_shared.specs.declared.shared.TreeCell.{TreeCell}
@@ -38,23 +37,21 @@ module _ {D : Type 0} where
   halving_next old left now others owner more h is = by h.rest h.whole h.owners h.firsts
     where
       by : (rest : List (TreeSeat D)) → old ≡ h.done ++ rest → left ≡ map owner_of rest → now ≡ map first_tree h.done ++ rest → Next old left now others owner more
-      by [] whole owners firsts = let k : owner ∷ more ≡ [] = sym is ∙ owners in absurd (cc)
+      by [] whole owners firsts = absurd (cons_none owner more (sym is ∙ owners))
       by (place ∷ rest) whole owners firsts =
           let many : length others ≡ length (map first_tree h.done) = ap length h.seconds ∙ length_map second_tree h.done ∙ sym (length_map first_tree h.done) in
           let many_done : length others ≡ length h.done = ap length h.seconds ∙ length_map second_tree h.done in
-          let k : owner ∷ more ≡ place.owner ∷ map owner_of rest = sym is ∙ owners in
-          let same_owner : owner ≡ place.owner = cc in
-          let same_more : more ≡ map owner_of rest = cc in
+          let same = cons_same owner place.owner more (map owner_of rest) (sym is ∙ owners) in
           record {
             place = place;
             here = ap (λ (xs : List (TreeSeat D)). slice_get xs (length others)) firsts ∙ ap (slice_get (map first_tree h.done ++ place ∷ rest)) many ∙ get_behind (map first_tree h.done) place rest;
             before = ap (λ (xs : List (TreeSeat D)). slice_get xs (length others)) whole ∙ ap (slice_get (h.done ++ place ∷ rest)) many_done ∙ get_behind h.done place rest;
-            owner_is = same_owner;
+            owner_is = same.0;
             step = record {
               done = h.done ++ place ∷ [];
               rest = rest;
               whole = whole ∙ sym (append_assoc h.done (place ∷ []) rest);
-              owners = same_more;
+              owners = same.1;
               firsts =
                   ap (λ (xs : List (TreeSeat D)). slice_set xs (length others) (first_tree place)) firsts
                   ∙ ap (λ n. slice_set (map first_tree h.done ++ place ∷ rest) n (first_tree place)) many
@@ -71,7 +68,7 @@ module _ {D : Type 0} where
   halving_ends old left now others h is = by h.rest h.whole h.owners h.firsts
     where
       by : (rest : List (TreeSeat D)) → old ≡ h.done ++ rest → left ≡ map owner_of rest → now ≡ map first_tree h.done ++ rest → (now ≡ map first_tree old) × (others ≡ map second_tree old)
-      by (place ∷ rest) whole owners firsts = let k : place.owner ∷ map owner_of rest ≡ [] = sym owners ∙ is in absurd (cc)
+      by (place ∷ rest) whole owners firsts = absurd (cons_none place.owner (map owner_of rest) (sym owners ∙ is))
       by [] whole owners firsts =
           let same : old ≡ h.done = whole ∙ append-nil h.done in
           (firsts ∙ append-nil (map first_tree h.done) ∙ ap (map first_tree) (sym same), h.seconds ∙ ap (map second_tree) (sym same))
@@ -137,8 +134,8 @@ module _ {D : Type 0} where
               done = h.done ++ place ∷ [];
               rest = rest;
               joined = h.joined ++ other ∷ [];
-              so_many = length-append h.done (place ∷ []) ∙ ap (λ n. n + 1) h.so_many;
-              long = length-append h.joined (other ∷ []) ∙ ap (λ n. n + 1) h.long;
+              so_many = let l = length-append h.done (place ∷ []) in omega (arith, l, h.so_many);
+              long = let l = length-append h.joined (other ∷ []) in omega (arith, l, h.long);
               whole = whole ∙ sym (append_assoc h.done (place ∷ []) rest);
               whole_others = others_are ∙ sym (append_assoc h.joined (other ∷ []) more);
               now_is =

@@ -3,3 +3,4 @@ pub mod Halves
 pub mod Places
 pub mod Adding
 pub mod Turning
+pub mod Telling

@@ -4,6 +4,22 @@ use Rattle.std.specs.Prelude.{map}
 use Rattle.std.specs.List.{find}
 use Rattle.up_shared.specs.Sharing.{EachPair}
 
+-- ---- heads, tails, and what is there
+
+pub some_same : {X : Type 0} (x y : X) → Some x ≡ Some y → x ≡ y
+some_same x y h = cc
+
+pub some_none : {X : Type 0} (x : X) → Some x ≡ None → ⊥
+some_none x h = cc
+
+pub cons_same : {X : Type 0} (x y : X) (xs ys : List X) → x ∷ xs ≡ y ∷ ys → (x ≡ y) × (xs ≡ ys)
+cons_same x y xs ys h = let a : x ≡ y = cc in let b : xs ≡ ys = cc in (a, b)
+
+pub cons_none : {X : Type 0} (x : X) (xs : List X) → x ∷ xs ≡ [] → ⊥
+cons_none x xs h = cc
+
+-- ---- items at a place
+
 pub read_at : {A : Type 0} (l : List A) (i : ℕ) (a : A) → i < length l → a ≡ get_or l i a → slice_get l i ≡ Some a
 read_at [] i a h e = absurd (omega arith)
 read_at (x ∷ xs) zero a h e = cc
@@ -16,20 +32,18 @@ each_length P [] (y ∷ ys) h = absurd h
 each_length P (x ∷ xs) [] h = absurd h
 
 pub each_at : {X Y : Type 0} (P : X → Y → Type 0) (xs : List X) (ys : List Y) (i : ℕ) (x : X) (y : Y) → EachPair P xs ys → slice_get xs i ≡ Some x → slice_get ys i ≡ Some y → P x y
-each_at P [] [] i x y h p q = absurd cc
+each_at P [] [] i x y h p q = absurd (some_none x (sym p))
 each_at P [] (z ∷ ys) i x y h p q = absurd h
 each_at P (w ∷ xs) [] i x y h p q = absurd h
 each_at P (w ∷ xs) (z ∷ ys) zero x y h p q =
-    let a : w ≡ x = cc in
-    let b : z ≡ y = cc in
-    subst (λ v. P v y) a (subst (P w) b h.0)
+    subst (λ v. P v y) (some_same w x p) (subst (P w) (some_same z y q) h.0)
 each_at P (w ∷ xs) (z ∷ ys) (suc i) x y h p q = each_at P xs ys i x y h.1 p q
 
 pub each_set : {X Y : Type 0} (P : X → Y → Type 0) (xs : List X) (ys : List Y) (i : ℕ) (x : X) (y : Y) → EachPair P xs ys → slice_get xs i ≡ Some x → P x y → EachPair P xs (slice_set ys i y)
 each_set P [] [] i x y h p q = tt
 each_set P [] (z ∷ ys) i x y h p q = absurd h
 each_set P (w ∷ xs) [] i x y h p q = absurd h
-each_set P (w ∷ xs) (z ∷ ys) zero x y h p q = let a : w ≡ x = cc in (subst (λ v. P v y) (sym a) q, h.1)
+each_set P (w ∷ xs) (z ∷ ys) zero x y h p q = (subst (λ v. P v y) (sym (some_same w x p)) q, h.1)
 each_set P (w ∷ xs) (z ∷ ys) (suc i) x y h p q = (h.0, each_set P xs ys i x y h.1 p q)
 
 -- ---- at the border of two lists
@@ -51,6 +65,6 @@ length_map f [] = refl
 length_map f (x ∷ xs) = let rest = length_map f xs in omega (arith, rest)
 
 pub get_within : {X : Type 0} (xs : List X) (i : ℕ) (x : X) → slice_get xs i ≡ Some x → i < length xs
-get_within [] i x h = absurd cc
+get_within [] i x h = absurd (some_none x (sym h))
 get_within (y ∷ xs) zero x h = omega arith
 get_within (y ∷ xs) (suc i) x h = let rest = get_within xs i x h in omega (arith, rest)

@@ -7,7 +7,7 @@ use Rattle.std.proofs.lemmas.Bool.Decides.{nat_tests}
 use Rattle.std.proofs.lemmas.List.Folds.{find_at}
 use Rattle.std.proofs.lemmas.Option.{slice_get_past}
 use Rattle.up_names.specs.Texts.{UserName}
-use Rattle.up_shared.proofs.Pairs.{each_length}
+use Rattle.up_shared.proofs.Pairs.{each_length, some_none, some_same}
 use Rattle.up_shared.specs.Sharing.{EachPair, IsTreeSeat, cell_for, is_cell_of, is_seat_of, seat_for, tree_seen}
 use Rattle.up_shared.specs.declared.shared.TreeCell.{TreeCell}
 use Rattle.up_shared.specs.declared.shared.TreeSeat.{TreeSeat}
@@ -23,30 +23,29 @@ nat_lt-false a b e = grind (arith, nat_tests)
 pub position-place : {X : Type 0} (p : X → Bool) (xs : List X) (i : ℕ) → position p xs ≡ Some i → (i ≡ position_or_len p xs) × (i < length xs)
 position-place p xs i h = by_test (nat_lt (position_or_len p xs) (length xs)) refl where
   by_test : (b : Bool) → nat_lt (position_or_len p xs) (length xs) ≡ b → (i ≡ position_or_len p xs) × (i < length xs)
-  by_test true e = let k : Some i ≡ Some (position_or_len p xs) = sym h ∙ ap (λ b. cond b (Some (position_or_len p xs)) None) e in let same : i ≡ position_or_len p xs = cc in (same, let lt : position_or_len p xs < length xs = nat_lt-true (position_or_len p xs) (length xs) e in omega arith)
-  by_test false e = let k : Some i ≡ None = sym h ∙ ap (λ b. cond b (Some (position_or_len p xs)) None) e in absurd (cc)
+  by_test true e = let same : i ≡ position_or_len p xs = some_same i (position_or_len p xs) (sym h ∙ ap (λ b. cond b (Some (position_or_len p xs)) None) e) in (same, let lt : position_or_len p xs < length xs = nat_lt-true (position_or_len p xs) (length xs) e in omega arith)
+  by_test false e = absurd (some_none i (sym h ∙ ap (λ b. cond b (Some (position_or_len p xs)) None) e))
 
 pub position-none : {X : Type 0} (p : X → Bool) (xs : List X) → position p xs ≡ None → find p xs ≡ None
 position-none p xs h = by_test (nat_lt (position_or_len p xs) (length xs)) refl where
   by_test : (b : Bool) → nat_lt (position_or_len p xs) (length xs) ≡ b → find p xs ≡ None
-  by_test true e = let k : None ≡ Some (position_or_len p xs) = sym h ∙ ap (λ b. cond b (Some (position_or_len p xs)) None) e in absurd (cc)
+  by_test true e = absurd (some_none (position_or_len p xs) (sym (sym h ∙ ap (λ b. cond b (Some (position_or_len p xs)) None) e)))
   by_test false e = find_at p xs ∙ slice_get_past xs (position_or_len p xs) (nat_lt-false (position_or_len p xs) (length xs) e)
 
 pub find_other : {X : Type 0} (q : X → Bool) (xs : List X) (i : ℕ) (x y : X) → slice_get xs i ≡ Some x → q x ≡ false → q y ≡ false → find q (slice_set xs i y) ≡ find q xs
-find_other q [] i x y h k l = absurd (cc)
+find_other q [] i x y h k l = absurd (some_none x (sym h))
 find_other q (z ∷ zs) zero x y h k l =
-    let same : x ≡ z = cc in
-    let m : q z ≡ false = subst (λ w. q w ≡ false) same k in
+    let m : q z ≡ false = subst (λ w. q w ≡ false) (sym (some_same z x h)) k in
     ap (λ b. cond b (Some y) (find q zs)) l ∙ sym (ap (λ b. cond b (Some z) (find q zs)) m)
 find_other q (z ∷ zs) (suc i) x y h k l = ap (λ r. cond (q z) (Some z) r) (find_other q zs i x y h k l)
 
 -- what is found passes
 passes_by : {X : Type 0} (p : X → Bool) (x y : X) (rest : Option X) (b : Bool) → p x ≡ b → cond b (Some x) rest ≡ Some y → (rest ≡ Some y → p y ≡ true) → p y ≡ true
-passes_by p x y rest true e h later = let same : x ≡ y = cc in subst (λ z. p z ≡ true) same e
+passes_by p x y rest true e h later = subst (λ z. p z ≡ true) (some_same x y h) e
 passes_by p x y rest false e h later = later h
 
 pub found_passes : {X : Type 0} (p : X → Bool) (xs : List X) (y : X) → find p xs ≡ Some y → p y ≡ true
-found_passes p [] y h = absurd cc
+found_passes p [] y h = absurd (some_none y (sym h))
 found_passes p (x ∷ xs) y h = passes_by p x y (find p xs) (p x) refl h (found_passes p xs y)
 
 pub some_at : {X : Type 0} (xs : List X) (k : ℕ) → k < length xs → (x : X) × (slice_get xs k ≡ Some x)
@@ -91,3 +90,17 @@ module _ {D : Type 0} where
 
   pub cell_none : (owner : UserName) (cells : List (TreeCell D)) → position (is_cell_of owner) cells ≡ None → cell_for cells owner ≡ None
   cell_none owner cells h = ap (option_map (λ (tree : TreeCell D). tree.cell)) (position-none (is_cell_of owner) cells h)
+
+  -- the seat at an owner's tree is of the cell of that tree
+  pub cell_same : (owner : UserName) (cells : List (TreeCell D)) (seats : List (TreeSeat D)) → EachPair IsTreeSeat cells seats
+      → option_map (λ (place : TreeSeat D). place.seat.cell) (seat_for seats owner) ≡ cell_for cells owner
+  cell_same owner [] [] h = refl
+  cell_same owner [] (x ∷ xs) h = absurd h
+  cell_same owner (c ∷ cells) [] h = absurd h
+  cell_same owner (c ∷ cells) (x ∷ xs) h =
+      ap (λ (o : UserName). option_map (λ (place : TreeSeat D). place.seat.cell) (cond (bytes_eq o owner) (Some x) (seat_for xs owner))) h.0.owner
+      ∙ by (bytes_eq c.owner owner)
+    where
+      by : (b : Bool) → option_map (λ (place : TreeSeat D). place.seat.cell) (cond b (Some x) (seat_for xs owner)) ≡ option_map (λ (tree : TreeCell D). tree.cell) (cond b (Some c) (find (is_cell_of owner) cells))
+      by true = ap (λ t. Some t) h.0.cell
+      by false = cell_same owner cells xs h.1

@@ -15,7 +15,7 @@ use Rattle.up_disk.specs.declared.disk.Disk as disk
 use Rattle.up_entry.specs.declared.records.Rec.{Rec}
 use Rattle.up_journal.specs.declared.limits.Limits.{Limits}
 use Rattle.up_names.specs.Texts.{UserName}
-use Rattle.up_shared.proofs.Pairs.{each_set}
+use Rattle.up_shared.proofs.Pairs.{each_set, some_none, some_same}
 use Rattle.up_shared.proofs.Places.{find_other, found_passes, position-place, seat_at}
 use Rattle.up_shared.specs.Callers.{TreeTurned, seats_same}
 use Rattle.up_shared.specs.Sharing.{AreSeats, AtTree, EachPair, HasFailed, HasLooked, IsTreeSeat, Looked, SeatsLater, TreeSeatLater, is_cell_of, is_seat_of, seat_for, seen_by, tree_seen, views_of}
@@ -42,9 +42,7 @@ module _ {S E F J : Type 0} (entries : S → List E) (faults : S → ℕ) (fixed
   -- the part that stays, as the seat has it, is that of the state as it was left
   pub turn_fixed : (part : F) → v.fixed ≡ Some part → part ≡ fixed t.after
   turn_fixed part is =
-      let k : Some part ≡ Some (fixed t.before) = sym is ∙ t.lent.fixed_is in
-      let same : part ≡ fixed t.before = cc in
-      same ∙ sym t.grows.stays
+      some_same part (fixed t.before) (sym is ∙ t.lent.fixed_is) ∙ sym t.grows.stays
 
 -- ---- one turn of the tree of an owner
 
@@ -148,10 +146,10 @@ module _ {D J : Type 0} (disks : disk.Ghosts D) (did : J → State D → J → S
       turn_fixed entries_of faults_of fixed_of did job after looked_seat t.seat t.turn (t.before.owner, t.before.limits) cell.1.fixed
     where
       some_cell : (i : ℕ) (cells : List (TreeCell D)) (seats : List (TreeSeat D)) (x : TreeSeat D) → EachPair IsTreeSeat cells seats → slice_get seats i ≡ Some x → (c : TreeCell D) × IsTreeSeat c x
-      some_cell i [] [] x h is = absurd cc
+      some_cell i [] [] x h is = absurd (some_none x (sym is))
       some_cell i [] (y ∷ ys) x h is = absurd h
       some_cell i (c ∷ cells) [] x h is = absurd h
-      some_cell zero (c ∷ cells) (y ∷ ys) x h is = let same : y ≡ x = cc in (c, subst (IsTreeSeat c) same h.0)
+      some_cell zero (c ∷ cells) (y ∷ ys) x h is = (c, subst (IsTreeSeat c) (some_same y x is) h.0)
       some_cell (suc i) (c ∷ cells) (y ∷ ys) x h is = some_cell i cells ys x h.1 is
 
   -- the log and the owner are those of the owner

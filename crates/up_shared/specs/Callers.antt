@@ -4,6 +4,8 @@ use Rattle.std.specs.List.{find}
 use Rattle.std.specs.Option.{option_map}
 use Rattle.std.specs.Str.{bytes_eq}
 use Rattle.std.proofs.Common.{◌∙◌, refl, sym, ap, subst, cond, arith}
+use Rattle.up_blocks.specs.Blocks as blocks
+use Rattle.up_blocks.specs.declared.record.BlockRecord.{BlockRecord}
 use Rattle.up_calls.specs.Routes.{LogName, OwnStays}
 use Rattle.up_calls.specs.Views.{Later, LaterSeen, LaterTree, Views}
 use Rattle.up_cell.specs.Known.{Known, Onward, looked_of}
@@ -11,7 +13,9 @@ use Rattle.up_cell.specs.Turned.{Turned}
 use Rattle.up_cell.proofs.Turns.{Onward-self, Onward-trans}
 use Rattle.up_disk.specs.declared.disk.Disk as disk
 use Rattle.up_entry.specs.declared.records.Rec.{Rec}
+use Rattle.up_journal.specs.Logs.{LogState}
 use Rattle.up_journal.specs.declared.limits.Limits.{Limits}
+use Rattle.up_keys.specs.Keys as keys
 use Rattle.up_names.specs.Texts.{UserName}
 use Rattle.up_shared.specs.Sharing.{AreSeats, AtTree, EachPair, HasFailed, HasLooked, IsTreeSeat, Looked, SeatsLater, TreeSeatLater, is_seat_of, seat_for, seen_by, tree_seen, views_of}
 use Rattle.up_shared.specs.declared.shared.Seats.{Seats}
@@ -19,6 +23,7 @@ use Rattle.up_shared.specs.declared.shared.Shared.{Shared}
 use Rattle.up_shared.specs.declared.shared.TreeCell.{TreeCell}
 use Rattle.up_shared.specs.declared.shared.TreeSeat.{TreeSeat}
 use Rattle.up_tree.specs.States.{State, entries_of, fixed_of}
+use Rattle.up_wire.specs.declared.keys.KeyRecord.{KeyRecord}
 
 -- One turn of the seat at a place: it looked, and then the job was run on the state; and no other seat changed.
 pub record TreeTurned {D J : Type 0} (disks : disk.Ghosts D) (did : J → State D → J → State D → Type 0) (place : ℕ) (job after : J) (seats new : Seats D) : Type 0 where
@@ -31,6 +36,28 @@ pub record TreeTurned {D J : Type 0} (disks : disk.Ghosts D) (did : J → State 
   pub store : new.store ≡ seats.store
   pub store_limits : new.store_limits ≡ seats.store_limits
   pub keys : new.keys ≡ seats.keys
+  pub keys_limits : new.keys_limits ≡ seats.keys_limits
+
+-- One turn of the store's seat: it looked, and then the job was run on the state; and no other seat changed.
+pub record StoreTurned {D J : Type 0} (disks : disk.Ghosts D) (did : J → LogState D BlockRecord → J → LogState D BlockRecord → Type 0) (job after : J) (seats new : Seats D) : Type 0 where
+  pub count : ℕ
+  pub seat : Known BlockRecord Limits
+  pub turn : Turned blocks.log_of (λ (state : LogState D BlockRecord). disks.faults state.disk) blocks.limits_of did job after (looked_of seats.store count) seat
+  pub store : new.store ≡ seat
+  pub trees : new.trees.items ≡ seats.trees.items
+  pub store_limits : new.store_limits ≡ seats.store_limits
+  pub keys : new.keys ≡ seats.keys
+  pub keys_limits : new.keys_limits ≡ seats.keys_limits
+
+-- So with the seat at the keys.
+pub record KeysTurned {D J : Type 0} (disks : disk.Ghosts D) (did : J → LogState D KeyRecord → J → LogState D KeyRecord → Type 0) (job after : J) (seats new : Seats D) : Type 0 where
+  pub count : ℕ
+  pub seat : Known KeyRecord Limits
+  pub turn : Turned keys.log_of (λ (state : LogState D KeyRecord). disks.faults state.disk) keys.limits_of did job after (looked_of seats.keys count) seat
+  pub keys : new.keys ≡ seat
+  pub trees : new.trees.items ≡ seats.trees.items
+  pub store : new.store ≡ seats.store
+  pub store_limits : new.store_limits ≡ seats.store_limits
   pub keys_limits : new.keys_limits ≡ seats.keys_limits
 
 -- the same seats, borrowed by the same name, of the same host; and at most one log got own records
@@ -73,6 +100,12 @@ found_pair P test agree (x ∷ xs) (y ∷ ys) h =
     subst (λ b. FoundPair P (cond (test x) (Some x) (find test xs)) (cond b (Some y) (find test ys))) (sym (agree x y h.0))
     (found_by P (test x) x y (find test xs) (find test ys) h.0 (found_pair P test agree xs ys h.1))
 
+some_same : {X : Type 0} (x y : X) → Some x ≡ Some y → x ≡ y
+some_same x y h = cc
+
+some_none : {X : Type 0} (x : X) → Some x ≡ None → ⊥
+some_none x h = cc
+
 -- what goes with what was found
 pub record Goes {X : Type 0} (P : X → X → Type 0) (v : X) (q : Option X) : Type 0 where
   pub w : X
@@ -80,14 +113,14 @@ pub record Goes {X : Type 0} (P : X → X → Type 0) (v : X) (q : Option X) : T
   pub goes : P v w
 
 pub goes_on : {X : Type 0} (P : X → X → Type 0) (p q : Option X) (v : X) → FoundPair P p q → p ≡ Some v → Goes P v q
-goes_on P None q v h is = absurd cc
+goes_on P None q v h is = absurd (some_none v (sym is))
 goes_on P (Some x) None v h is = absurd h
-goes_on P (Some x) (Some y) v h is = let same : x ≡ v = cc in record { w = y; found = refl; goes = subst (λ z. P z y) same h }
+goes_on P (Some x) (Some y) v h is = record { w = y; found = refl; goes = subst (λ z. P z y) (some_same x v is) h }
 
 pub goes_back : {X : Type 0} (P : X → X → Type 0) (p q : Option X) (w : X) → FoundPair P p q → q ≡ Some w → Goes (λ y x. P x y) w p
-goes_back P p None w h is = absurd cc
+goes_back P p None w h is = absurd (some_none w (sym is))
 goes_back P None (Some y) w h is = absurd h
-goes_back P (Some x) (Some y) w h is = let same : y ≡ w = cc in record { w = x; found = refl; goes = subst (P x) same h }
+goes_back P (Some x) (Some y) w h is = record { w = x; found = refl; goes = subst (P x) (some_same y w is) h }
 
 module _ {D : Type 0} where
   tree_seat_same : (x : TreeSeat D) → TreeSeatLater x x
@@ -149,8 +182,11 @@ own_trans but a b c one two = record {
   keys = λ differs. two.keys differs ∙ one.keys differs;
 }
 
+none_some : {X : Type 0} (x : X) → None ≡ Some x → ⊥
+none_some x h = cc
+
 pub own_wider : (but : Option LogName) (a b : Views) → OwnStays None a b → OwnStays but a b
-own_wider but a b h = record { trees = λ owner differs. h.trees owner (λ e. cc); store = λ differs. h.store (λ e. cc); keys = λ differs. h.keys (λ e. cc) }
+own_wider but a b h = record { trees = λ owner differs. h.trees owner (none_some (LogName.OfTree owner)); store = λ differs. h.store (none_some LogName.OfStore); keys = λ differs. h.keys (none_some LogName.OfKeys) }
 
 -- ---- laws
 

@@ -1,7 +1,7 @@
 //! Seats are split and joined.
 ghost use Rattle.std.specs.Prelude.{◌≡◌, ◌≤◌, [], if◌then◌else◌, is_ok, length, map, vec_capacity, IfOk, OnErr, OnOk};
 ghost use Rattle.up_shared.specs.Sharing.{AreSeats, EachPair, IsTreeSeat};
-ghost use Rattle.up_shared.specs.Splits.{AreBoth, AreFirsts, AreSeconds, both_trees, first_tree, joined_trees, second_tree};
+ghost use Rattle.up_shared.specs.Splits.{AreBoth, AreFirsts, AreSeconds, SeatsAdd, both_trees, first_tree, joined_trees, second_tree};
 
 use crate::shared::{Seats, Shared, TreeCell, TreeSeat};
 use std::alloc::{AllocError, Global};
@@ -17,6 +17,7 @@ impl<D: Disk + Drop> Shared<D> {
         ensures first { OnOk result (AreFirsts seats.old seats.new) }
         ensures second { IfOk result (AreSeconds seats.old) }
         ensures refused { OnErr result (seats.new ≡ seats.old) }
+        ensures shares { IfOk result (λ other. SeatsAdd seats.new other seats.old) }
         ensures sits { AreSeats self.now seats.new }
         ensures other { IfOk result (AreSeats self.now) }
     {
@@ -44,6 +45,7 @@ impl<D: Disk + Drop> Shared<D> {
         requires these { AreSeats self.now seats.old }
         requires those { AreSeats self.now other }
         ensures joined { AreBoth seats.old other seats.new }
+        ensures shares { SeatsAdd seats.old other seats.new }
         ensures sits { AreSeats self.now seats.new }
     {
         let Seats {

@@ -1,7 +1,7 @@
 use Rattle.std.proofs.Common.{◌≡◌, ◌<◌, Some, ap, arith, length, refl, slice_get, subst, sym, ◌∙◌}
 use Rattle.up_cell.specs.Turned.{Turned}
 use Rattle.up_shared.specs.Sharing.{IsTreeSeat}
-use Rattle.up_shared.proofs.Pairs.{each_at, each_length, read_at}
+use Rattle.up_shared.proofs.Pairs.{each_at, each_length, read_at, some_same}
 use Rattle.up_tree.specs.States.{entries_of, fixed_of}
 use Rattle.up_shared.proofs.lending.lend_tree.Goals as goal
 
@@ -30,9 +30,8 @@ lend-requires-clause-can g c = λ state lent.
     let here : slice_get c.args.shared.now.trees.items c.args.place ≡ Some c.index.result.now = read_at c.args.shared.now.trees.items c.args.place c.index.result.now c.requires.place c.index.ensures in
     let mine : slice_get c.args.seats.now.trees.items c.args.place ≡ Some c.index_mut.result.now = read_at c.args.seats.now.trees.items c.args.place c.index_mut.result.now (omega (arith, long, c.requires.place)) c.index_mut.ensures.value in
     let at = each_at IsTreeSeat c.args.shared.now.trees.items c.args.seats.now.trees.items c.args.place c.index.result.now c.index_mut.result.now c.requires.sits.trees here mine in
-    let made : Some (c.index_mut.result.now.owner, c.index_mut.result.now.limits) ≡ Some (fixed_of state) = sym at.fixed ∙ (sym (ap (λ k. k.fixed) c.seen.ensures.seat) ∙ lent.fixed_is) in
-    let same : (c.index_mut.result.now.owner, c.index_mut.result.now.limits) ≡ fixed_of state = cc in
-    c.requires.can c.index_mut.result.now state mine same
+    c.requires.can c.index_mut.result.now state mine
+    (some_same (c.index_mut.result.now.owner, c.index_mut.result.now.limits) (fixed_of state) (sym at.fixed ∙ (sym (ap (λ k. k.fixed) c.seen.ensures.seat) ∙ lent.fixed_is)))
 
 pub returns : goal.returns
 returns g c =

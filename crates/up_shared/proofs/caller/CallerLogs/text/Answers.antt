@@ -1,0 +1,59 @@
+use Rattle.std.proofs.Common.{◌≡◌, None, Some, ap, option_map, position, refl, subst, sym, ◌∙◌}
+use Rattle.std.specs.Prelude.{IfOk}
+use Rattle.up_calls.specs.Loads.{group_text_answer, load_of}
+use Rattle.up_shared.specs.Callers.{tied_same}
+use Rattle.up_shared.specs.Sharing.{is_cell_of, is_seat_of, tree_seen}
+use Rattle.up_shared.proofs.Places.{position-none, position_same}
+use Rattle.up_shared.proofs.Telling.{text_told, tied_quiet}
+use Rattle.up_tree.specs.States.{log_of}
+use Rattle.up_shared.proofs.caller.CallerLogs.text.Goals as goal
+
+pub returns-in_default-clause-given : goal.returns-in_default-clause-given
+returns-in_default-clause-given g c =
+    let cells = c.args.self.now.shared.now.trees.items in
+    let seats = c.args.self.now.seats.now.trees.items in
+    let owner = c.args.name.now.owner in
+    ap (option_map tree_seen) (position-none (is_seat_of owner) seats
+    (sym (position_same owner cells seats c.requires.trees) ∙ sym (ap (position (is_cell_of owner)) c.deref.ensures.value)
+    ∙ ap (λ o. position (is_cell_of o) c.deref.result.now) (sym c.owner.ensures) ∙ sym c.place_among.ensures ∙ c.in_default.is))
+
+pub returns-in_default-clause-tie : goal.returns-in_default-clause-tie
+returns-in_default-clause-tie g c = tied_same c.args.self.now.shared.now c.args.self.now.seats.ghost_name c.args.self.now.seats.now
+
+pub returns-in-Ok-clause-given : goal.returns-in-Ok-clause-given
+returns-in-Ok-clause-given g c =
+    let cells = c.args.self.now.shared.now.trees.items in
+    let seats = c.args.self.now.seats.now.trees.items in
+    let owner = c.args.name.now.owner in
+    let at : position (is_seat_of owner) seats ≡ Some c.in-Some.place =
+    sym (position_same owner cells seats c.requires.trees) ∙ sym (ap (position (is_cell_of owner)) c.deref.ensures.value)
+    ∙ ap (λ o. position (is_cell_of o) c.deref.result.now) (sym c.owner.ensures) ∙ sym c.place_among.ensures ∙ c.in-Some.is in
+    let t = c.lend_tree.ensures in
+    let did = t.turn.did_it in
+    text_told g.D.Disk _ c.in-Some.place _ c.lend_tree.new.job c.args.self.now.shared.now c.args.self.now.seats.now c.lend_tree.new.seats c.requires t owner at
+    c.args.self.now.shared.now.operator c.args.name.now c.in-Ok.answer refl
+    (subst (λ given. IfOk given (λ answer. answer ≡ load_of owner (group_text_answer (log_of t.turn.before) c.args.self.now.shared.now.operator c.args.name.now))) c.in-Ok.is did.text)
+
+pub returns-in-Ok-clause-tie : goal.returns-in-Ok-clause-tie
+returns-in-Ok-clause-tie g c =
+    let cells = c.args.self.now.shared.now.trees.items in
+    let seats = c.args.self.now.seats.now.trees.items in
+    let owner = c.args.name.now.owner in
+    let at : position (is_seat_of owner) seats ≡ Some c.in-Some.place =
+    sym (position_same owner cells seats c.requires.trees) ∙ sym (ap (position (is_cell_of owner)) c.deref.ensures.value)
+    ∙ ap (λ o. position (is_cell_of o) c.deref.result.now) (sym c.owner.ensures) ∙ sym c.place_among.ensures ∙ c.in-Some.is in
+    let t = c.lend_tree.ensures in
+    tied_quiet g.D.Disk _ c.in-Some.place _ c.lend_tree.new.job c.args.self.now.shared.now c.args.self.now.seats.now c.lend_tree.new.seats c.requires t owner at
+    c.args.self.now.seats.ghost_name (ap (λ s. s.log) t.turn.did_it.stays)
+
+pub returns-in-Err-clause-tie : goal.returns-in-Err-clause-tie
+returns-in-Err-clause-tie g c =
+    let cells = c.args.self.now.shared.now.trees.items in
+    let seats = c.args.self.now.seats.now.trees.items in
+    let owner = c.args.name.now.owner in
+    let at : position (is_seat_of owner) seats ≡ Some c.in-Some.place =
+    sym (position_same owner cells seats c.requires.trees) ∙ sym (ap (position (is_cell_of owner)) c.deref.ensures.value)
+    ∙ ap (λ o. position (is_cell_of o) c.deref.result.now) (sym c.owner.ensures) ∙ sym c.place_among.ensures ∙ c.in-Some.is in
+    let t = c.lend_tree.ensures in
+    tied_quiet g.D.Disk _ c.in-Some.place _ c.lend_tree.new.job c.args.self.now.shared.now c.args.self.now.seats.now c.lend_tree.new.seats c.requires t owner at
+    c.args.self.now.seats.ghost_name (ap (λ s. s.log) t.turn.did_it.stays)
