@@ -1,10 +1,14 @@
 -- Seats at trees, as they are split and joined one by one.
 use Rattle.std.proofs.Common.{◌≡◌, ◌<◌, ◌≤◌, ◌+◌, ℕ, List, [], ◌∷◌, ◌++◌, length, refl, sym, ap, subst, ◌∙◌, arith, slice_get, slice_set, Some, append_assoc, append-nil, length-append}
 use Rattle.std.specs.Prelude.{map}
+use Rattle.up_cell.specs.Known.{Known}
+use Rattle.up_journal.specs.declared.limits.Limits.{Limits}
 use Rattle.up_names.specs.Texts.{UserName}
 use Rattle.up_shared.proofs.Pairs.{cons_none, cons_same, get_behind, length_map, map_append, set_behind}
-use Rattle.up_shared.specs.Sharing.{EachPair, IsTreeSeat}
-use Rattle.up_shared.specs.Splits.{both_trees, first_tree, joined_trees, second_tree}
+use Rattle.up_shared.specs.Sharing.{AreSeats, EachPair, IsTreeSeat}
+use Rattle.up_shared.specs.Splits.{AreBoth, AreFirsts, AreSeconds, both_trees, first_tree, joined_trees, second_tree}
+use Rattle.up_shared.specs.declared.shared.Seats.{Seats}
+use Rattle.up_shared.specs.declared.shared.Shared.{Shared}
 use Rattle.up_shared.specs.declared.shared.TreeCell.{TreeCell}
 use Rattle.up_shared.specs.declared.shared.TreeSeat.{TreeSeat}
 
@@ -72,6 +76,19 @@ module _ {D : Type 0} where
       by [] whole owners firsts =
           let same : old ≡ h.done = whole ∙ append-nil h.done in
           (firsts ∙ append-nil (map first_tree h.done) ∙ ap (map first_tree) (sym same), h.seconds ∙ ap (map second_tree) (sym same))
+
+  -- nothing is left where as many were split as there are
+  pub halving_all : (old : List (TreeSeat D)) (left : List UserName) (now others : List (TreeSeat D)) → Halving old left now others → length old ≤ length others
+      → (now ≡ map first_tree old) × (others ≡ map second_tree old)
+  halving_all old left now others h many = by h.rest h.whole h.owners
+    where
+      by : (rest : List (TreeSeat D)) → old ≡ h.done ++ rest → left ≡ map owner_of rest → (now ≡ map first_tree old) × (others ≡ map second_tree old)
+      by [] whole owners = halving_ends old left now others h owners
+      by (place ∷ rest) whole owners =
+          let a : length old ≡ length h.done + length (place ∷ rest) = ap length whole ∙ length-append h.done (place ∷ rest) in
+          let b : length others ≡ length h.done = ap length h.seconds ∙ length_map second_tree h.done in
+          let c : length (place ∷ rest) ≡ length rest + 1 = omega arith in
+          absurd (omega (arith, a, b, c, many))
 
   -- ---- joined
 
@@ -164,7 +181,7 @@ module _ {D : Type 0} where
           now_is ∙ append-nil (joined_trees h.done h.joined) ∙ ap (λ (l : List (TreeSeat D)). joined_trees l h.joined) (sym same) ∙ ap (joined_trees old) (sym others_are)
 
   -- nothing is left where as many were joined as there are
-  pub joining_all : (i : ℕ) (old others left now : List (TreeSeat D)) → length old ≡ length others → Joining i old others left now → i ≡ length others → now ≡ joined_trees old others
+  pub joining_all : (i : ℕ) (old others left now : List (TreeSeat D)) → length old ≡ length others → Joining i old others left now → length others ≤ i → now ≡ joined_trees old others
   joining_all i old others left now even h all = joining_ends i old others left now even h (no_more left (let a = ap length h.whole_others in let b = length-append h.joined left in omega (arith, a, b, all, h.long)))
     where
       no_more : (xs : List (TreeSeat D)) → length xs ≡ 0 → xs ≡ []
@@ -191,3 +208,30 @@ module _ {D : Type 0} where
   sits_both (c ∷ cells) [] ys h k = absurd h
   sits_both (c ∷ cells) (x ∷ xs) [] h k = absurd k
   sits_both (c ∷ cells) (x ∷ xs) (y ∷ ys) h k = (record { owner = h.0.owner; cell = h.0.cell; fixed = h.0.fixed }, sits_both cells xs ys h.1 k.1)
+
+  pub firsts_sit : (shared : Shared D) (before after : Seats D) → AreFirsts before after → AreSeats shared before → AreSeats shared after
+  firsts_sit shared before after h sits = record {
+    trees = subst (EachPair IsTreeSeat shared.trees.items) (sym h.trees) (sits_first shared.trees.items before.trees.items sits.trees);
+    store = ap (λ (v : Known _ _). v.cell) h.store ∙ sits.store;
+    store_fixed = ap (λ (v : Known _ _). v.fixed) h.store ∙ sits.store_fixed ∙ sym (ap (λ (l : Limits). Some l) h.store_limits);
+    keys = ap (λ (v : Known _ _). v.cell) h.keys ∙ sits.keys;
+    keys_fixed = ap (λ (v : Known _ _). v.fixed) h.keys ∙ sits.keys_fixed ∙ sym (ap (λ (l : Limits). Some l) h.keys_limits);
+  }
+
+  pub seconds_sit : (shared : Shared D) (before other : Seats D) → AreSeconds before other → AreSeats shared before → AreSeats shared other
+  seconds_sit shared before other h sits = record {
+    trees = subst (EachPair IsTreeSeat shared.trees.items) (sym h.trees) (sits_second shared.trees.items before.trees.items sits.trees);
+    store = ap (λ (v : Known _ _). v.cell) h.store ∙ sits.store;
+    store_fixed = ap (λ (v : Known _ _). v.fixed) h.store ∙ sits.store_fixed ∙ sym (ap (λ (l : Limits). Some l) h.store_limits);
+    keys = ap (λ (v : Known _ _). v.cell) h.keys ∙ sits.keys;
+    keys_fixed = ap (λ (v : Known _ _). v.fixed) h.keys ∙ sits.keys_fixed ∙ sym (ap (λ (l : Limits). Some l) h.keys_limits);
+  }
+
+  pub both_sit : (shared : Shared D) (before other after : Seats D) → AreBoth before other after → AreSeats shared before → AreSeats shared other → AreSeats shared after
+  both_sit shared before other after h sits those = record {
+    trees = subst (EachPair IsTreeSeat shared.trees.items) (sym h.trees) (sits_both shared.trees.items before.trees.items other.trees.items sits.trees those.trees);
+    store = ap (λ (v : Known _ _). v.cell) h.store ∙ sits.store;
+    store_fixed = ap (λ (v : Known _ _). v.fixed) h.store ∙ sits.store_fixed ∙ sym (ap (λ (l : Limits). Some l) h.store_limits);
+    keys = ap (λ (v : Known _ _). v.cell) h.keys ∙ sits.keys;
+    keys_fixed = ap (λ (v : Known _ _). v.fixed) h.keys ∙ sits.keys_fixed ∙ sym (ap (λ (l : Limits). Some l) h.keys_limits);
+  }

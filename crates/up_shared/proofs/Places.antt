@@ -99,8 +99,9 @@ module _ {D : Type 0} where
   cell_same owner (c ∷ cells) [] h = absurd h
   cell_same owner (c ∷ cells) (x ∷ xs) h =
       ap (λ (o : UserName). option_map (λ (place : TreeSeat D). place.seat.cell) (cond (bytes_eq o owner) (Some x) (seat_for xs owner))) h.0.owner
-      ∙ by (bytes_eq c.owner owner)
+      ∙ by (bytes_eq c.owner owner) (cell_same owner cells xs h.1)
     where
-      by : (b : Bool) → option_map (λ (place : TreeSeat D). place.seat.cell) (cond b (Some x) (seat_for xs owner)) ≡ option_map (λ (tree : TreeCell D). tree.cell) (cond b (Some c) (find (is_cell_of owner) cells))
-      by true = ap (λ t. Some t) h.0.cell
-      by false = cell_same owner cells xs h.1
+      by : (b : Bool) → option_map (λ (place : TreeSeat D). place.seat.cell) (seat_for xs owner) ≡ option_map (λ (tree : TreeCell D). tree.cell) (find (is_cell_of owner) cells)
+          → option_map (λ (place : TreeSeat D). place.seat.cell) (cond b (Some x) (seat_for xs owner)) ≡ option_map (λ (tree : TreeCell D). tree.cell) (cond b (Some c) (find (is_cell_of owner) cells))
+      by true rest = ap (λ t. Some t) h.0.cell
+      by false rest = rest

@@ -87,11 +87,10 @@ fn split_trees<D: Disk + Drop>(
     ensures second { others.new.items ≡ map second_tree seats.old.items }
 {
     let mut left = VecDeque::from(owners);
-    loop {
+    for i in 0..cells.len() {
         let Some(owner) = left.pop_front() else {
             return;
         };
-        let i = others.len();
         let other = split_tree(&cells[i], &mut seats[i], owner);
         others.push_reserved(other);
     }
