@@ -1,24 +1,18 @@
 -- How fetching goes on, while others may write to the store.
-use Rattle.std.proofs.Common.{◌≡◌, ◌≤◌, ◌||◌, ℕ, Bool, true, false, List, [], ◌∷◌, ◌++◌, length, take, refl, sym, ap, subst, ◌∙◌, inl, inr, arith, append_assoc, append-nil, Option, Some, Result, Ok, Err}
-use Rattle.std.specs.Prelude.{IfOk}
+use Rattle.std.proofs.Common.{◌≡◌, ◌≤◌, ◌||◌, ℕ, Bool, true, false, List, [], ◌∷◌, ◌++◌, length, take, refl, sym, ap, subst, ◌∙◌, inl, inr, arith, append_assoc, append-nil, Option, Some}
 use Rattle.std.specs.List.{AllByRecursion, list_any}
-use Rattle.std.specs.Result.{result_ok}
 use Rattle.std.proofs.lemmas.Bool.{false≢true}
 use Rattle.std.proofs.lemmas.List.{take-append-le}
 use Rattle.std.proofs.lemmas.List.Folds.{list_any-append}
 use Rattle.up_answers.specs.Fetching.{Fetched, is_failed}
-use Rattle.up_calls.proofs.AsksLemmas.{All-append, All-map, Asks-none, Asks-trans, HasCause-for, HasCause-same, Rose-left, Rose-right}
-use Rattle.up_calls.specs.Blocks.{Got, GivenBy, IsFromStore, IsGiven, OwnBlock, OwnBlocks, answer_at, block_answer, block_question, question_of}
+use Rattle.up_calls.proofs.AsksLemmas.{All-append, All-map, Asks-none, Asks-trans, Rose-left, Rose-right}
+use Rattle.up_calls.specs.Blocks.{Got, GivenBy, IsFromStore, IsGiven, OwnBlock, OwnBlocks, block_answer, block_question}
 use Rattle.up_calls.specs.Gathered.{BlockGathered, BlocksGathered, own_failed}
 use Rattle.up_calls.specs.Views.{LaterSeen, SeenStore}
 use Rattle.up_entry.specs.declared.entries.Endpoint.{Endpoint}
 use Rattle.up_entry.specs.declared.entries.Endpoint.TheVariants as endpoint
 use Rattle.up_entry.specs.declared.entries.Location.{Location}
 use Rattle.up_entry.specs.declared.fetch.Fetch.{Fetch}
-use Rattle.up_entry.specs.declared.fetch.Fetch.TheVariants as fetch
-use Rattle.up_lists.proofs.Causes.{StaysUnless-more, StaysUnless-same}
-use Rattle.up_lists.specs.Counts.{HasCause, StaysUnless}
-use Rattle.up_lists.specs.Runs.{Run}
 use Rattle.up_lists.proofs.BeginsLemmas.{length-Begins}
 use Rattle.up_peer.specs.declared.loader.Loader.{Ghosts}
 
@@ -69,55 +63,6 @@ module _ {L : Type 0} (loader : Ghosts L) (rises : Type 0) (v w : SeenStore) whe
     rose = λ e. h.rose (or_false (own_failed location.endpoint given) e);
     asks = h.asks;
   }
-
-module _ {L E : Type 0} (loader : Ghosts L) (rises : Type 0) (v w : SeenStore) (location : Location) where
-  local_failed : (given : Fetch) → own_failed endpoint.Local given ≡ true → given ≡ fetch.Failed
-  local_failed fetch.Failed h = refl
-  local_failed (fetch.Got bytes) h = absurd (false≢true h)
-  local_failed fetch.Missing h = absurd (false≢true h)
-
-  address_fine : (address : List ℕ) (given : Fetch) → own_failed (endpoint.Address address) given ≡ false
-  address_fine address fetch.Failed = refl
-  address_fine address (fetch.Got bytes) = refl
-  address_fine address fetch.Missing = refl
-
-  -- the own store gave it
-  pub block_local : ((l : L) → loader.tied l l) → location.endpoint ≡ endpoint.Local → (l : L) (result : Result Fetch E) → IfOk result (IsFromStore v w location.reference) → (result ≡ Ok fetch.Failed → rises)
-      → IfOk result (BlockGathered loader rises v w l l location)
-  block_local same is l (Err e) own failed = tt
-  block_local same is l (Ok given) own failed = record {
-    own = subst (λ at. OwnBlock v w at location.reference given) (sym is) own;
-    rose = λ e. failed (ap Ok (local_failed given (sym (ap (λ at. own_failed at given) is) ∙ e)));
-    asks = record {
-      asked = subst (λ at. Run loader.fetches l (question_of location.reference at ++ []) (answer_at given at ++ []) l) (sym is) refl;
-      counts = subst (λ at. HasCause (loader.faults l) (loader.faults l) (list_any is_failed (answer_at given at ++ []) ≡ true)) (sym is) (HasCause-same (loader.faults l) (false ≡ true) false≢true);
-      quiet = StaysUnless-same (loader.faults l) _;
-      tie = same l;
-    };
-  }
-
-  -- the loader was asked for it
-  pub block_address : (address : List ℕ) → location.endpoint ≡ endpoint.Address address → (old new : L) (result : Result Fetch E) → loader.fetches old (record { address = address; reference = location.reference }) (result_ok result) new
-      → HasCause (loader.faults old) (loader.faults new) (result ≡ Ok fetch.Failed) → StaysUnless (loader.faults old) (loader.faults new) (result ≡ Ok fetch.Failed) → loader.tied old new
-      → IfOk result (BlockGathered loader rises v w old new location)
-  block_address address is old new (Err e) given cause quiet tie = tt
-  block_address address is old new (Ok got) given cause quiet tie = record {
-    own = subst (λ at. OwnBlock v w at location.reference got) (sym is) tt;
-    rose = λ e. absurd (false≢true (sym (ap (λ at. own_failed at got) is ∙ address_fine address got) ∙ e));
-    asks = record {
-      asked = subst (λ at. Run loader.fetches old (question_of location.reference at ++ []) (answer_at got at ++ []) new) (sym is) (new, (given, refl));
-      counts = subst (λ at. HasCause (loader.faults old) (loader.faults new) (list_any is_failed (answer_at got at ++ []) ≡ true)) (sym is)
-          (HasCause-for (loader.faults old) (loader.faults new) (Ok {E = E} got ≡ Ok fetch.Failed) ((is_failed (Some got) || false) ≡ true) (λ e. ap Ok (got_failed got (or_false (is_failed (Some got)) e))) cause);
-      quiet = subst (λ at. StaysUnless (loader.faults old) (loader.faults new) (list_any is_failed (answer_at got at ++ []) ≡ true)) (sym is)
-          (StaysUnless-more (loader.faults old) (loader.faults new) (Ok {E = E} got ≡ Ok fetch.Failed) ((is_failed (Some got) || false) ≡ true) quiet (λ e. ap (λ r. is_failed (result_ok r) || false) e));
-      tie = tie;
-    };
-  }
-    where
-      got_failed : (got : Fetch) → is_failed (Some got) ≡ true → got ≡ fetch.Failed
-      got_failed fetch.Failed h = refl
-      got_failed (fetch.Got bytes) h = absurd (false≢true h)
-      got_failed fetch.Missing h = absurd (false≢true h)
 
 -- ---- all of them
 

@@ -393,3 +393,7 @@ if_ok (Err e) P Q f h = tt
 pub on_err : {T E P Q : Type 0} (result : Result T E) → (P → Q) → OnErr result P → OnErr result Q
 on_err (Ok x) f h = tt
 on_err (Err e) f h = f h
+
+pub on_err_now : {T E P : Type 0} (result : Result T E) → P → OnErr result P
+on_err_now (Ok x) h = tt
+on_err_now (Err e) h = h

@@ -204,6 +204,10 @@ or_false false h = absurd (cc)
 pub same_some : {X : Type 0} (x : Option X) (v w : X) → x ≡ Some v → x ≡ Some w → v ≡ w
 same_some x v w p q = let k : Some v ≡ Some w = sym p ∙ q in cc
 
+pub not_some : {X : Type 0} (found : Option X) → is_some found ≡ false → found ≡ None
+not_some None h = refl
+not_some (Some x) h = absurd (false≢true (sym h))
+
 some_of : {X : Type 0} (x : Option X) → is_some x ≡ true → (y : X) × (x ≡ Some y)
 some_of None h = absurd (false≢true h)
 some_of (Some y) h = (y, refl)

@@ -15,3 +15,4 @@ pub mod KeysDone
 pub mod SettledLemmas
 pub mod StepLemmas
 pub mod GroupTextLemmas
+pub mod StateLemmas

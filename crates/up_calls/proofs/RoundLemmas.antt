@@ -1,9 +1,10 @@
 -- How rounds of loads go on.
-use Rattle.std.proofs.Common.{◌≡◌, ◌≢◌, ◌⊎◌, ◌≤◌, ◌<◌, ◌+◌, ◌-◌, ℕ, zero, suc, Bool, true, false, cond, List, [], ◌∷◌, ◌++◌, length, map, take, refl, inl, inr, sym, ap, subst, ◌∙◌, arith, add-one, append_assoc, append-nil, length-append, Option, Some, None, slice_get}
+use Rattle.std.proofs.Common.{◌≡◌, ◌≢◌, ◌⊎◌, ◌≤◌, ◌<◌, ◌==◌, ◌||◌, ◌+◌, ◌-◌, ℕ, zero, suc, Bool, true, false, cond, List, [], ◌∷◌, ◌++◌, length, map, take, refl, inl, inr, sym, ap, subst, ◌∙◌, arith, add-one, append_assoc, append-nil, length-append, Option, Some, None, slice_get}
 use Rattle.std.specs.Prelude.{Contains}
 use Rattle.std.specs.List.{AllByRecursion, IsDistinct, flat_map}
 use Rattle.std.specs.Map.{keys_of}
 use Rattle.std.proofs.lemmas.Bool.{false≢true}
+use Rattle.std.proofs.lemmas.Bool.Decides.{nat_tests}
 use Rattle.std.proofs.lemmas.List.{take_all}
 use Rattle.up_answers.specs.Needs.{needs}
 use Rattle.up_calls.proofs.NeedLemmas.{needs_more, needs_new}
@@ -32,6 +33,30 @@ pub needed_new : (log : Log) (user : UserName) (request : Request) (names : List
 needed_new log user request names before is = record {
   new = λ name h. needs_new log user request (places_listed log user) before name (subst (λ ns. Contains ns name) is h);
 }
+
+-- ---- where loading ends
+
+pub not_enough : (names : List PathName) (loaded : Loading) → (length names == 0 || length loaded == bound) ≡ false → length names ≢ 0
+not_enough [] loaded h = absurd (false≢true (sym h))
+not_enough (name ∷ names) loaded h = λ e. omega (arith, e)
+
+pub not_full : (names : List PathName) (loaded : Loading) → (length names == 0 || length loaded == bound) ≡ false → length loaded ≢ bound
+not_full names loaded h full = by (length names == 0) h
+  where
+    by : (b : Bool) → (b || length loaded == bound) ≡ false → ⊥
+    by true k = absurd (false≢true (sym k))
+    by false k = grind (arith, nat_tests, k, full)
+
+equal_by_test : (a b : ℕ) → (a == b) ≡ true → a ≡ b
+equal_by_test a b h = grind (arith, nat_tests)
+
+pub is_whole : (names missing : List PathName) (loaded : Loading) → names ≡ missing → (length names == 0 || length loaded == bound) ≡ true → IsWhole missing loaded
+is_whole [] missing loaded is h = record { enough = inl (sym is) }
+is_whole (name ∷ names) missing loaded is h = record { enough = inr (by (length (name ∷ names) == 0) refl h) }
+  where
+    by : (b : Bool) → (length (name ∷ names) == 0) ≡ b → (b || length loaded == bound) ≡ true → length loaded ≡ bound
+    by true e k = let none : length (name ∷ names) ≡ 0 = equal_by_test (length (name ∷ names)) 0 e in absurd (omega (arith, none))
+    by false e k = equal_by_test (length loaded) bound k
 
 -- ---- rounds
 

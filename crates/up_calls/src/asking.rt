@@ -95,8 +95,9 @@ fn ask_store<B: Logs, L: Loader>(
         logs.old logs.new }
     ensures moment { result.moment ≡ now }
 {
-    if let Some(what) = store_fault(request) {
-        return bare(alloc, logs.random(), Reply::Invalid(what), 0, now);
+    match store_fault(request) {
+        None => (),
+        Some(what) => return bare(alloc, logs.random(), Reply::Invalid(what), 0, now),
     }
     let (reply, position) = logs.ask_store(user, request);
     bare(alloc, logs.random(), reply, position, now)

@@ -100,7 +100,9 @@ fn gather_elsewhere<B: Logs, L: Loader>(
         (B.views logs.now) (B.views logs.now)
         loader.old loader.new name.now (result_ok result) }
 {
-    let owner = log_owner(name.owner())?;
+    let Ok(owner) = log_owner(name.owner()) else {
+        return Err(AllocError);
+    };
     if logs.has(&owner) {
         return Ok(LoadAnswer::Missing);
     }

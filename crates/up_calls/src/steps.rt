@@ -1,9 +1,10 @@
 //! What is done in one turn of one log, over its state.
-ghost use Rattle.std.specs.Prelude.{◌≡◌, ◌<◌, None, IfOk};
+ghost use Rattle.std.specs.Prelude.{◌≡◌, ◌==◌, ◌||◌, ◌<◌, None, IfOk, length};
 ghost use Rattle.std.specs.Result.{result_ok};
 ghost use Rattle.up_blocks.specs.Blocks as of_blocks;
 ghost use Rattle.up_calls.specs.Loads.{group_text_answer, load_of};
 ghost use Rattle.up_calls.specs.Routes.{service_of};
+ghost use Rattle.up_calls.specs.Rounds.{bound};
 ghost use Rattle.up_calls.specs.Services.{key_fault, store_fault};
 ghost use Rattle.up_calls.specs.Steps.{BlockRead, FetchedAs, KeysTried, StoreReads, StoreTried, Tried, said_at};
 ghost use Rattle.up_calls.specs.declared.service.Service.TheVariants as service;
@@ -23,7 +24,7 @@ use up_disk::Disk;
 use up_entry::Fetch;
 use up_keys::{Keys, key_step};
 use up_names::{Path, User};
-use up_policy::{LoadAnswer, Loaded};
+use up_policy::{LoadAnswer, Loaded, Names};
 use up_refs::Reference;
 use up_store::store_step;
 use up_tree::TreeState;
@@ -48,13 +49,20 @@ pub fn try_tree<D: Disk>(
     let Ok(missing) = foreign(alloc, state, user, request, loaded) else {
         return Turn::Wanting;
     };
-    if missing.len() != 0 && loaded.len() != BOUND {
+    if !is_enough(&missing, loaded) {
         return Turn::Missing(missing);
     }
     drop(missing);
     let position = state.position();
     let reply = step(alloc, state, user, request, loaded, fetched, now);
     said_at(reply, position)
+}
+
+// Whether loading ends: nothing is missing, or the bound is reached.
+fn is_enough(missing: &Names, loaded: &Loaded) -> bool
+    ensures { result ≡ (length missing.now == 0 || length loaded.now == bound) }
+{
+    missing.len() == 0 || loaded.len() == BOUND
 }
 
 // The turn that a reply at a position is.

@@ -6,6 +6,7 @@ use Rattle.std.specs.Str.{bytes_eq}
 use Rattle.std.proofs.lemmas.Bool.Decides.{nat_tests}
 use Rattle.std.proofs.lemmas.List.Folds.{find_at}
 use Rattle.std.proofs.lemmas.Option.{slice_get_past}
+use Rattle.std.proofs.lemmas.Slice.Eq.{bytes_eq-Decides}
 use Rattle.up_names.specs.Texts.{UserName}
 use Rattle.up_shared.proofs.Pairs.{each_length, some_none, some_same}
 use Rattle.up_shared.specs.Sharing.{EachPair, IsTreeSeat, cell_for, is_cell_of, is_seat_of, seat_for, tree_seen}
@@ -71,6 +72,9 @@ module _ {D : Type 0} where
 
   pub seat_at : (owner : UserName) (seats : List (TreeSeat D)) (i : ℕ) (x : TreeSeat D) → position (is_seat_of owner) seats ≡ Some i → slice_get seats i ≡ Some x → seat_for seats owner ≡ Some x
   seat_at owner seats i x h at = find_at (is_seat_of owner) seats ∙ ap (slice_get seats) (sym (position-place (is_seat_of owner) seats i h).0) ∙ at
+
+  pub owner_at : (owner : UserName) (seats : List (TreeSeat D)) (i : ℕ) (x : TreeSeat D) → position (is_seat_of owner) seats ≡ Some i → slice_get seats i ≡ Some x → x.owner ≡ owner
+  owner_at owner seats i x h at = (bytes_eq-Decides x.owner owner).0 (found_passes (is_seat_of owner) seats x (seat_at owner seats i x h at))
 
   -- whether a host has the tree is whether its caller has a seat there
   pub has_same : (owner : UserName) (cells : List (TreeCell D)) (seats : List (TreeSeat D)) → EachPair IsTreeSeat cells seats

@@ -13,6 +13,7 @@ invariant-loop-reply g l = record {
   few : length l.loaded ≤ bound;
   own : OwnStays None (g.B.Logs.views l.fn.logs) (g.B.Logs.views l.logs);
   tie : g.B.Logs.tied (Some (LogName.OfTree l.fn.owner)) l.fn.logs l.logs;
+  fetched : l.fetched ≡ l.fn.fetched;
   there : is_some ((g.B.Logs.views l.logs).tree l.fn.owner) ≡ true;
 }
 

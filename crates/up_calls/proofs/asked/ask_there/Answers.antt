@@ -1,5 +1,6 @@
 use Rattle.std.proofs.Common.{None, Some, sym}
-use Rattle.up_calls.proofs.CameLemmas.{if_ok, on_err, served_if}
+use Rattle.up_calls.proofs.AsksLemmas.{Tries-none}
+use Rattle.up_calls.proofs.CameLemmas.{if_ok, on_err, on_err_now, served_if}
 use Rattle.up_calls.proofs.GatherLemmas.{stays_trans}
 use Rattle.up_calls.proofs.TurnLemmas.{some_later}
 use Rattle.up_calls.specs.Answered.{TreeAnswered}
@@ -16,7 +17,14 @@ ask_loaded-requires-clause-there g c =
     ((g.met.B.Logs.later None c.args.logs.now c.gather_blocks.new.logs c.gather_blocks.ensures.tie).trees c.args.owner.now) c.requires.there
 
 pub returns-in_err-fetched-clause-wanting : goal.returns-in_err-fetched-clause-wanting
-returns-in_err-fetched-clause-wanting g c = g.met.B.Logs.stays None c.args.logs.now c.gather_blocks.new.logs c.gather_blocks.ensures.tie
+returns-in_err-fetched-clause-wanting g c = on_err_now c.from_residual.result (g.met.B.Logs.stays None c.args.logs.now c.gather_blocks.new.logs c.gather_blocks.ensures.tie)
+
+pub returns-in_err-fetched-clause-tried : goal.returns-in_err-fetched-clause-tried
+returns-in_err-fetched-clause-tried g c = record {
+  between = c.gather_blocks.new.loader;
+  blocks = c.gather_blocks.ensures.tried;
+  groups = Tries-none g.L.Loader.loads g.L.Loader.faults g.L.Loader.tied g.met.L.Loader.same c.gather_blocks.new.loader;
+}
 
 pub returns-in_err-fetched-clause-tie : goal.returns-in_err-fetched-clause-tie
 returns-in_err-fetched-clause-tie g c = g.met.B.Logs.wider (Some (LogName.OfTree c.args.owner.now)) c.args.logs.now c.gather_blocks.new.logs c.gather_blocks.ensures.tie

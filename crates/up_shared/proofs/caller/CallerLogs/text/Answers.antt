@@ -3,7 +3,7 @@ use Rattle.std.specs.Prelude.{IfOk}
 use Rattle.up_calls.specs.Loads.{group_text_answer, load_of}
 use Rattle.up_shared.specs.Callers.{tied_same}
 use Rattle.up_shared.specs.Sharing.{is_cell_of, is_seat_of, tree_seen}
-use Rattle.up_shared.proofs.Places.{position-none, position_same}
+use Rattle.up_shared.proofs.Places.{owner_at, position-none, position_same}
 use Rattle.up_shared.proofs.Telling.{text_told, tied_quiet}
 use Rattle.up_tree.specs.States.{log_of}
 use Rattle.up_shared.proofs.caller.CallerLogs.text.Goals as goal
@@ -19,6 +19,16 @@ returns-in_default-clause-given g c =
 
 pub returns-in_default-clause-tie : goal.returns-in_default-clause-tie
 returns-in_default-clause-tie g c = tied_same c.args.self.now.shared.now c.args.self.now.seats.ghost_name c.args.self.now.seats.now
+
+pub lend_tree-requires-clause-can : goal.lend_tree-requires-clause-can
+lend_tree-requires-clause-can g c = λ seat state there fixed.
+    let cells = c.args.self.now.shared.now.trees.items in
+    let seats = c.args.self.now.seats.now.trees.items in
+    let owner = c.args.name.now.owner in
+    let at : position (is_seat_of owner) seats ≡ Some c.in-Some.place =
+    sym (position_same owner cells seats c.requires.trees) ∙ sym (ap (position (is_cell_of owner)) c.deref.ensures.value)
+    ∙ ap (λ o. position (is_cell_of o) c.deref.result.now) (sym c.owner.ensures) ∙ sym c.place_among.ensures ∙ c.in-Some.is in
+    sym (owner_at owner seats c.in-Some.place seat at there) ∙ ap (λ f. f.0) fixed
 
 pub returns-in-Ok-clause-given : goal.returns-in-Ok-clause-given
 returns-in-Ok-clause-given g c =
