@@ -1,5 +1,5 @@
 -- Lists whose items go together, pair by pair.
-use Rattle.std.proofs.Common.{◌≡◌, ◌<◌, ℕ, zero, suc, Bool, true, false, cond, List, [], ◌∷◌, ◌++◌, length, refl, sym, ap, subst, ◌∙◌, arith, get_or, slice_get, slice_set, Option, Some, None}
+use Rattle.std.proofs.Common.{◌≡◌, ◌<◌, ℕ, zero, suc, Bool, true, false, cond, List, [], ◌∷◌, ◌++◌, length, refl, sym, ap, subst, ◌∙◌, arith, drop, get_or, slice_get, slice_set, Option, Some, None}
 use Rattle.std.specs.Prelude.{map}
 use Rattle.std.specs.List.{find}
 use Rattle.up_shared.specs.Sharing.{EachPair}
@@ -17,6 +17,11 @@ cons_same x y xs ys h = let a : x ≡ y = cc in let b : xs ≡ ys = cc in (a, b)
 
 pub cons_none : {X : Type 0} (x : X) (xs : List X) → x ∷ xs ≡ [] → ⊥
 cons_none x xs h = cc
+
+-- a list that is its own rest is empty
+pub no_front : {X : Type 0} (xs : List X) → xs ≡ drop 1 xs → xs ≡ []
+no_front [] h = refl
+no_front (x ∷ xs) h = let k = ap length h in absurd (omega (arith, k))
 
 -- ---- items at a place
 

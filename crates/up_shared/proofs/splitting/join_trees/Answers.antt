@@ -1,6 +1,6 @@
 use Rattle.std.proofs.Common.{◌≡◌, ◌+◌, length, ap, sym, subst, ◌∙◌, arith, slice_get, slice_set, Some}
 use Rattle.up_shared.proofs.Halves.{Joining, joining_all, joining_ends, joining_next}
-use Rattle.up_shared.proofs.Pairs.{each_at, each_length, get_within, read_at, some_same}
+use Rattle.up_shared.proofs.Pairs.{each_at, each_length, get_within, no_front, read_at, some_same}
 use Rattle.up_shared.specs.Sharing.{IsTreeSeat}
 use Rattle.up_shared.specs.Splits.{both_trees}
 use Rattle.up_shared.proofs.splitting.join_trees.Goals as goal
@@ -9,7 +9,8 @@ pub returns-in_default : goal.returns-in_default
 returns-in_default g c =
     let one = each_length IsTreeSeat c.args.cells.now c.args.seats.now.items c.requires.these in
     let other = each_length IsTreeSeat c.args.cells.now c.args.others.items c.requires.those in
-    joining_ends c.loop-i.i c.args.seats.now.items c.args.others.items c.loop-i.left.items c.loop-i.seats.items (one ∙ sym other) c.loop-i.invariant c.in_default.ensures.items
+    joining_ends c.loop-i.i c.args.seats.now.items c.args.others.items c.loop-i.left.items c.loop-i.seats.items (one ∙ sym other) c.loop-i.invariant
+    (no_front c.loop-i.left.items (c.in_default.ensures.items ∙ c.in_default.ensures.rest))
 
 pub index_mut-requires : goal.index_mut-requires
 index_mut-requires g c =

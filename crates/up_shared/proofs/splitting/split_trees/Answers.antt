@@ -1,13 +1,13 @@
 use Rattle.std.proofs.Common.{◌≡◌, ◌∷◌, ◌++◌, [], length, length-append, refl, ap, sym, subst, ◌∙◌, arith, slice_get, slice_set, Some}
 use Rattle.up_shared.proofs.Halves.{Halving, halving_all, halving_ends, halving_next}
-use Rattle.up_shared.proofs.Pairs.{each_at, each_length, get_within, read_at, some_same}
+use Rattle.up_shared.proofs.Pairs.{each_at, each_length, get_within, no_front, read_at, some_same}
 use Rattle.up_shared.specs.Sharing.{IsTreeSeat}
 use Rattle.up_shared.specs.Splits.{first_tree, second_tree}
 use Rattle.up_shared.proofs.splitting.split_trees.Goals as goal
 
 pub returns-in_default : goal.returns-in_default
 returns-in_default g c =
-    let none = c.in_default.ensures.items in
+    let none = no_front c.loop-i.left.items (c.in_default.ensures.items ∙ c.in_default.ensures.rest) in
     let ended = halving_ends c.args.seats.now.items c.loop-i.left.items c.loop-i.seats.items c.loop-i.others.items c.loop-i.invariant.so_far none in
     record { first = ended.0; second = ended.1 }
 
