@@ -5,6 +5,7 @@ use Rattle.up_answers.specs.Fetching.{Fetched}
 use Rattle.up_blocks.specs.Blocks as blocks
 use Rattle.up_blocks.specs.declared.record.BlockRecord.{BlockRecord}
 use Rattle.up_calls.proofs.StepLemmas.{block_told, keys_told, store_told, turn_told}
+use Rattle.up_calls.specs.Answered.{Risen}
 use Rattle.up_calls.specs.Blocks.{IsFromStore}
 use Rattle.up_calls.specs.Calls.{KeysTurn, StoreTurn}
 use Rattle.up_calls.specs.Gathered.{OwnText}
@@ -14,6 +15,7 @@ use Rattle.up_calls.specs.Services.{key_fault, store_fault}
 use Rattle.up_calls.specs.Steps.{BlockRead, KeysTried, StoreReads, StoreTried, Takes, Tried}
 use Rattle.up_calls.specs.Told.{LogTold, TreeTold, answered_at}
 use Rattle.up_calls.specs.Views.{log_after, own_of}
+use Rattle.up_calls.specs.declared.event.Event.{Event}
 use Rattle.up_calls.specs.declared.logs.Turn.{Turn}
 use Rattle.up_calls.specs.declared.logs.Turn.TheVariants as turn
 use Rattle.up_cell.proofs.Turns.{Onward-looked, Onward-self, Onward-trans, turn_floor, turn_from, turn_onward, turn_quiet, turn_taken, turn_to}
@@ -33,6 +35,7 @@ use Rattle.up_policy.specs.declared.load_answer.LoadAnswer.{LoadAnswer}
 use Rattle.up_replay.specs.Logs.{Log}
 use Rattle.up_shared.proofs.Turning.{turn_fixed, turn_takes, turned_after, turned_before, turned_fixed, turned_later, turned_looked, turned_own, turned_quiet, turned_takes}
 use Rattle.up_shared.specs.Callers.{IsTied, KeysTurned, StoreTurned, TreeTurned, seats_same}
+use Rattle.up_shared.specs.Jobs.{there}
 use Rattle.up_shared.specs.Sharing.{AreSeats, EachPair, HasFailed, HasLooked, Looked, SeatsLater, TreeSeatLater, is_seat_of, seat_for, seen_by, tree_seen, views_of}
 use Rattle.up_shared.specs.declared.shared.Seats.{Seats}
 use Rattle.up_shared.specs.declared.shared.Shared.{Shared}
@@ -40,6 +43,7 @@ use Rattle.up_shared.specs.declared.shared.TreeSeat.{TreeSeat}
 use Rattle.up_tree.specs.States.{State, entries_of, fixed_of, log_of}
 use Rattle.up_wire.specs.declared.keys.KeyRecord.{KeyRecord}
 use Rattle.up_wire.specs.declared.replies.Reply.{Reply}
+use Rattle.up_wire.specs.declared.requests.Request.{Request}
 
 store_no_tree : (owner : UserName) → Some LogName.OfStore ≡ Some (LogName.OfTree owner) → ⊥
 store_no_tree owner h = cc
@@ -66,7 +70,7 @@ module _ {D J : Type 0} (disks : disk.Ghosts D) (did : J → State D → J → S
       ∙ ap (λ (f : UserName × Limits). let log : Log = record { owner = f.0; limits = f.1; records = t.turn.before.log } in log) (fixed_after ∙ t.turn.grows.stays)
 
   -- what a text is that was read
-  pub text_told : (operator : UserName) (name : PathName) (answer : LoadAnswer) → name.owner ≡ owner → answer ≡ load_of name.owner (group_text_answer (log_of t.turn.before) operator name)
+  text_told : (operator : UserName) (name : PathName) (answer : LoadAnswer) → name.owner ≡ owner → answer ≡ load_of name.owner (group_text_answer (log_of t.turn.before) operator name)
       → OwnText operator (views_of a) (views_of b) name (Some answer)
   text_told operator name answer is given = (
     tree_seen t.before,
@@ -80,6 +84,11 @@ module _ {D J : Type 0} (disks : disk.Ghosts D) (did : J → State D → J → S
       given = given ∙ ap (λ (log : Log). load_of name.owner (group_text_answer log operator name)) (sym log_before);
     },
   )
+
+  pub text_told_by : {E : Type 0} (operator : UserName) (name : PathName) (given : Result LoadAnswer E) → name.owner ≡ owner
+      → IfOk given (λ answer. answer ≡ load_of name.owner (group_text_answer (log_of t.turn.before) operator name)) → IfOk (there given) (OwnText operator (views_of a) (views_of b) name)
+  text_told_by operator name (Ok answer) is h = text_told operator name answer is h
+  text_told_by operator name (Err e) is h = tt
 
   -- what every such turn leaves
   pub tied_own : {N : Type 0} (n : N) → IsTied (Some (LogName.OfTree owner)) shared shared n n a b
@@ -237,3 +246,14 @@ module _ {D J : Type 0} (disks : disk.Ghosts D) (did : J → LogState D KeyRecor
   keys_answered q sound said position h =
       subst (λ (l : Limits). LogTold (KeysTurn (seen_by a.keys l) (views_of b).keys q) (HasFailed LogName.OfKeys a b) (seen_by a.keys l) (views_of b).keys said position) t.keys_limits
       (keys_told disks q t.turn.before t.turn.after (seen_by a.keys b.keys_limits) (views_of b).keys (HasFailed LogName.OfKeys a b) keys_takes keys_fixed sound said position h)
+
+-- ---- one call
+
+-- that the failures rose, of the seats and the loader as they are left
+pub risen_at : {D L : Type 0} (faults : L → ℕ) (before : ℕ) (a b final : Seats D) (l last : L) (user who : UserName) (request : Request) (e : Event)
+    → Risen (λ log. HasFailed log a b) before (faults l) (record { user = user; request = request }) e → final ≡ b → last ≡ l → who ≡ user
+    → Risen (λ log. HasFailed log a final) before (faults last) (record { user = who; request = request }) e
+risen_at faults before a b final l last user who request e risen one two three =
+    subst (λ (x : Seats _). Risen (λ log. HasFailed log a x) before (faults last) (record { user = who; request = request }) e) (sym one)
+    (subst (λ (x : _). Risen (λ log. HasFailed log a b) before (faults x) (record { user = who; request = request }) e) (sym two)
+    (subst (λ (x : UserName). Risen (λ log. HasFailed log a b) before (faults l) (record { user = x; request = request }) e) (sym three) risen))

@@ -1,5 +1,5 @@
 -- What is done in the turns of a shared host. This project's own.
-use Rattle.std.specs.Prelude.{◌≡◌, List, ℕ, Result, IfOk}
+use Rattle.std.specs.Prelude.{◌≡◌, List, ℕ, Option, Some, Result, Ok, Err, IfOk}
 use Rattle.up_blocks.specs.declared.record.BlockRecord.{BlockRecord}
 use Rattle.up_calls.specs.Loads.{group_text_answer, load_of}
 use Rattle.up_calls.specs.Steps.{BlockRead, StoreReads}
@@ -20,3 +20,8 @@ pub record ReadsText {D E : Type 0} (operator : UserName) (name : PathName) (old
 pub record ReadsBlock {D E : Type 0} (disks : Ghosts D) (reference : List ℕ) (old new : LogState D BlockRecord) (given : Result Fetch E) : Type 0 where
   pub reads : StoreReads disks old new
   pub block : IfOk given (BlockRead disks old new reference)
+
+-- what was loaded is there
+abbrev pub there : {A E : Type 0} → Result A E → Result (Option A) E
+there (Ok answer) = Ok (Some answer)
+there (Err e) = Err e

@@ -1,6 +1,8 @@
 //! One caller of a host that many share, as who has its logs.
 ghost use Rattle.std.proofs.Common.{ap};
+ghost use Rattle.std.specs.Prelude.{◌≡◌};
 ghost use Rattle.up_shared.specs.Callers.{IsTied, failed_within, looked_since, seats_later, tied_same, tied_still, tied_trans, tied_wider};
+ghost use Rattle.up_shared.specs.Jobs.{there};
 ghost use Rattle.up_shared.specs.Sharing.{AreSeats, HasFailed, HasLooked, views_of};
 
 use crate::jobs::{ReadBlock, ReadText, TryKeys, TryStore, TryTree};
@@ -64,10 +66,7 @@ impl<'a, D: Disk + Drop, R: Wait> Logs for Caller<'a, D, R> {
             given: Err(AllocError),
         };
         lend_tree(self.rt, self.shared, self.seats, place, &mut job);
-        match job.given {
-            Ok(answer) => Ok(Some(answer)),
-            Err(failed) => Err(failed),
-        }
+        there(job.given)
     }
 
     fn block(&mut self, reference: &Reference) -> Result<Fetch, AllocError> {
@@ -149,4 +148,14 @@ impl<'a, D: Disk + Drop, R: Wait> Logs for Caller<'a, D, R> {
 
     ghost rises_within = { λ log but a b c d p h q.
         failed_within log a.seats.now b.seats.now c.seats.now d.seats.now p.later h q.later };
+}
+
+// What was loaded is there, unless memory was wanting.
+fn there(given: Result<LoadAnswer, AllocError>) -> Result<Option<LoadAnswer>, AllocError>
+    ensures { result ≡ there given }
+{
+    match given {
+        Ok(answer) => Ok(Some(answer)),
+        Err(failed) => Err(failed),
+    }
 }
