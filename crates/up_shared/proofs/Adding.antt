@@ -5,7 +5,7 @@ use Rattle.std.proofs.Math.Nat.{pow-succ'}
 use Rattle.std.proofs.lemmas.Nat.{pow-add}
 use lib.Pow.{pow_pos}
 use Rattle.up_cell.specs.Known.{Known, both_of, first_of, second_of}
-use Rattle.up_shared.specs.Splits.{AreBoth, AreFirsts, AreSeconds, IsWhole, SeatsAdd, SharesAdd, TreesAdd, both_trees, first_tree, joined_trees, parts, second_tree}
+use Rattle.up_shared.specs.Splits.{AreBoth, AreFirsts, AreSeconds, IsWhole, SeatsAdd, SharesAdd, TreesAdd, first_tree, joined_trees, parts, second_tree}
 use Rattle.up_shared.specs.declared.shared.Seats.{Seats}
 use Rattle.up_shared.specs.declared.shared.TreeSeat.{TreeSeat}
 

@@ -1,5 +1,5 @@
 -- Seats at trees, as they are split and joined one by one.
-use Rattle.std.proofs.Common.{◌≡◌, ◌<◌, ◌≤◌, ◌+◌, ℕ, List, [], ◌∷◌, ◌++◌, length, refl, sym, ap, subst, ◌∙◌, arith, slice_get, slice_set, Some, append_assoc, append-nil, length-append}
+use Rattle.std.proofs.Common.{◌≡◌, ◌≤◌, ◌+◌, ℕ, List, [], ◌∷◌, ◌++◌, length, refl, sym, ap, subst, ◌∙◌, arith, slice_get, slice_set, Some, append_assoc, append-nil, length-append}
 use Rattle.std.specs.Prelude.{map}
 use Rattle.up_cell.specs.Known.{Known}
 use Rattle.up_journal.specs.declared.limits.Limits.{Limits}

@@ -1,7 +1,6 @@
 -- Lists whose items go together, pair by pair.
-use Rattle.std.proofs.Common.{◌≡◌, ◌<◌, ℕ, zero, suc, Bool, true, false, cond, List, [], ◌∷◌, ◌++◌, length, refl, sym, ap, subst, ◌∙◌, arith, drop, get_or, slice_get, slice_set, Option, Some, None}
+use Rattle.std.proofs.Common.{◌≡◌, ◌<◌, ℕ, zero, suc, List, [], ◌∷◌, ◌++◌, length, refl, sym, ap, subst, arith, drop, get_or, slice_get, slice_set, Some, None}
 use Rattle.std.specs.Prelude.{map}
-use Rattle.std.specs.List.{find}
 use Rattle.up_shared.specs.Sharing.{EachPair}
 
 -- ---- heads, tails, and what is there

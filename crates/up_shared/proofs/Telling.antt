@@ -1,5 +1,5 @@
 -- What one turn of a seat tells whoever has the logs.
-use Rattle.std.proofs.Common.{◌≡◌, ◌≢◌, ◌≤◌, ◌<◌, ◌+◌, ℕ, List, [], length, take, refl, sym, ap, subst, ◌∙◌, inl, inr, arith, option_map, Some, None, Result, Ok, Err, position}
+use Rattle.std.proofs.Common.{◌≡◌, ◌<◌, ◌+◌, ℕ, List, length, refl, sym, ap, subst, ◌∙◌, inl, inr, arith, option_map, Some, None, Result, Ok, Err, position}
 use Rattle.std.specs.Prelude.{IfOk}
 use Rattle.up_answers.specs.Fetching.{Fetched}
 use Rattle.up_blocks.specs.Blocks as blocks
@@ -20,7 +20,6 @@ use Rattle.up_calls.specs.declared.logs.Turn.{Turn}
 use Rattle.up_calls.specs.declared.logs.Turn.TheVariants as turn
 use Rattle.up_cell.proofs.Turns.{Onward-looked, Onward-self, Onward-trans, turn_floor, turn_from, turn_onward, turn_quiet, turn_taken, turn_to}
 use Rattle.up_cell.specs.Known.{Known, Onward, looked_of}
-use Rattle.up_cell.specs.Turned.{Turned}
 use Rattle.up_disk.specs.declared.disk.Disk as disk
 use Rattle.up_entry.specs.declared.fetch.Fetch.{Fetch}
 use Rattle.up_entry.specs.declared.fetch.Fetch.TheVariants as fetch

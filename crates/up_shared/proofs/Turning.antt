@@ -1,13 +1,13 @@
 -- One turn of a seat, as its caller sees it.
-use Rattle.std.proofs.Common.{◌≡◌, ◌≢◌, ◌≤◌, ◌<◌, ◌+◌, ◌++◌, ℕ, zero, suc, Bool, true, false, not, cond, List, [], ◌∷◌, length, refl, sym, ap, subst, ◌∙◌, arith, option_map, slice_get, slice_set, Option, Some, None, nat_lt}
-use Rattle.std.specs.Prelude.{is_some, position}
+use Rattle.std.proofs.Common.{◌≡◌, ◌≢◌, ◌<◌, ◌+◌, ℕ, zero, suc, Bool, true, false, List, [], ◌∷◌, length, refl, sym, ap, subst, ◌∙◌, arith, option_map, slice_get, Option, Some, None}
+use Rattle.std.specs.Prelude.{position}
 use Rattle.std.specs.Str.{bytes_eq}
 use Rattle.std.proofs.lemmas.Bool.{false≢true}
 use Rattle.std.proofs.lemmas.Slice.Eq.{bytes_eq-Decides}
 use Rattle.std.proofs.lemmas.List.Folds.{find-set}
 use Rattle.up_calls.specs.Routes.{LogName, OwnStays}
 use Rattle.up_calls.specs.Steps.{Takes}
-use Rattle.up_calls.specs.Views.{SeenTree, own_of}
+use Rattle.up_calls.specs.Views.{own_of}
 use Rattle.up_cell.proofs.Turns.{Onward-looked, Onward-self, Onward-trans, turn_added, turn_floor, turn_from, turn_onward, turn_quiet, turn_rose}
 use Rattle.up_cell.specs.Known.{Known, Onward, looked_of}
 use Rattle.up_cell.specs.Turned.{Turned}
@@ -18,7 +18,7 @@ use Rattle.up_names.specs.Texts.{UserName}
 use Rattle.up_shared.proofs.Pairs.{each_set, some_none, some_same}
 use Rattle.up_shared.proofs.Places.{find_other, found_passes, position-place, seat_at}
 use Rattle.up_shared.specs.Callers.{TreeTurned, seats_same}
-use Rattle.up_shared.specs.Sharing.{AreSeats, AtTree, EachPair, HasFailed, HasLooked, IsTreeSeat, Looked, SeatsLater, TreeSeatLater, is_cell_of, is_seat_of, seat_for, seen_by, tree_seen, views_of}
+use Rattle.up_shared.specs.Sharing.{AreSeats, EachPair, HasFailed, HasLooked, IsTreeSeat, SeatsLater, TreeSeatLater, is_seat_of, seat_for, seen_by, tree_seen, views_of}
 use Rattle.up_shared.specs.declared.shared.Seats.{Seats}
 use Rattle.up_shared.specs.declared.shared.Shared.{Shared}
 use Rattle.up_shared.specs.declared.shared.TreeCell.{TreeCell}

@@ -1,5 +1,5 @@
 -- What every call of one caller of a shared host leaves, and its laws. This project's own.
-use Rattle.std.specs.Prelude.{◌≡◌, ◌≢◌, ◌≤◌, ◌<◌, ◌+◌, ℕ, Bool, true, false, List, [], ◌∷◌, slice_get, slice_set, Option, Some, None}
+use Rattle.std.specs.Prelude.{◌≡◌, ℕ, Bool, true, false, List, [], ◌∷◌, slice_get, slice_set, Option, Some, None}
 use Rattle.std.specs.List.{find}
 use Rattle.std.specs.Option.{option_map}
 use Rattle.std.specs.Str.{bytes_eq}
@@ -17,7 +17,7 @@ use Rattle.up_journal.specs.Logs.{LogState}
 use Rattle.up_journal.specs.declared.limits.Limits.{Limits}
 use Rattle.up_keys.specs.Keys as keys
 use Rattle.up_names.specs.Texts.{UserName}
-use Rattle.up_shared.specs.Sharing.{AreSeats, AtTree, EachPair, HasFailed, HasLooked, IsTreeSeat, Looked, SeatsLater, TreeSeatLater, is_seat_of, seat_for, seen_by, tree_seen, views_of}
+use Rattle.up_shared.specs.Sharing.{AreSeats, EachPair, HasFailed, HasLooked, IsTreeSeat, SeatsLater, TreeSeatLater, is_seat_of, seat_for, seen_by, tree_seen, views_of}
 use Rattle.up_shared.specs.declared.shared.Seats.{Seats}
 use Rattle.up_shared.specs.declared.shared.Shared.{Shared}
 use Rattle.up_shared.specs.declared.shared.TreeCell.{TreeCell}

@@ -97,7 +97,11 @@ fn split_trees<D: Disk + Drop>(
 }
 
 // Splits the seat at one tree.
-fn split_tree<D: Disk + Drop>(tree: &TreeCell<D>, place: &mut TreeSeat<D>, owner: User) -> TreeSeat<D>
+fn split_tree<D: Disk + Drop>(
+    tree: &TreeCell<D>,
+    place: &mut TreeSeat<D>,
+    owner: User,
+) -> TreeSeat<D>
     requires sits { IsTreeSeat tree.now place.old }
     requires owner { owner ≡ place.old.owner }
     ensures first { place.new ≡ first_tree place.old }

@@ -1,4 +1,4 @@
-use Rattle.std.proofs.Common.{ap, refl, subst, sym, ◌∙◌}
+use Rattle.std.proofs.Common.{refl, subst}
 use Rattle.up_keys.specs.Keys.{limits_of, log_of}
 use Rattle.up_cell.specs.Turned.{Turned}
 use Rattle.up_shared.proofs.lending.lend_keys.Goals as goal

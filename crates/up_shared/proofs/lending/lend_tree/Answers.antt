@@ -1,4 +1,4 @@
-use Rattle.std.proofs.Common.{◌≡◌, ◌<◌, Some, ap, arith, length, refl, slice_get, subst, sym, ◌∙◌}
+use Rattle.std.proofs.Common.{◌≡◌, Some, ap, arith, refl, slice_get, subst, sym, ◌∙◌}
 use Rattle.up_cell.specs.Turned.{Turned}
 use Rattle.up_shared.specs.Sharing.{IsTreeSeat}
 use Rattle.up_shared.proofs.Pairs.{each_at, each_length, read_at, some_same}

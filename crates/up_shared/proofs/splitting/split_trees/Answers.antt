@@ -1,4 +1,4 @@
-use Rattle.std.proofs.Common.{◌≡◌, ◌∷◌, ◌++◌, [], length, length-append, refl, ap, sym, subst, ◌∙◌, arith, slice_get, slice_set, Some}
+use Rattle.std.proofs.Common.{◌≡◌, ◌∷◌, ◌++◌, [], length, length-append, ap, sym, subst, ◌∙◌, arith, slice_get, slice_set, Some}
 use Rattle.up_shared.proofs.Halves.{Halving, halving_all, halving_ends, halving_next}
 use Rattle.up_shared.proofs.Pairs.{each_at, each_length, get_within, no_front, read_at, some_same}
 use Rattle.up_shared.specs.Sharing.{IsTreeSeat}

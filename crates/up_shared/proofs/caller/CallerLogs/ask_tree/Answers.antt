@@ -1,4 +1,4 @@
-use Rattle.std.proofs.Common.{◌≡◌, Some, ap, position, refl, sym, ◌∙◌}
+use Rattle.std.proofs.Common.{◌≡◌, Some, ap, position, sym, ◌∙◌}
 use Rattle.std.proofs.lemmas.Bool.{false≢true}
 use Rattle.std.specs.Prelude.{is_some}
 use Rattle.up_shared.specs.Sharing.{is_cell_of, is_seat_of}

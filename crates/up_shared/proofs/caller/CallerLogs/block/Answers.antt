@@ -1,7 +1,6 @@
-use Rattle.std.proofs.Common.{◌≡◌, subst, sym, ◌∙◌}
+use Rattle.std.proofs.Common.{subst}
 use Rattle.std.specs.Prelude.{IfOk}
 use Rattle.up_calls.specs.Steps.{BlockRead}
-use Rattle.up_entry.specs.declared.fetch.Fetch.TheVariants as fetch
 use Rattle.up_shared.proofs.Telling.{block_failed, block_told_by, tied_read}
 use Rattle.up_shared.proofs.caller.CallerLogs.block.Goals as goal
 

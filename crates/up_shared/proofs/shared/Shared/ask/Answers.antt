@@ -1,4 +1,4 @@
-use Rattle.std.proofs.Common.{rules, sym}
+use Rattle.std.proofs.Common.{rules}
 use Rattle.up_shared.proofs.Telling.{risen_at}
 use Rattle.up_shared.specs.Callers.{sits_later}
 use Rattle.up_shared.proofs.shared.Shared.ask.Goals as goal

@@ -1,7 +1,6 @@
-use Rattle.std.proofs.Common.{refl, sym, subst, ap, ◌∙◌, rules}
+use Rattle.std.proofs.Common.{refl, rules}
 use Rattle.up_shared.proofs.Adding.{split_adds}
 use Rattle.up_shared.proofs.Halves.{firsts_sit, seconds_sit}
-use Rattle.up_shared.specs.Splits.{AreFirsts, AreSeconds}
 use Rattle.up_shared.proofs.shared.Shared.split.Goals as goal
 
 pub returns-clause-shares : goal.returns-clause-shares
