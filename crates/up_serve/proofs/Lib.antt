@@ -6,3 +6,4 @@ mod TellLemmas
 mod CountLemmas
 mod OpenLemmas
 mod ServeLemmas
+mod MoveLemmas

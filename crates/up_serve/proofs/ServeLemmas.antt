@@ -281,3 +281,43 @@ module _ {D : Type 0} (disks : Ghosts D) (limits : Limits) (given : Spared D) (u
   pub words_unread : (plan : ServePlan) → unasked → Serves disks limits plan given.disks unasked left held held (Err (record { status = 4; disks = given }))
   words_unread plan quiet = Serves.refused {fault = wanting} (inl (record { handed = refl; why_is = refl; which_is = refl })) refl quiet
       (record { one = tt; answers = record { whole = λ bad. absurd (cc); part = WritesPart-none held [] } })
+
+-- what holds of each thing holds of one that may be there
+pub if_any : {X : Type 0} (P : X → Type 0) (found : Option X) → ((x : X) → P x) → IfSome found P
+if_any P None each = tt
+if_any P (Some x) each = each x
+
+module _ {D : Type 0} {disks : Ghosts D} {limits : Limits} {given : Spared D} {unasked : Type 0} {left held held_now : Option Text} where
+  pub words_wanting : (found : Option ServePlan) → unasked → held_now ≡ held → IfSome found (λ plan. Serves disks limits plan given.disks unasked left held held_now (Err (record { status = 4; disks = given })))
+  words_wanting found quiet same = subst (λ now. IfSome found (λ plan. Serves disks limits plan given.disks unasked left held now (Err (record { status = 4; disks = given })))) (sym same)
+      (if_any (λ plan. Serves disks limits plan given.disks unasked left held held (Err (record { status = 4; disks = given }))) found (λ plan. words_unread disks limits given unasked left held plan quiet))
+
+pub ruleset unread = (words_wanting)
+
+-- ---- what came of a plan, at each exit
+
+module _ {D : Type 0} {disks : Ghosts D} {limits : Limits} {plan : ServePlan} {given : List D} {unasked : Type 0} {left held held_now : Option Text} where
+  pub was_refused : {fault : HostFault D} {result : ServeFault D} → RefusesHost disks limits plan.trees given fault → result.disks.disks ≡ fault.disks.disks → unasked → AnswersOne held held_now (refused_by fault.which fault.why) result.status
+      → Serves disks limits plan given unasked left held held_now (Err result)
+  was_refused refuses back quiet one = Serves.refused refuses back quiet one
+
+  pub was_unread : {host : HostState D} {result : ServeFault D} {status : ℕ} → OpensHost disks limits plan.host plan.operator plan.trees given host → result.disks.disks ≡ disks_of host → result.status ≡ status → IsOneOf (2 ∷ 4 ∷ 7 ∷ []) status → held_now ≡ held
+      → Serves disks limits plan given unasked left held held_now (Err result)
+  was_unread opens back is one same = Serves.unread opens back (subst (IsOneOf (2 ∷ 4 ∷ 7 ∷ [])) (sym is) one) same
+
+  input_is : {text read : Text} → text ≡ read → IfSome left (λ bytes. read ≡ bytes) → length text ≤ input_limit → IsInput left text
+  input_is {text = text} is told few = record { told = subst (λ t. IfSome left (λ bytes. t ≡ bytes)) (sym is) told; few = few }
+
+  pub was_stopped : {host after : HostState D} {text read : Text} {why : EnrolStop} {result : ServeFault D} → OpensHost disks limits plan.host plan.operator plan.trees given host → text ≡ read → IfSome left (λ bytes. read ≡ bytes) → length text ≤ input_limit
+      → EnrolsUsers disks text host after (Err why) → result.disks.disks ≡ disks_of after → AnswersOne held held_now (stopped_by why) result.status → Serves disks limits plan given unasked left held held_now (Err result)
+  was_stopped opens is told few users back one = Serves.stopped opens (input_is is told few) users back one
+
+  pub was_enrolled : {host after : HostState D} {text read : Text} → OpensHost disks limits plan.host plan.operator plan.trees given host → text ≡ read → IfSome left (λ bytes. read ≡ bytes) → length text ≤ input_limit → EnrolsUsers disks text host after (Ok tt) → held_now ≡ held
+      → Serves disks limits plan given unasked left held held_now (Ok after)
+  was_enrolled opens is told few users same = Serves.enrolled opens (input_is is told few) users same
+
+pub ruleset came = (was_refused, was_unread, was_stopped, was_enrolled)
+
+pub ruleset causes = (causes_refused, causes_unread, causes_stopped, causes_enrolled)
+
+pub ruleset served = (statuses, later, rose, complete_if)

@@ -44,6 +44,7 @@ pub struct ServeFault<D> {
 /// over 67,108,864 bytes, 8 where a log does not open for its content, 10 at the first bad line, 12 where the log of keys is full at a
 /// line, and 64 where the words do not fit. With 8, 10, 12 and 64 a line was printed. All disks come back in their places; on that of the
 /// keys the records of earlier lines may stand.
+#[tactic(auto, using(crate::proofs::ServeLemmas::unread))]
 pub fn serve_open<D: Disk + Drop, S: Source, K: Sink>(
     alloc: Global,
     random: RandomState,
@@ -104,6 +105,7 @@ pub fn serve_open<D: Disk + Drop, S: Source, K: Sink>(
 }
 
 /// Does what [`serve_open`] does once the words were read, with any limits of the trees and keys. The statuses are the same but for 64.
+#[tactic(auto, using(crate::proofs::ServeLemmas::served))]
 pub fn serve_within<D: Disk + Drop, S: Source, K: Sink>(
     alloc: Global,
     random: RandomState,
@@ -142,6 +144,7 @@ pub fn serve_within<D: Disk + Drop, S: Source, K: Sink>(
 }
 
 // The same, with what its status says of the source and the sink in one place.
+#[tactic(auto, using(crate::proofs::ServeLemmas::came, crate::proofs::ServeLemmas::causes))]
 fn serve_plan<D: Disk + Drop, S: Source, K: Sink>(
     alloc: Global,
     random: RandomState,
