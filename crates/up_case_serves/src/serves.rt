@@ -1,7 +1,7 @@
 //! A server that is opened over disks in memory, and logs that are moved. A line is a case of its own: commands, parted by `; `, and so are
 //! their answers.
-ghost use Rattle.std.specs.Prelude.{◌≡◌, ◌≤◌, ◌+◌, true, false, length, map, string_bytes, IfOk, IfSome};
-ghost use Rattle.up_serve.specs.Plans.{IsPlan, plan_of};
+ghost use Rattle.std.specs.Prelude.{IfSome};
+ghost use Rattle.up_journal.specs.Journal.{AreLimits};
 ghost use Rattle.up_serve.specs.Serving.{AreServeLimits};
 
 use crate::plans::{add_plan, words_of};
@@ -49,6 +49,7 @@ struct Server {
     text: Vec<u8>,
     source_fails: Vec<u64>,
     sink_fails: Vec<u64>,
+    ghost fit: { IfSome limits AreServeLimits },
 }
 
 impl Server {
@@ -215,12 +216,22 @@ impl Server {
         Ok(())
     }
 
+    // The limits that were set, or the program's.
+    fn limits(&self) -> Limits
+        ensures { AreLimits result }
+    {
+        match self.limits {
+            Some(limits) => limits,
+            None => Limits {
+                records: 1 << 20,
+                device: 1 << 30,
+                largest: 1 << 17,
+            },
+        }
+    }
+
     fn move_log(&mut self, alloc: Global, which: u64, answer: &mut Answer) -> Result<(), Fault> {
-        let limits = self.limits.unwrap_or(Limits {
-            records: 1 << 20,
-            device: 1 << 30,
-            largest: 1 << 17,
-        });
+        let limits = self.limits();
         let mut sink = MemSink::new(alloc, copied(alloc, &self.sink_fails)?);
         let [old, new, ..] = self.disks.as_mut_slice() else {
             return Err(Fault::BadLine);
