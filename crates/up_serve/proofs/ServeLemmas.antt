@@ -279,7 +279,7 @@ module _ {D : Type 0} (disks : Ghosts D) (limits : Limits) (given : Spared D) (u
   wanting = record { disks = given; which = 0; why = why.OutOfMemory }
 
   pub words_unread : (plan : ServePlan) → unasked → Serves disks limits plan given.disks unasked left held held (Err (record { status = 4; disks = given }))
-  words_unread plan quiet = Serves.refused {fault = wanting} (inl (record { handed = refl; why_is = refl; which_is = refl })) refl quiet
+  words_unread plan quiet = Serves.refused {fault = wanting} {result = record { status = 4; disks = given }} (inl (record { handed = refl; why_is = refl; which_is = refl })) refl quiet
       (record { one = tt; answers = record { whole = λ bad. absurd (cc); part = WritesPart-none held [] } })
 
 -- what holds of each thing holds of one that may be there
@@ -287,14 +287,49 @@ pub if_any : {X : Type 0} (P : X → Type 0) (found : Option X) → ((x : X) →
 if_any P None each = tt
 if_any P (Some x) each = each x
 
-module _ {D : Type 0} {disks : Ghosts D} {limits : Limits} {given : Spared D} {unasked : Type 0} {left held held_now : Option Text} where
+module _ {D : Type 0} (disks : Ghosts D) (limits : Limits) (given : Spared D) (unasked : Type 0) (left held held_now : Option Text) where
   pub words_wanting : (found : Option ServePlan) → unasked → held_now ≡ held → IfSome found (λ plan. Serves disks limits plan given.disks unasked left held held_now (Err (record { status = 4; disks = given })))
   words_wanting found quiet same = subst (λ now. IfSome found (λ plan. Serves disks limits plan given.disks unasked left held now (Err (record { status = 4; disks = given })))) (sym same)
       (if_any (λ plan. Serves disks limits plan given.disks unasked left held held (Err (record { status = 4; disks = given }))) found (λ plan. words_unread disks limits given unasked left held plan quiet))
 
-pub ruleset unread = (words_wanting)
+-- ---- words that do not fit
+
+more_64 : (n : ℕ) → IsOneOf (2 ∷ 3 ∷ 4 ∷ 6 ∷ 7 ∷ 8 ∷ 10 ∷ 12 ∷ []) n → IsOneOf (2 ∷ 3 ∷ 4 ∷ 6 ∷ 7 ∷ 8 ∷ 10 ∷ 12 ∷ 64 ∷ []) n
+more_64 n one = grind (arith)
+
+never_64 : (n : ℕ) → IsOneOf (2 ∷ 3 ∷ 4 ∷ 6 ∷ 7 ∷ 8 ∷ 10 ∷ 12 ∷ []) n → n ≡ 64 → ⊥
+never_64 n one is = grind (arith)
+
+pub with_usage : {D : Type 0} (result : Result (HostState D) (ServeFault D)) → IfErr result (λ fault. IsOneOf (2 ∷ 3 ∷ 4 ∷ 6 ∷ 7 ∷ 8 ∷ 10 ∷ 12 ∷ []) fault.status)
+    → IfErr result (λ fault. IsOneOf (2 ∷ 3 ∷ 4 ∷ 6 ∷ 7 ∷ 8 ∷ 10 ∷ 12 ∷ 64 ∷ []) fault.status)
+with_usage (Ok host) one = tt
+with_usage (Err fault) one = more_64 fault.status one
+
+pub not_usage : {D : Type 0} (result : Result (HostState D) (ServeFault D)) → IfErr result (λ fault. IsOneOf (2 ∷ 3 ∷ 4 ∷ 6 ∷ 7 ∷ 8 ∷ 10 ∷ 12 ∷ []) fault.status) → result_code result ≡ 64 → ⊥
+not_usage (Ok host) one is = absurd (let bad : 0 ≡ 64 = is in cc)
+not_usage (Err fault) one is = never_64 fault.status one is
+
+pub usage_codes : (n : ℕ) → IsOneOf (3 ∷ 64 ∷ []) n → IsOneOf (2 ∷ 3 ∷ 4 ∷ 6 ∷ 7 ∷ 8 ∷ 10 ∷ 12 ∷ 64 ∷ []) n
+usage_codes n one = grind (arith)
+
+pub usage_or_4 : (n : ℕ) → IsOneOf (3 ∷ 64 ∷ []) n → IsOneOf (3 ∷ 4 ∷ 64 ∷ []) n
+usage_or_4 n one = grind (arith)
+
+pub usage_not_2 : (n : ℕ) → IsOneOf (3 ∷ 64 ∷ []) n → n ≡ 2 → ⊥
+usage_not_2 n one is = grind (arith)
+
+pub usage_not_6 : (n : ℕ) → IsOneOf (3 ∷ 64 ∷ []) n → n ≡ 6 → ⊥
+usage_not_6 n one is = grind (arith)
+
+pub usage_not_7 : (n : ℕ) → IsOneOf (3 ∷ 64 ∷ []) n → n ≡ 7 → ⊥
+usage_not_7 n one is = grind (arith)
+
+pub ruleset unread = (words_wanting, with_usage, usage_codes, usage_or_4)
 
 -- ---- what came of a plan, at each exit
+
+input_is : {text read : Text} (left : Option Text) → text ≡ read → IfSome left (λ bytes. read ≡ bytes) → length text ≤ input_limit → IsInput left text
+input_is {text = text} left is told few = record { told = subst (λ t. IfSome left (λ bytes. t ≡ bytes)) (sym is) told; few = few }
 
 module _ {D : Type 0} {disks : Ghosts D} {limits : Limits} {plan : ServePlan} {given : List D} {unasked : Type 0} {left held held_now : Option Text} where
   pub was_refused : {fault : HostFault D} {result : ServeFault D} → RefusesHost disks limits plan.trees given fault → result.disks.disks ≡ fault.disks.disks → unasked → AnswersOne held held_now (refused_by fault.which fault.why) result.status
@@ -305,16 +340,13 @@ module _ {D : Type 0} {disks : Ghosts D} {limits : Limits} {plan : ServePlan} {g
       → Serves disks limits plan given unasked left held held_now (Err result)
   was_unread opens back is one same = Serves.unread opens back (subst (IsOneOf (2 ∷ 4 ∷ 7 ∷ [])) (sym is) one) same
 
-  input_is : {text read : Text} → text ≡ read → IfSome left (λ bytes. read ≡ bytes) → length text ≤ input_limit → IsInput left text
-  input_is {text = text} is told few = record { told = subst (λ t. IfSome left (λ bytes. t ≡ bytes)) (sym is) told; few = few }
-
   pub was_stopped : {host after : HostState D} {text read : Text} {why : EnrolStop} {result : ServeFault D} → OpensHost disks limits plan.host plan.operator plan.trees given host → text ≡ read → IfSome left (λ bytes. read ≡ bytes) → length text ≤ input_limit
       → EnrolsUsers disks text host after (Err why) → result.disks.disks ≡ disks_of after → AnswersOne held held_now (stopped_by why) result.status → Serves disks limits plan given unasked left held held_now (Err result)
-  was_stopped opens is told few users back one = Serves.stopped opens (input_is is told few) users back one
+  was_stopped opens is told few users back one = Serves.stopped opens (input_is left is told few) users back one
 
   pub was_enrolled : {host after : HostState D} {text read : Text} → OpensHost disks limits plan.host plan.operator plan.trees given host → text ≡ read → IfSome left (λ bytes. read ≡ bytes) → length text ≤ input_limit → EnrolsUsers disks text host after (Ok tt) → held_now ≡ held
       → Serves disks limits plan given unasked left held held_now (Ok after)
-  was_enrolled opens is told few users same = Serves.enrolled opens (input_is is told few) users same
+  was_enrolled opens is told few users same = Serves.enrolled opens (input_is left is told few) users same
 
 pub ruleset came = (was_refused, was_unread, was_stopped, was_enrolled)
 

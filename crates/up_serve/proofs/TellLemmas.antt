@@ -1,15 +1,18 @@
 -- How a last line and its status are answered and printed.
 use Rattle.std.proofs.Common.{◌≡◌, ◌∙◌, ℕ, Bool, true, false, List, [], ◌∷◌, Option, Result, Ok, Err, refl, sym, ap, subst, arith}
+use Rattle.std.specs.Prelude.{IfOk}
 use Rattle.std.specs.Io.KnownBytes.{Appends}
 use Rattle.std.specs.declared.alloc.AllocError.{AllocError}
 use Rattle.up_command.specs.Statuses.{Answer, AnswersWith, IsOneOf, code_of, is_cut_short}
 use Rattle.up_command.specs.declared.status.Status.{Status}
 use Rattle.up_ends.proofs.Going.{WritesPart-none}
 use Rattle.up_ends.specs.Writing.{WritesPart}
+use Rattle.up_journal.specs.declared.fault.MoveWhy.{MoveWhy}
+use Rattle.up_journal.specs.declared.fault.MoveWhy.TheVariants as move
 use Rattle.up_journal.specs.declared.fault.OpenWhy.{OpenWhy}
 use Rattle.up_journal.specs.declared.fault.OpenWhy.TheVariants as why
 use Rattle.up_names.specs.Texts.{Text}
-use Rattle.up_serve.specs.Telling.{AnswersOne, IsLast, TellsLast, refused_by, stopped_by}
+use Rattle.up_serve.specs.Telling.{AnswersOne, IsLast, TellsLast, moved_by, refused_by, stopped_by}
 use Rattle.up_serve.specs.declared.enrolling.EnrolStop.{EnrolStop}
 use Rattle.up_serve.specs.declared.enrolling.EnrolStop.TheVariants as stop
 use Rattle.up_serve.specs.declared.telling.Last.{Last}
@@ -104,4 +107,29 @@ stopped_six held held_now reason status one six = by reason (sym six ∙ is_answ
     by stop.DiskFault is = refl
     by stop.OutOfMemory is = absurd (cc)
 
-pub ruleset tellings = (told_whole, told_part, tells_answer)
+-- ---- no answer is a write fault
+
+pub never_3 : (last : Result Last AllocError) (answer : Answer) → IsLast last answer → (answer.status ≡ 3 → ⊥) → IfOk last (λ l. code_of l.status ≡ 3 → ⊥)
+never_3 (Ok last) answer made not = λ bad. not (sym made.1 ∙ bad)
+never_3 (Err e) answer made not = tt
+
+pub refused_never : (which : ℕ) (r : OpenWhy) → (refused_by which r).status ≡ 3 → ⊥
+refused_never which (why.Damaged gate) bad = absurd (cc)
+refused_never which (why.Chain gate wanted got) bad = absurd (cc)
+refused_never which why.OldFormat bad = absurd (cc)
+refused_never which why.Fault bad = absurd (cc)
+refused_never which why.OutOfMemory bad = absurd (cc)
+
+pub stopped_never : (r : EnrolStop) → (stopped_by r).status ≡ 3 → ⊥
+stopped_never (stop.BadLine number) bad = absurd (cc)
+stopped_never (stop.Full records) bad = absurd (cc)
+stopped_never stop.DiskFault bad = absurd (cc)
+stopped_never stop.OutOfMemory bad = absurd (cc)
+
+pub moved_never : (which : ℕ) (r : MoveWhy) → (moved_by which r).status ≡ 3 → ⊥
+moved_never which (move.Old place) bad = absurd (cc)
+moved_never which (move.Full records) bad = absurd (cc)
+moved_never which move.Fault bad = absurd (cc)
+moved_never which move.OutOfMemory bad = absurd (cc)
+
+pub ruleset tellings = (told_whole, told_part, tells_answer, never_3, refused_never, stopped_never, moved_never)

@@ -63,10 +63,11 @@ fn do_line<D: Disk>(
 ) -> Result<(), EnrolStop>
     ensures { DoesLine D.Disk number line.now host.old host.new result }
 {
-    match enrol_line(alloc, line)? {
-        Some(EnrolLine::Silent) => Ok(()),
-        Some(EnrolLine::User(card)) => put_user(host, card),
-        None => Err(EnrolStop::BadLine(number)),
+    match enrol_line(alloc, line) {
+        Ok(Some(EnrolLine::Silent)) => Ok(()),
+        Ok(Some(EnrolLine::User(card))) => put_user(host, card),
+        Ok(None) => Err(EnrolStop::BadLine(number)),
+        Err(_) => Err(EnrolStop::OutOfMemory),
     }
 }
 

@@ -1,5 +1,6 @@
 //! The line that is printed where a server does not listen, or where a log is not moved.
-ghost use Rattle.std.specs.Prelude.{◌≡◌, ◌≤◌, ◌++◌, [], codes, decimal, OnOk};
+ghost use Rattle.std.specs.Prelude.{◌≡◌, ◌≤◌, ◌++◌, [], codes, decimal, IfOk, OnOk};
+ghost use Rattle.up_command.specs.Statuses.{code_of};
 ghost use Rattle.up_lists.specs.Counts.{Rose};
 ghost use Rattle.up_refs.specs.References.{text_of};
 ghost use Rattle.up_serve.specs.Telling.{IsLast, TellsLast, chain_at, damaged_at, full_log_at, full_with, moved_by, old_format_at, refused_by, stopped_by};
@@ -21,6 +22,7 @@ pub struct Last {
 /// Prints a last line, and answers its status; or 3 where the sink failed, and 4 where there was no memory for the line.
 #[tactic(auto, using(crate::proofs::TellLemmas::tellings))]
 pub fn tell<K: Sink>(sink: &mut K, last: Result<Last, AllocError>) -> u8
+    requires { IfOk last (λ last. code_of last.status ≡ 3 → ⊥) }
     ensures tells { TellsLast (K.held sink.old) (K.held sink.new) last result }
     ensures cause { result ≡ 3 → Rose (K.faults sink.old) (K.faults sink.new) }
     ensures later { K.faults sink.old ≤ K.faults sink.new }
