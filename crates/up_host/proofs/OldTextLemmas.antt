@@ -8,8 +8,8 @@ use Rattle.up_answers.specs.SnapshotReplies.{snapshot_outcome}
 use Rattle.up_entry.specs.Checking.{◌>>=◌, rule}
 use Rattle.up_entry.specs.declared.records.Rec.{Rec}
 use Rattle.up_entry.specs.declared.what.What.TheVariants as what
-use Rattle.up_host.proofs.GroupTextLemmas.{asked_is, by_asked}
-use Rattle.up_host.specs.Loads.{group_text_answer}
+use Rattle.up_calls.proofs.GroupTextLemmas.{asked_is, by_asked}
+use Rattle.up_calls.specs.Loads.{group_text_answer}
 use Rattle.up_list.specs.Changes.{answer_of}
 use Rattle.up_list.specs.Reads.{group_text_reply}
 use Rattle.up_list.specs.declared.asking.Asked.TheVariants.{GroupText}

@@ -7,7 +7,7 @@ use Rattle.up_blocks.specs.Records as blocks
 use Rattle.up_blocks.specs.declared.record.BlockRecord.{BlockRecord}
 use Rattle.up_host.specs.Alone.{IsBase}
 use Rattle.up_host.specs.Opens.{IsNoLog, OpensHeld, OpensLogs, OpensTree, OpensTrees, RefusesHost, StopsAtTree, TakesOne, TakesTrees, WereOpened, WasOpenedAs, disk_of, place_by, store_limits}
-use Rattle.up_host.specs.Routes.{LogName}
+use Rattle.up_calls.specs.Routes.{LogName}
 use Rattle.up_host.specs.declared.fault.HostFault.{HostFault}
 use Rattle.up_host.specs.declared.held.Held.{Held}
 use Rattle.up_journal.specs.Logs.{LogState}

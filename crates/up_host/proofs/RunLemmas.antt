@@ -7,12 +7,12 @@ use Rattle.std.proofs.lemmas.List.{take_more}
 use Rattle.std.proofs.lemmas.List.{map-append}
 use Rattle.std.proofs.lemmas.List.Elements.{Contains-append_cases}
 use Rattle.up_disk.specs.declared.disk.Disk as disk
-use Rattle.up_host.proofs.LaterLemmas.{refusal_later}
+use Rattle.up_calls.proofs.LaterLemmas.{refusal_later}
 use Rattle.up_host.specs.Alone.{Counts, HostState, IsAlone, disk_faults, ends_at, io_of, positions, tree_for, tree_view, views}
-use Rattle.up_host.specs.Routes.{LogName, Question}
+use Rattle.up_calls.specs.Routes.{LogName, Question}
 use Rattle.up_host.specs.Runs.{Called, HasFewIo, IsCalled, IsHistory, IsOrdered, IsRun, LooksAt, all_faults, number_of_io, own_at, question_of}
-use Rattle.up_host.specs.Views.{Later, LaterTree, SeenTree, Views, own_of}
-use Rattle.up_host.specs.declared.event.Event.{Event}
+use Rattle.up_calls.specs.Views.{Later, LaterTree, SeenTree, Views, own_of}
+use Rattle.up_calls.specs.declared.event.Event.{Event}
 use Rattle.up_host.specs.declared.run.Call.{Call}
 use Rattle.up_host.specs.declared.held.Held.{Held}
 use Rattle.up_lists.proofs.BeginsLemmas.{length-Begins}

@@ -7,10 +7,10 @@ use Rattle.std.specs.Str.{bytes_eq}
 use Rattle.up_blocks.specs.declared.record.BlockRecord.{BlockRecord}
 use Rattle.up_disk.specs.declared.disk.Disk.{Ghosts}
 use Rattle.up_answers.specs.Needs.{needs}
-use Rattle.up_host.specs.Rounds.{InRounds}
-use Rattle.up_host.specs.Routes.{LogName, Question, log_asked, refusal}
-use Rattle.up_host.specs.Views.{Seen, SeenKeys, SeenStore, SeenTree, Views, log_seen}
-use Rattle.up_host.specs.declared.event.Event.{Event}
+use Rattle.up_calls.specs.Rounds.{InRounds}
+use Rattle.up_calls.specs.Routes.{LogName, Question, log_asked, refusal}
+use Rattle.up_calls.specs.Views.{Seen, SeenKeys, SeenStore, SeenTree, Views, log_seen}
+use Rattle.up_calls.specs.declared.event.Event.{Event}
 use Rattle.up_host.specs.declared.held.Held.{Held}
 use Rattle.up_ends.specs.Growing.{OnlyGrows}
 use Rattle.up_journal.specs.Logs.{LogState}

@@ -6,7 +6,7 @@ use Rattle.up_blocks.specs.declared.record.BlockRecord.{BlockRecord}
 use Rattle.up_disk.specs.declared.disk.Disk.{Ghosts}
 use Rattle.up_lists.specs.Counts.{HasCause}
 use Rattle.up_host.specs.Alone.{HostState}
-use Rattle.up_host.specs.Routes.{LogName}
+use Rattle.up_calls.specs.Routes.{LogName}
 use Rattle.up_host.specs.declared.fault.HostFault.{HostFault}
 use Rattle.up_host.specs.declared.held.Held.{Held}
 use Rattle.up_disk.specs.Leaving.{LeavesNow}

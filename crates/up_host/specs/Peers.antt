@@ -8,7 +8,7 @@ use Rattle.up_blocks.specs.declared.record.BlockRecord.{BlockRecord}
 use Rattle.up_disk.specs.declared.disk.Disk.{Ghosts}
 use Rattle.up_entry.specs.declared.what.What.TheVariants as what
 use Rattle.up_host.specs.Alone.{HostState, tree_for}
-use Rattle.up_host.specs.Loads.{group_text_answer}
+use Rattle.up_calls.specs.Loads.{group_text_answer}
 use Rattle.up_host.specs.declared.held.Held.{Held}
 use Rattle.up_journal.specs.Logs.{LogState}
 use Rattle.up_names.specs.PathNames.{PathName}

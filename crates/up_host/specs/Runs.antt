@@ -2,11 +2,11 @@
 use Rattle.std.specs.Prelude.{◌≡◌, ◌≢◌, ◌≤◌, ◌<◌, ◌+◌, ◌-◌, ◌^◌, ℕ, List, [], ◌∷◌, Contains, map, slice_get, Option, Some, None}
 use Rattle.up_disk.specs.declared.disk.Disk as disk
 use Rattle.up_host.specs.Alone.{Counts, HostState, IsAlone, disk_faults, io_of, views}
-use Rattle.up_host.specs.Calls.{Asked}
-use Rattle.up_host.specs.Routes.{LogName, Question, log_asked, refusal}
+use Rattle.up_calls.specs.Calls.{Asked}
+use Rattle.up_calls.specs.Routes.{LogName, Question, log_asked, refusal}
 use Rattle.up_host.specs.Settled.{StaysSettled}
-use Rattle.up_host.specs.Views.{Views, own_of}
-use Rattle.up_host.specs.declared.event.Event.{Event}
+use Rattle.up_calls.specs.Views.{Views, own_of}
+use Rattle.up_calls.specs.declared.event.Event.{Event}
 use Rattle.up_host.specs.declared.run.Call.{Call}
 use Rattle.up_peer.specs.declared.loader.Loader.{Ghosts}
 use Rattle.up_wire.specs.declared.replies.Reply.TheVariants as reply

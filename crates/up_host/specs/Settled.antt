@@ -1,19 +1,11 @@
 -- That the logs of a host stay settled but for a fault, and that all stays in its place. This project's own.
-use Rattle.std.specs.Prelude.{◌≡◌, ◌≤◌, ◌⊎◌, ℕ, map, slice_get, is_some, Some}
+use Rattle.std.specs.Prelude.{◌≡◌, ℕ, map, slice_get, Some}
+use Rattle.up_calls.specs.Settled.{KeepsSettled}
 use Rattle.up_disk.specs.declared.disk.Disk.{Ghosts}
-use Rattle.up_lists.specs.Counts.{Rose}
 use Rattle.up_host.specs.Alone.{HostState}
 use Rattle.up_host.specs.declared.held.Held.{Held}
-use Rattle.up_journal.specs.Logs.{IsSettledLog, LogState}
 use Rattle.up_names.specs.Texts.{UserName}
 use Rattle.up_tree.specs.States.{State, over_journal}
-
--- A settled log stays settled, or its disk failed, whose count rose; the disk tells its content exactly where it did before, and its
--- count never falls.
-pub record KeepsSettled {D R : Type 0} (disks : Ghosts D) (old new : LogState D R) : Type 0 where
-  pub settled : IsSettledLog old → IsSettledLog new ⊎ Rose (disks.faults old.disk) (disks.faults new.disk)
-  pub told : is_some (disks.content new.disk) ≡ is_some (disks.content old.disk)
-  pub later : disks.faults old.disk ≤ disks.faults new.disk
 
 abbrev pub owner_of : {D : Type 0} → Held (State D) → UserName
 owner_of held = held.state.owner

@@ -3,8 +3,8 @@ ghost use Rattle.std.specs.Prelude.{◌≡◌, is_some};
 ghost use Rattle.up_host.specs.Alone.{tree_for};
 
 use crate::held::Held;
-use crate::loading::tree_of;
 use crate::room::Room;
+use crate::trees::tree_of;
 use std::hash::RandomState;
 use std::marker::Model;
 use up_blocks::Blocks;

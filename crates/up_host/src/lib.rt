@@ -13,25 +13,21 @@
 #![tactic(auto)]
 
 mod asking;
-mod event;
 mod fault;
-mod fetching;
 mod held;
 mod host;
-mod loading;
+mod logs;
 mod opening;
 mod peer;
 mod room;
 mod run;
-mod service;
 mod texts;
+mod trees;
 mod users;
 
-pub use event::Event;
 pub use fault::HostFault;
 pub use held::Held;
 pub use host::Host;
-pub use loading::load_of;
 pub use peer::TreePeer;
 pub use run::{Call, ask_all};
-pub use service::Service;
+pub use up_calls::{Event, Service, load_of};

@@ -3,9 +3,9 @@ ghost use Rattle.std.specs.Prelude.{◌≡◌, ◌<◌, ◌≤◌, ◌+◌, [], 
 ghost use Rattle.std.specs.List.{AllByRecursion};
 ghost use Rattle.up_host.specs.Runs.{IsHistory};
 
-use crate::event::Event;
 use crate::host::Host;
 use std::alloc::{AllocError, Global};
+use up_calls::Event;
 use up_disk::Disk;
 use up_lists::Items;
 use up_peer::Loader;

@@ -1,7 +1,7 @@
 //! The text of a group, as a host gives it to who asks.
 ghost use Rattle.std.specs.Prelude.{◌≡◌, ◌≢◌, IfOk};
 ghost use Rattle.up_answers.specs.Answers.{log_owner};
-ghost use Rattle.up_host.specs.Loads.{group_text_answer};
+ghost use Rattle.up_calls.specs.Loads.{group_text_answer};
 ghost use Rattle.up_host.specs.Peers.{answer_elsewhere, group_text_by};
 ghost use Rattle.up_list.specs.Reads.{group_text_reply};
 ghost use Rattle.up_snap.specs.Looked.{look_at};
@@ -9,9 +9,10 @@ ghost use Rattle.up_snap.specs.Outcomes.{IsOfSnapshots};
 ghost use Rattle.up_tree.specs.States.{log_of};
 
 use crate::host::Host;
-use crate::loading::{group_text_of, is_group, tree_of};
+use crate::trees::tree_of;
 use std::alloc::{AllocError, Global};
 use std::hash::RandomState;
+use up_calls::{group_text_of, is_group};
 use up_changes::log_owner;
 use up_disk::Disk;
 use up_entry::What;

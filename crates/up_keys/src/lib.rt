@@ -18,5 +18,6 @@ mod replay;
 mod step;
 
 pub use bounds::keeps_bounds;
+pub use copying::copied;
 pub use keys::Keys;
 pub use step::key_step;

@@ -9,7 +9,7 @@ use Rattle.up_ends.specs.declared.clock.Clock as clock
 use Rattle.up_ends.specs.declared.nonces.Nonces as nonces
 use Rattle.up_ends.specs.declared.verifier.Verifier as verifier
 use Rattle.up_host.specs.Alone.{io_of}
-use Rattle.up_host.specs.declared.event.Event.{Event}
+use Rattle.up_calls.specs.declared.event.Event.{Event}
 use Rattle.up_journal.specs.declared.fault.AppendWhy.TheVariants as append
 use Rattle.up_journal.specs.declared.limits.Limits.{Limits}
 use Rattle.up_names.specs.PathNames.{PathName}

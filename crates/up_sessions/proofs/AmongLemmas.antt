@@ -10,7 +10,7 @@ use Rattle.up_host.specs.Alike.{TellsNoMore}
 use Rattle.up_host.specs.Alone.{Counts, HostState, IsAlone, disk_faults, views}
 use Rattle.up_host.specs.Calls.{Asked}
 use Rattle.up_host.specs.Routes.{Question}
-use Rattle.up_host.specs.declared.event.Event.{Event}
+use Rattle.up_calls.specs.declared.event.Event.{Event}
 use Rattle.up_names.specs.PathNames.{PathName}
 use Rattle.up_names.specs.Texts.{UserName}
 use Rattle.up_peer.specs.declared.loader.Loader.{Ghosts}

@@ -10,7 +10,7 @@ use Rattle.up_lists.specs.Counts.{HasCause, Rose}
 use Rattle.up_host.specs.Alone.{HostState, disk_faults, io_of}
 use Rattle.up_host.specs.Opens.{IsRefusedAs, OpensHost, OpensTrees, RefusesHost, WasOpenedAs, WereOpened}
 use Rattle.up_host.specs.Routes.{LogName, Question}
-use Rattle.up_host.specs.declared.event.Event.{Event}
+use Rattle.up_calls.specs.declared.event.Event.{Event}
 use Rattle.up_host.specs.declared.fault.HostFault.{HostFault}
 use Rattle.up_host.specs.declared.held.Held.{Held}
 use Rattle.up_journal.specs.declared.fault.AppendWhy.{AppendWhy}

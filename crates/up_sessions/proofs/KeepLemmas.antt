@@ -13,8 +13,9 @@ use Rattle.up_lists.specs.Counts.{Rose}
 use Rattle.up_host.specs.Alone.{HostState}
 use Rattle.up_host.specs.Opens.{IsLogOn, IsRefusedAs, OpensHost, OpensTrees, Reader, RefusesHost, WereOpened}
 use Rattle.up_host.specs.Routes.{LogName}
-use Rattle.up_host.specs.Settled.{KeepsSettled, StaysSettled, owner_of}
-use Rattle.up_host.specs.declared.event.Event.{Event}
+use Rattle.up_calls.specs.Settled.{KeepsSettled}
+use Rattle.up_host.specs.Settled.{StaysSettled, owner_of}
+use Rattle.up_calls.specs.declared.event.Event.{Event}
 use Rattle.up_host.specs.declared.fault.HostFault.{HostFault}
 use Rattle.up_host.specs.declared.held.Held.{Held}
 use Rattle.up_journal.specs.Logs.{IsSettledLog, LogState}

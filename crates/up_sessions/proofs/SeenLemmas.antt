@@ -9,7 +9,7 @@ use Rattle.up_host.specs.Calls.{Asked, IsAskedFor, IsTried}
 use Rattle.up_host.specs.Loads.{group_answer, group_question, load_failed}
 use Rattle.up_host.specs.Routes.{Question}
 use Rattle.up_host.specs.Views.{Views}
-use Rattle.up_host.specs.declared.event.Event.{Event}
+use Rattle.up_calls.specs.declared.event.Event.{Event}
 use Rattle.up_lists.specs.Runs.{Run}
 use Rattle.up_names.specs.Texts.{UserName}
 use Rattle.up_peer.specs.declared.loader.Loader.{Ghosts}

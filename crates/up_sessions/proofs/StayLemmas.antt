@@ -5,7 +5,8 @@ use Rattle.up_disk.specs.declared.disk.Disk.{Ghosts}
 use Rattle.up_lists.proofs.Causes.{Rose-after, Rose-before}
 use Rattle.up_lists.specs.Counts.{Rose}
 use Rattle.up_host.specs.Alone.{HostState}
-use Rattle.up_host.specs.Settled.{KeepsSettled, StaysSettled, owner_of}
+use Rattle.up_calls.specs.Settled.{KeepsSettled}
+use Rattle.up_host.specs.Settled.{StaysSettled, owner_of}
 use Rattle.up_host.specs.declared.held.Held.{Held}
 use Rattle.up_journal.specs.Logs.{IsSettledLog, LogState}
 use Rattle.up_sessions.proofs.KeptLemmas.{as_many}

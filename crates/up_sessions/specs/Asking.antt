@@ -6,7 +6,7 @@ use Rattle.up_host.specs.Alone.{Counts, HostState, IsAlone, disk_faults, views}
 use Rattle.up_host.specs.Calls.{Asked}
 use Rattle.up_host.specs.Routes.{Question}
 use Rattle.up_host.specs.Settled.{StaysSettled}
-use Rattle.up_host.specs.declared.event.Event.{Event}
+use Rattle.up_calls.specs.declared.event.Event.{Event}
 use Rattle.up_peer.specs.declared.loader.Loader.{Ghosts}
 use Rattle.up_sessions.specs.Others.{behind, others}
 use Rattle.up_sessions.specs.Worlds.{AtHost, Hosts}

@@ -7,7 +7,7 @@ use Rattle.up_client.specs.declared.fault.ClientFault.{ClientFault}
 use Rattle.up_client.specs.declared.fault.ClientFault.TheVariants as client
 use Rattle.up_disk.specs.declared.disk.Disk as disk
 use Rattle.up_host.specs.Alone.{HostState, disk_faults, io_of}
-use Rattle.up_host.specs.declared.event.Event.{Event}
+use Rattle.up_calls.specs.declared.event.Event.{Event}
 use Rattle.up_names.specs.PathNames.{PathName}
 use Rattle.up_names.specs.Texts.{UserName}
 use Rattle.up_peer.specs.declared.loader.Loader.{Ghosts}

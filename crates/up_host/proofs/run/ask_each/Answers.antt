@@ -2,7 +2,7 @@ use Rattle.std.proofs.Common.{◌≡◌, ◌+◌, [], List, length, take, sym, a
 use Rattle.std.proofs.Math.Seq.{take-length}
 use Rattle.up_host.proofs.RunLemmas.{history_none, history_taken, moment_at}
 use Rattle.up_host.specs.Runs.{IsHistory}
-use Rattle.up_host.specs.declared.event.Event.{Event}
+use Rattle.up_calls.specs.declared.event.Event.{Event}
 use Rattle.up_host.proofs.run.ask_each.Goals as goal
 
 pub ask-event-requires : goal.ask-event-requires

@@ -1,5 +1,5 @@
 use Rattle.std.proofs.Common.{◌≡◌, false, sym, ◌∙◌, bytes_eq}
-use Rattle.up_host.proofs.GroupTextLemmas.{no_group}
+use Rattle.up_calls.proofs.GroupTextLemmas.{no_group}
 use Rattle.up_host.proofs.OldTextLemmas.{old_text_given}
 use Rattle.up_host.proofs.texts.text_in.Goals as goal
 use Rattle.up_tree.specs.States.{log_of}

@@ -1,5 +1,6 @@
 use Rattle.std.proofs.Common.{◌≤◌, arith, length, refl}
-use Rattle.up_host.proofs.SettledLemmas.{host_keys, puts_settled}
+use Rattle.up_calls.proofs.SettledLemmas.{puts_settled}
+use Rattle.up_host.proofs.SettledLemmas.{host_keys}
 use Rattle.up_host.proofs.host.Host.enrol.Goals as goal
 use Rattle.up_lists.proofs.BeginsLemmas.{length-Begins}
 

@@ -3,7 +3,7 @@ use Rattle.std.specs.Option.{option_copied}
 use Rattle.up_answers.specs.Answers.{log_owner}
 use Rattle.up_host.specs.Alone.{tree_for}
 use Rattle.up_host.specs.Peers.{text_by}
-use Rattle.up_host.proofs.LoadLemmas.{found_is}
+use Rattle.up_host.proofs.PlaceLemmas.{found_is}
 use Rattle.up_host.proofs.host.Host.text_of.Goals as goal
 
 pub text_in-requires : goal.text_in-requires

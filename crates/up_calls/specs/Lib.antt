@@ -1,0 +1,16 @@
+pub mod Views
+pub mod Services
+pub mod Turns
+pub mod Asks
+pub mod Loads
+pub mod Blocks
+pub mod Routes
+pub mod Calls
+pub mod Rounds
+pub mod Gathered
+pub mod Told
+pub mod Answered
+pub mod Alike
+pub mod Done
+pub mod Settled
+pub mod Steps

@@ -1,0 +1,156 @@
+//! One request to a tree, whoever has the logs.
+ghost use Rattle.std.specs.Prelude.{◌≡◌, ◌<◌, None, Some, true, is_some, IfOk, OnErr};
+ghost use Rattle.up_calls.specs.Answered.{Came, TreeAnswered, TreeServed};
+ghost use Rattle.up_calls.specs.Asks.{Tries};
+ghost use Rattle.up_calls.specs.Calls.{IsTried};
+ghost use Rattle.up_calls.specs.Routes.{LogName, OwnStays, log_asked, service_of};
+ghost use Rattle.up_calls.specs.declared.service.Service.TheVariants as service;
+ghost use Rattle.up_changes.specs.Routes.{route_of};
+ghost use Rattle.up_changes.specs.declared.routes.Route.TheVariants as route;
+
+use crate::event::Event;
+use crate::events::bare;
+use crate::fetching::gather_blocks;
+use crate::gathering::gather_round;
+use crate::logs::{Logs, Turn};
+use std::alloc::{AllocError, Global};
+use up_dir::{Fetched, Route, route_of};
+use up_entry::Location;
+use up_lists::Items;
+use up_names::User;
+use up_peer::Loader;
+use up_policy::Loaded;
+use up_wire::{Reply, Request};
+
+/// A request to a tree.
+pub(crate) fn ask_directory<B: Logs, L: Loader>(
+    alloc: Global,
+    logs: &mut B,
+    loader: &mut L,
+    user: &User,
+    request: &Request,
+    now: u64,
+) -> Event
+    requires ready { B.ready logs.old }
+    requires directory { service_of request.now ≡ service.Directory }
+    requires moment { now < 253402207200 }
+    ensures came { Came L.Loader (B.operator_of logs.old)
+        (λ log n. B.left log n logs.old logs.new) (λ log. B.rises log logs.old logs.new)
+        (B.views logs.old) (B.views logs.new)
+        (record { user = user.now; request = request.now }) loader.old loader.new result }
+    ensures tie { B.tied (log_asked (record { user = user.now; request = request.now }))
+        logs.old logs.new }
+    ensures moment { result.moment ≡ now }
+{
+    match route_of(alloc, user, request) {
+        Ok(Route::Tree(owner, locations)) => {
+            ask_owner(alloc, logs, loader, &owner, locations, user, request, now)
+        }
+        Ok(Route::Refused(refusal)) => bare(alloc, logs.random(), refusal, 0, now),
+        Err(_) => bare(alloc, logs.random(), Reply::OutOfMemory, 0, now),
+    }
+}
+
+// A request to the tree of an owner, for which these blocks have to be fetched.
+fn ask_owner<B: Logs, L: Loader>(
+    alloc: Global,
+    logs: &mut B,
+    loader: &mut L,
+    owner: &User,
+    locations: Items<Location>,
+    user: &User,
+    request: &Request,
+    now: u64,
+) -> Event
+    requires ready { B.ready logs.old }
+    requires directory { service_of request.now ≡ service.Directory }
+    requires to { route_of user.now request.now ≡ route.Tree owner.now locations }
+    requires moment { now < 253402207200 }
+    ensures came { Came L.Loader (B.operator_of logs.old)
+        (λ log n. B.left log n logs.old logs.new) (λ log. B.rises log logs.old logs.new)
+        (B.views logs.old) (B.views logs.new)
+        (record { user = user.now; request = request.now }) loader.old loader.new result }
+    ensures tie { B.tied (Some (LogName.OfTree owner.now)) logs.old logs.new }
+    ensures moment { result.moment ≡ now }
+{
+    if !logs.has(owner) {
+        drop(locations);
+        return bare(alloc, logs.random(), Reply::WrongHost, 0, now);
+    }
+    match ask_there(alloc, logs, loader, owner, locations, user, request, now) {
+        Ok(event) => event,
+        Err(_) => bare(alloc, logs.random(), Reply::OutOfMemory, 0, now),
+    }
+}
+
+// A request to the tree of an owner that the host has. An `Err` is want of memory.
+fn ask_there<B: Logs, L: Loader>(
+    alloc: Global,
+    logs: &mut B,
+    loader: &mut L,
+    owner: &User,
+    locations: Items<Location>,
+    user: &User,
+    request: &Request,
+    now: u64,
+) -> Result<Event, AllocError>
+    requires ready { B.ready logs.old }
+    requires there { is_some ((B.views logs.old).tree owner.now) ≡ true }
+    requires moment { now < 253402207200 }
+    ensures served { IfOk result (TreeServed L.Loader (B.operator_of logs.old)
+        (λ log. B.rises log logs.old logs.new) (B.views logs.old) (B.views logs.new) owner.now
+        (record { user = user.now; request = request.now })
+        loader.old loader.new locations now) }
+    ensures left { IfOk result (λ event.
+        B.left (LogName.OfTree owner.now) event.position logs.old logs.new) }
+    ensures wanting { OnErr result (OwnStays None (B.views logs.old) (B.views logs.new)) }
+    ensures tie { B.tied (Some (LogName.OfTree owner.now)) logs.old logs.new }
+    ensures tried { IsTried L.Loader loader.old loader.new }
+{
+    let fetched = gather_blocks(alloc, logs, loader, locations)?;
+    ask_loaded(alloc, logs, loader, owner, user, request, fetched, now)
+}
+
+// The same with what was fetched: a turn of the tree, and a round of loads for what it misses, until it answers.
+fn ask_loaded<B: Logs, L: Loader>(
+    alloc: Global,
+    logs: &mut B,
+    loader: &mut L,
+    owner: &User,
+    user: &User,
+    request: &Request,
+    fetched: Fetched,
+    now: u64,
+) -> Result<Event, AllocError>
+    requires ready { B.ready logs.old }
+    requires there { is_some ((B.views logs.old).tree owner.now) ≡ true }
+    requires moment { now < 253402207200 }
+    ensures answered { IfOk result (TreeAnswered L.Loader (B.operator_of logs.old)
+        (B.rises (LogName.OfTree owner.now) logs.old logs.new)
+        (B.views logs.old) (B.views logs.new) owner.now
+        (record { user = user.now; request = request.now })
+        loader.old loader.new fetched now) }
+    ensures left { IfOk result (λ event.
+        B.left (LogName.OfTree owner.now) event.position logs.old logs.new) }
+    ensures wanting { OnErr result (OwnStays None (B.views logs.old) (B.views logs.new)) }
+    ensures tie { B.tied (Some (LogName.OfTree owner.now)) logs.old logs.new }
+    ensures tried { Tries L.loads L.faults L.tied loader.old loader.new }
+{
+    let mut loaded = Loaded::new(alloc, logs.random());
+    loop {
+        match logs.ask_tree(alloc, owner, user, request, &loaded, &fetched, now) {
+            Turn::Said(reply, position) => {
+                let _names = loaded.len();
+                return Ok(Event {
+                    reply,
+                    position,
+                    loaded,
+                    fetched,
+                    moment: now,
+                });
+            }
+            Turn::Missing(missing) => gather_round(alloc, logs, loader, &missing, &mut loaded)?,
+            Turn::Wanting => return Err(AllocError),
+        }
+    }
+}

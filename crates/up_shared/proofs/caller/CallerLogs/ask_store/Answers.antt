@@ -1,0 +1,20 @@
+use Rattle.up_shared.proofs.Telling.{store_answered, store_looked, tied_store}
+use Rattle.up_shared.proofs.caller.CallerLogs.ask_store.Goals as goal
+
+pub returns-clause-told : goal.returns-clause-told
+returns-clause-told g c =
+    let t = c.lend_store.ensures in
+    store_answered g.D.Disk _ _ c.lend_store.new.job c.args.self.now.shared.now c.args.self.now.seats.now c.lend_store.new.seats c.requires.ready t
+    c.args.self.now.shared.now.operator (record { user = c.args.user.now; request = c.args.request.now }) c.requires.sound
+    c.lend_store.new.job.came.0 c.lend_store.new.job.came.1 t.turn.did_it
+
+pub returns-clause-left : goal.returns-clause-left
+returns-clause-left g c =
+    let t = c.lend_store.ensures in
+    store_looked g.D.Disk _ _ c.lend_store.new.job c.args.self.now.shared.now c.args.self.now.seats.now c.lend_store.new.seats c.requires.ready t
+    c.lend_store.new.job.came.1 t.turn.did_it.position_is
+
+pub returns-clause-tie : goal.returns-clause-tie
+returns-clause-tie g c =
+    tied_store g.D.Disk _ _ c.lend_store.new.job c.args.self.now.shared.now c.args.self.now.seats.now c.lend_store.new.seats c.requires.ready c.lend_store.ensures
+    c.args.self.now.seats.ghost_name

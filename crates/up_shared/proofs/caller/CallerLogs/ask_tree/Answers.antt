@@ -1,0 +1,45 @@
+use Rattle.std.proofs.Common.{◌≡◌, Some, ap, position, sym, ◌∙◌}
+use Rattle.std.proofs.lemmas.Bool.{false≢true}
+use Rattle.std.specs.Prelude.{is_some}
+use Rattle.up_shared.specs.Sharing.{is_cell_of, is_seat_of}
+use Rattle.up_shared.proofs.Places.{has_same, position_same}
+use Rattle.up_shared.proofs.Telling.{tied_own, tree_looked, tree_told}
+use Rattle.up_shared.proofs.caller.CallerLogs.ask_tree.Goals as goal
+
+pub unreachable-requires : goal.unreachable-requires
+unreachable-requires g c =
+    let owner = c.args.owner.now in
+    false≢true (sym (ap is_some (sym (ap (position (is_cell_of owner)) c.deref.ensures.value) ∙ sym c.place_among.ensures ∙ c.in_default.is))
+    ∙ has_same owner c.args.self.now.shared.now.trees.items c.args.self.now.seats.now.trees.items c.requires.ready.trees ∙ c.requires.there)
+
+pub returns-clause-told : goal.returns-clause-told
+returns-clause-told g c =
+    let cells = c.args.self.now.shared.now.trees.items in
+    let seats = c.args.self.now.seats.now.trees.items in
+    let owner = c.args.owner.now in
+    let at : position (is_seat_of owner) seats ≡ Some c.in-Some.place =
+    sym (position_same owner cells seats c.requires.ready.trees) ∙ sym (ap (position (is_cell_of owner)) c.deref.ensures.value) ∙ sym c.place_among.ensures ∙ c.in-Some.is in
+    let t = c.lend_tree.ensures in
+    tree_told g.D.Disk _ c.in-Some.place _ c.lend_tree.new.job c.args.self.now.shared.now c.args.self.now.seats.now c.lend_tree.new.seats c.requires.ready t owner at
+    (record { user = c.args.user.now; request = c.args.request.now }) c.args.loaded.now c.args.fetched.now c.args.now c.lend_tree.new.job.came t.turn.did_it
+
+pub returns-clause-left : goal.returns-clause-left
+returns-clause-left g c =
+    let cells = c.args.self.now.shared.now.trees.items in
+    let seats = c.args.self.now.seats.now.trees.items in
+    let owner = c.args.owner.now in
+    let at : position (is_seat_of owner) seats ≡ Some c.in-Some.place =
+    sym (position_same owner cells seats c.requires.ready.trees) ∙ sym (ap (position (is_cell_of owner)) c.deref.ensures.value) ∙ sym c.place_among.ensures ∙ c.in-Some.is in
+    let t = c.lend_tree.ensures in
+    tree_looked g.D.Disk _ c.in-Some.place _ c.lend_tree.new.job c.args.self.now.shared.now c.args.self.now.seats.now c.lend_tree.new.seats c.requires.ready t owner at
+    (record { user = c.args.user.now; request = c.args.request.now }) c.args.loaded.now c.args.fetched.now c.args.now c.lend_tree.new.job.came t.turn.did_it
+
+pub returns-clause-tie : goal.returns-clause-tie
+returns-clause-tie g c =
+    let cells = c.args.self.now.shared.now.trees.items in
+    let seats = c.args.self.now.seats.now.trees.items in
+    let owner = c.args.owner.now in
+    let at : position (is_seat_of owner) seats ≡ Some c.in-Some.place =
+    sym (position_same owner cells seats c.requires.ready.trees) ∙ sym (ap (position (is_cell_of owner)) c.deref.ensures.value) ∙ sym c.place_among.ensures ∙ c.in-Some.is in
+    tied_own g.D.Disk _ c.in-Some.place _ c.lend_tree.new.job c.args.self.now.shared.now c.args.self.now.seats.now c.lend_tree.new.seats c.requires.ready c.lend_tree.ensures owner at
+    c.args.self.now.seats.ghost_name

@@ -1,0 +1,5 @@
+pub mod Sharing
+pub mod Splits
+pub mod Records
+pub mod Jobs
+pub mod Callers
