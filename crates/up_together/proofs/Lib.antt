@@ -1,0 +1,3 @@
+mod AnsweringLemmas
+mod SittingLemmas
+mod ThroughLemmas
