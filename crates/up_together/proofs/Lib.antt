@@ -1,3 +1,4 @@
 mod AnsweringLemmas
+mod HoldingLemmas
 mod SittingLemmas
 mod ThroughLemmas

@@ -1,2 +1,3 @@
 pub mod Sitting
 pub mod Together
+pub mod Holding

@@ -5,6 +5,8 @@
 //! of one point of its log's one history, not before anything that the seats had seen. It waits for the turns of the logs.
 #![tactic(auto)]
 
+mod laws;
 mod together;
 
+pub use laws::shares_come_together;
 pub use together::talk;

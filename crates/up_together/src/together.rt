@@ -22,16 +22,16 @@ use up_wire::{Request, ServerFrame};
 
 /// A host that many share, with one caller's seats at it and its loader, for one connection.
 #[derive(Drop)]
-struct Together<'a, D: Disk + Drop, R: Wait, L: Loader> {
-    rt: &'a R,
-    shared: &'a Shared<D>,
+struct Together<'r, 'h, 'a, D: Disk + Drop, R: Wait, L: Loader> {
+    rt: &'r R,
+    shared: &'h Shared<D>,
     seats: &'a mut Seats<D>,
     loader: &'a mut L,
     // The seats are those of the host.
     ghost sits: { marks_of seats.now ≡ marks_at shared.now seats.now },
 }
 
-impl<'a, D: Disk + Drop, R: Wait, L: Loader> Answers for Together<'a, D, R, L> {
+impl<'r, 'h, 'a, D: Disk + Drop, R: Wait, L: Loader> Answers for Together<'r, 'h, 'a, D, R, L> {
     ghost use Rattle.std.proofs.Common.{refl, ◌∙◌};
     ghost use Rattle.up_shared.specs.Callers.{seats_same, seats_trans};
     ghost use Rattle.up_shared.specs.Sharing.{SeatsLater};
