@@ -6,7 +6,10 @@ use Rattle.std.specs.declared.alloc.AllocError.{AllocError}
 use Rattle.up_ends.specs.Telling.{Coming, Gives}
 use Rattle.up_keys.specs.Records.{record_in}
 use Rattle.up_names.specs.Texts.{UserName}
+use Rattle.up_cell.specs.Known.{Onward}
+use Rattle.up_shared.specs.Callers.{seats_same}
 use Rattle.up_shared.specs.Records.{IsKeyOf, LooksAtKeys}
+use Rattle.up_shared.specs.Sharing.{EachPair, SeatsLater, TreeSeatLater}
 use Rattle.up_shared.specs.declared.shared.Seats.{Seats}
 use Rattle.up_shared.specs.declared.shared.Shared.{Shared}
 use Rattle.up_sign.specs.SigningOn.{Signing}
@@ -32,6 +35,18 @@ false_true e = cc
 held : {X : Type 0} (there : Option X) → is_some there ≡ true → Held there
 held (Some x) e = record { x = x; is = refl }
 held None e = absurd (false_true e)
+
+-- a look at the keys leaves the seats as every call does
+pub looks_later : {D : Type 0} (a b : Seats D) → LooksAtKeys a b → SeatsLater a b
+looks_later a b h =
+    let same = seats_same a in
+    record {
+      trees = subst (λ xs. EachPair TreeSeatLater a.trees.items xs.items) (sym h.trees) same.trees;
+      store = subst (Onward a.store) (sym h.store) same.store;
+      store_limits = h.store_limits;
+      keys = h.keys;
+      keys_limits = h.keys_limits;
+    }
 
 module _ {A D L N : Type 0} (shared_of : A → Shared D) (seats_of : A → Seats D) (peers_of : A → L) (coming : N → Option (Coming (List ℕ))) where
   -- what is seen of who answers
@@ -66,24 +81,26 @@ module _ {A D L V C N Q R : Type 0} (shared_of : A → Shared D) (seats_of : A �
   seen_at x v c n e = world (record { answerer = x; verifier = v; clock = c; nonces = n }) e
 
   -- a connection to whoever has seats at a host is one to that host
-  pub talks_seen : (start now : A) (one two : HostTogether D L) (v w : V) (c d : C) (n m : N) (e f : Ends) (end : TalkEnd) → seen start ≡ one → seen now ≡ two
-      → Talks (through seen tied who) (world (around start v c n) e) (world (around now w d m) f) end → Talks who (seen_at one v c n e) (seen_at two w d m f) end
-  talks_seen start now one two v w c d n m e f end first last talks =
-      subst (λ (x : HostTogether D L). Talks who (seen_at x v c n e) (seen_at two w d m f) end) first
-      (subst (λ (y : HostTogether D L). Talks who (seen_at (seen start) v c n e) (seen_at y w d m f) end) last
+  pub talks_seen : (start now : A) (host after : Shared D) (seats left : Seats D) (peers then : L) (v w : V) (c d : C) (n m : N) (e f : Ends) (end : TalkEnd)
+      → shared_of start ≡ host → seats_of start ≡ seats → peers_of start ≡ peers → shared_of now ≡ after → seats_of now ≡ left → peers_of now ≡ then
+      → Talks (through seen tied who) (world (around start v c n) e) (world (around now w d m) f) end → Talks who (world (together_at host seats peers v c n) e) (world (together_at after left then w d m) f) end
+  talks_seen start now host after seats left peers then v w c d n m e f end one two three four five six talks =
+      subst (λ (x : HostTogether D L). Talks who (seen_at x v c n e) (seen_at (host_together after left then) w d m f) end) (λ i. host_together (one i) (two i) (three i))
+      (subst (λ (y : HostTogether D L). Talks who (seen_at (seen start) v c n e) (seen_at y w d m f) end) (λ i. host_together (four i) (five i) (six i))
       (talks_through seen tied who (world (around start v c n) e) (world (around now w d m) f) end talks))
 
   -- where a client in order gets all its answers
   abbrev EndsWell : World (HostTogether D L) V C N → World (HostTogether D L) V C N → TalkEnd → Type 0
   EndsWell a b end = (text signature : List ℕ) (questions : List Q) (last : List (FromClient Q)) → IsInOrder who a b text signature questions last → Completes who a b (asks_all text signature questions) end
 
-  pub ends_well : (start now : A) (one two : HostTogether D L) (v w : V) (c d : C) (n m : N) (e f : Ends) (end : TalkEnd) → seen start ≡ one → seen now ≡ two
+  pub ends_well : (start now : A) (host after : Shared D) (seats left : Seats D) (peers then : L) (v w : V) (c d : C) (n m : N) (e f : Ends) (end : TalkEnd)
+      → shared_of start ≡ host → seats_of start ≡ seats → peers_of start ≡ peers → shared_of now ≡ after → seats_of now ≡ left → peers_of now ≡ then
       → ((text signature : List ℕ) (questions : List Q) (last : List (FromClient Q)) → IsInOrder (through seen tied who) (world (around start v c n) e) (world (around now w d m) f) text signature questions last
       → Completes (through seen tied who) (world (around start v c n) e) (world (around now w d m) f) (asks_all text signature questions) end)
-      → EndsWell (seen_at one v c n e) (seen_at two w d m f) end
-  ends_well start now one two v w c d n m e f end first last complete =
+      → EndsWell (world (together_at host seats peers v c n) e) (world (together_at after left then w d m) f) end
+  ends_well start now host after seats left peers then v w c d n m e f end one two three four five six complete =
       let a = world (around start v c n) e in
       let b = world (around now w d m) f in
-      subst (λ (x : HostTogether D L). EndsWell (seen_at x v c n e) (seen_at two w d m f) end) first
-      (subst (λ (y : HostTogether D L). EndsWell (seen_at (seen start) v c n e) (seen_at y w d m f) end) last
+      subst (λ (x : HostTogether D L). EndsWell (seen_at x v c n e) (seen_at (host_together after left then) w d m f) end) (λ i. host_together (one i) (two i) (three i))
+      (subst (λ (y : HostTogether D L). EndsWell (seen_at (seen start) v c n e) (seen_at y w d m f) end) (λ i. host_together (four i) (five i) (six i))
       (λ text signature questions given order. completes_through seen tied who a b (asks_all text signature questions) end (complete text signature questions given (order_within seen tied who a b text signature questions given order))))

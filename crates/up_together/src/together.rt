@@ -22,16 +22,18 @@ use up_wire::{Request, ServerFrame};
 
 /// A host that many share, with one caller's seats at it and its loader, for one connection.
 #[derive(Drop)]
-struct Together<'r, 'h, 'a, D: Disk + Drop, R: Wait, L: Loader> {
+struct Together<'r, 'h, 's, 'l, D: Disk + Drop, R: Wait, L> {
     rt: &'r R,
     shared: &'h Shared<D>,
-    seats: &'a mut Seats<D>,
-    loader: &'a mut L,
+    seats: &'s mut Seats<D>,
+    loader: &'l mut L,
     // The seats are those of the host.
     ghost sits: { marks_of seats.now ≡ marks_at shared.now seats.now },
 }
 
-impl<'r, 'h, 'a, D: Disk + Drop, R: Wait, L: Loader> Answers for Together<'r, 'h, 'a, D, R, L> {
+impl<'r, 'h, 's, 'l, D: Disk + Drop, R: Wait, L: Loader> Answers
+    for Together<'r, 'h, 's, 'l, D, R, L>
+{
     ghost use Rattle.std.proofs.Common.{refl, ◌∙◌};
     ghost use Rattle.up_shared.specs.Callers.{seats_same, seats_trans};
     ghost use Rattle.up_shared.specs.Sharing.{SeatsLater};
@@ -64,6 +66,7 @@ impl<'r, 'h, 'a, D: Disk + Drop, R: Wait, L: Loader> Answers for Together<'r, 'h
         × SeatsLater old.seats.now new.seats.now
         × L.tied old.loader.now new.loader.now };
 
+    #[tactic(auto, using(crate::proofs::SittingLemmas::marks_by_sits))]
     fn challenge<N: Nonces>(
         &mut self,
         alloc: Global,
@@ -91,6 +94,7 @@ impl<'r, 'h, 'a, D: Disk + Drop, R: Wait, L: Loader> Answers for Together<'r, 'h
         request_of(alloc, payload)
     }
 
+    #[tactic(auto, using(crate::proofs::SittingLemmas::marks_by_sits))]
     fn ask(
         &mut self,
         alloc: Global,
@@ -130,7 +134,16 @@ impl<'r, 'h, 'a, D: Disk + Drop, R: Wait, L: Loader> Answers for Together<'r, 'h
 ///
 /// It waits for the turns of the logs, and what is promised is so where it returns. How it ends, and what was written by then, is as
 /// [`TalkEnd`] says.
-pub fn talk<D: Disk + Drop, R: Wait, L: Loader, S: Source, K: Sink, V: Verifier, C: Clock, N: Nonces>(
+pub fn talk<
+    D: Disk + Drop,
+    R: Wait,
+    L: Loader,
+    S: Source,
+    K: Sink,
+    V: Verifier,
+    C: Clock,
+    N: Nonces,
+>(
     rt: &R,
     alloc: Global,
     host: &Shared<D>,
