@@ -1,4 +1,4 @@
 mod AnsweringLemmas
 mod HoldingLemmas
-mod SittingLemmas
+pub mod SittingLemmas
 mod ThroughLemmas
