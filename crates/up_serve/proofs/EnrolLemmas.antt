@@ -43,11 +43,12 @@ line_begins limits number log grown (Some (lines.User card)) is = user_begins li
 
 pub lines_begin : (limits : Limits) (number : ℕ) (log : List KeyRecord) (left : List Text) → Begins log (after_lines limits number log left).log
 lines_begin limits number log [] = Begins-self log
-lines_begin limits number log (line ∷ left) = by (after_line limits number log (enrol_line line)) (λ grown is. line_begins limits number log grown (enrol_line line) is)
+lines_begin limits number log (line ∷ left) = by (after_line limits number log (enrol_line line)) (λ grown is. line_begins limits number log grown (enrol_line line) is) (λ grown. lines_begin limits (number + 1) grown left)
   where
-    by : (done : Result (List KeyRecord) EnrolStop) → ((grown : List KeyRecord) → done ≡ Ok grown → Begins log grown) → Begins log (elim done [ Err why ↦ ended log (Some why) | Ok grown ↦ after_lines limits (number + 1) grown left ]).log
-    by (Err why) begins = Begins-self log
-    by (Ok grown) begins = Begins-trans (begins grown refl) (lines_begin limits (number + 1) grown left)
+    by : (done : Result (List KeyRecord) EnrolStop) → ((grown : List KeyRecord) → done ≡ Ok grown → Begins log grown) → ((grown : List KeyRecord) → Begins grown (after_lines limits (number + 1) grown left).log)
+        → Begins log (elim done [ Err why ↦ ended log (Some why) | Ok grown ↦ after_lines limits (number + 1) grown left ]).log
+    by (Err why) begins rest = Begins-self log
+    by (Ok grown) begins rest = Begins-trans (begins grown refl) (rest grown)
 
 module _ {D : Type 0} (disks : Ghosts D) where
   -- ---- a host is kept
@@ -184,7 +185,7 @@ module _ {D : Type 0} (disks : Ghosts D) where
   step_to text host mid after number line left going done =
       let one = now_after text host mid after number line left (Ok tt) going done refl in
       record {
-        kept = kept_then host mid after ⊥ ⊥ going.kept (weaker mid after (Ok tt) (λ bad. bad) done.kept);
+        kept = kept_then host mid after ⊥ ⊥ going.kept (weaker mid after (Ok tt) (λ bad. absurd bad) done.kept);
         meant = sym (ap (λ r. elim r [ Err why ↦ ended mid.keys.state.log (Some why) | Ok grown ↦ after_lines host.keys.state.limits (number + 1) grown left ]) one) ∙ going.meant;
       }
     where
@@ -201,9 +202,12 @@ module _ {D : Type 0} (disks : Ghosts D) where
             (subst (λ meant. Begins mid.keys.state.log meant.log) going.meant (lines_begin host.keys.state.limits number mid.keys.state.log (line ∷ left)));
       }
 
+  no_fault : ◌≡◌ {A = Result (Unit {0}) EnrolStop} (Ok tt) (Err stop.DiskFault) → ⊥
+  no_fault bad = absurd (cc)
+
   end_at : (text : Text) (host after : HostState D) (number : ℕ) → Enrolling text host after number [] → EnrolsUsers disks text host after (Ok tt)
   end_at text host after number going = record {
-    kept = record { state = going.kept.state; whole = going.kept.whole; limits = going.kept.limits; begins = going.kept.begins; told = going.kept.told; counts = HasCause-weaker _ _ ⊥ (Ok tt ≡ Err stop.DiskFault) going.kept.counts (λ bad. absurd (cc)) };
+    kept = record { state = going.kept.state; whole = going.kept.whole; limits = going.kept.limits; begins = going.kept.begins; told = going.kept.told; counts = HasCause-weaker _ _ ⊥ (Ok tt ≡ Err stop.DiskFault) going.kept.counts (λ bad. no_fault bad) };
     exact = λ _. sym going.meant;
     front = subst (λ meant. Begins after.keys.state.log meant.log) going.meant (Begins-self after.keys.state.log);
   }

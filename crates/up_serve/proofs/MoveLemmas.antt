@@ -27,8 +27,8 @@ moves_6 n is = grind (arith)
 moves_4 : (n : ℕ) → IsOneOf (3 ∷ 4 ∷ 4 ∷ []) n → IsOneOf (3 ∷ 4 ∷ 6 ∷ 8 ∷ 12 ∷ []) n
 moves_4 n is = grind (arith)
 
-pub moved_codes : {held held_now : Option Text} {which : ℕ} {reason : MoveWhy} {status : ℕ} → AnswersOne held held_now (moved_by which reason) status → IsOneOf (3 ∷ 4 ∷ 6 ∷ 8 ∷ 12 ∷ []) status
-moved_codes {which = which} {reason = reason} {status = status} one = by reason one.one
+pub moved_codes : (held held_now : Option Text) (which : ℕ) (reason : MoveWhy) (status : ℕ) → AnswersOne held held_now (moved_by which reason) status → IsOneOf (3 ∷ 4 ∷ 6 ∷ 8 ∷ 12 ∷ []) status
+moved_codes held held_now which reason status one = by reason one.one
   where
     by : (r : MoveWhy) → IsOneOf (3 ∷ 4 ∷ (moved_by which r).status ∷ []) status → IsOneOf (3 ∷ 4 ∷ 6 ∷ 8 ∷ 12 ∷ []) status
     by (move.Old place) is = moves_8 status is
@@ -37,8 +37,8 @@ moved_codes {which = which} {reason = reason} {status = status} one = by reason 
     by move.OutOfMemory is = moves_4 status is
 
 -- 6 is that of a fault of a disk alone
-pub moved_six : {held held_now : Option Text} {which : ℕ} {reason : MoveWhy} {status : ℕ} → AnswersOne held held_now (moved_by which reason) status → status ≡ 6 → reason ≡ move.Fault
-moved_six {held = held} {held_now = held_now} {which = which} {reason = reason} {status = status} one six = by reason (sym six ∙ is_answer held held_now (moved_by which reason) status one (ap is_cut_short six))
+pub moved_six : (held held_now : Option Text) (which : ℕ) (reason : MoveWhy) (status : ℕ) → AnswersOne held held_now (moved_by which reason) status → status ≡ 6 → reason ≡ move.Fault
+moved_six held held_now which reason status one six = by reason (sym six ∙ is_answer held held_now (moved_by which reason) status one (ap is_cut_short six))
   where
     by : (r : MoveWhy) → 6 ≡ (moved_by which r).status → r ≡ move.Fault
     by (move.Old place) is = absurd (cc)

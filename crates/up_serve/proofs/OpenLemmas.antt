@@ -18,8 +18,8 @@ name_is word name is = by (is_host_name word) is
     by true same = cc
     by false same = absurd (cc)
 
-pub has_name : {word : Text} → is_host_name word ≡ true → None ≡ host_named word → ⊥
-has_name {word = word} good is = by (is_host_name word) good is
+pub has_name : (word : Text) → is_host_name word ≡ true → None ≡ host_named word → ⊥
+has_name word good is = by (is_host_name word) good is
   where
     by : (b : Bool) → b ≡ true → None ≡ (if b then Some word else None) → ⊥
     by true same bad = absurd (cc)

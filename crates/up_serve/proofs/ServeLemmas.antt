@@ -56,6 +56,9 @@ from_unread code one = grind (arith)
 from_stopped : (code : ℕ) → IsOneOf (3 ∷ 4 ∷ 6 ∷ 10 ∷ 12 ∷ []) code → IsOneOf (2 ∷ 3 ∷ 4 ∷ 6 ∷ 7 ∷ 8 ∷ 10 ∷ 12 ∷ []) code
 from_stopped code one = grind (arith)
 
+apart : {X : Type 0} (value : X) (code : ℕ) → ◌≡◌ {A = Result X ℕ} (Ok value) (Err code) → ⊥
+apart value code bad = absurd (cc)
+
 -- ---- what the status says of source and sink
 
 module _ (given given_now read read_now wrote wrote_now : ℕ) (left : Option Text) where
@@ -96,7 +99,7 @@ module _ (given given_now read read_now wrote wrote_now : ℕ) (left : Option Te
 
   -- it was read whole
   not_over : {X : Type 0} (result : Result X ℕ) (value : X) → result ≡ Ok value → (given + input_limit < 2 ^ 64 - 1 → (result ≡ Err 7 ↔ (given + input_limit < given_now))) → given + input_limit < 2 ^ 64 - 1 → given + input_limit < given_now → ⊥
-  not_over result value is exact below over = let bad : Ok value ≡ Err 7 = sym is ∙ (exact below).1 over in absurd (cc)
+  not_over result value is exact below over = apart value 7 (sym is ∙ (exact below).1 over)
 
   pub causes_stopped : {X : Type 0} (held held_now : Option Text) (reason : EnrolStop) (status : ℕ) (result : Result X ℕ) (value : X) → AnswersOne held held_now (stopped_by reason) status → result ≡ Ok value
       → (given + input_limit < 2 ^ 64 - 1 → (result ≡ Err 7 ↔ (given + input_limit < given_now))) → read ≤ read_now → (status ≡ 3 → Rose wrote wrote_now) → wrote ≤ wrote_now → HasCauses status given given_now read read_now wrote wrote_now left
@@ -248,7 +251,7 @@ module _ {D : Type 0} (disks : Ghosts D) (limits : Limits) (plan : ServePlan) (g
 
   pub complete : (text : Text) (result : Result (HostState D) (ServeFault D)) → Serves disks limits plan given unasked left held held_now result → left ≡ Some text → AreServed disks limits text (logs_of plan.trees) given
       → (result_code result ≡ 2 → ⊥) → (result_code result ≡ 3 → ⊥) → (result_code result ≡ 6 → ⊥) → (result_code result ≡ 7 → ⊥) → IsOneOf (0 ∷ 4 ∷ []) (result_code result)
-  complete text (Ok host) serves told served read write disk long = tt
+  complete text (Ok host) serves told served read write disk long = refl
   complete text (Err fault) (Serves.refused {fault = log} refuses back quiet one) told served read write disk long = by_refusal held held_now log.which log.why fault.status one (opens_well text log served refuses) write disk
   complete text (Err fault) (Serves.unread opens back code same) told served read write disk long = unread_four fault.status code read long
   complete text (Err fault) (Serves.stopped {host = host} {after = after} {text = seen} {why = reason} opens input users back one) told served read write disk long =
@@ -275,12 +278,12 @@ module _ {D : Type 0} (disks : Ghosts D) (limits : Limits) (plan : ServePlan) (g
 -- ---- words that are not read, for want of memory
 
 module _ {D : Type 0} (disks : Ghosts D) (limits : Limits) (given : Spared D) (unasked : Type 0) (left held : Option Text) where
-  wanting : HostFault D
+  abbrev wanting : HostFault D
   wanting = record { disks = given; which = 0; why = why.OutOfMemory }
 
   pub words_unread : (plan : ServePlan) → unasked → Serves disks limits plan given.disks unasked left held held (Err (record { status = 4; disks = given }))
   words_unread plan quiet = Serves.refused {fault = wanting} {result = record { status = 4; disks = given }} (inl (record { handed = refl; why_is = refl; which_is = refl })) refl quiet
-      (record { one = tt; answers = record { whole = λ bad. absurd (cc); part = WritesPart-none held [] } })
+      (record { one = refl; answers = record { whole = λ bad. absurd (cc); part = WritesPart-none held [] } })
 
 -- what holds of each thing holds of one that may be there
 pub if_any : {X : Type 0} (P : X → Type 0) (found : Option X) → ((x : X) → P x) → IfSome found P

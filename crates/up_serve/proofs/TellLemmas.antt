@@ -28,14 +28,14 @@ told_whole held held_now text code whole part = record { one = is_last code; ans
 
 -- or the sink failed
 pub told_part : (held held_now : Option Text) (text : Text) (code : ℕ) → WritesPart held held_now text → AnswersOne held held_now (record { text = text; status = code }) 3
-told_part held held_now text code part = record { one = tt; answers = record { whole = λ bad. absurd (cc); part = part } }
+told_part held held_now text code part = record { one = refl; answers = record { whole = λ bad. absurd (cc); part = part } }
 
 made_of : (answer : Answer) (text : Text) (status : ℕ) → text ≡ answer.text → status ≡ answer.status → record { text = text; status = status } ≡ answer
 made_of answer text status one two = ap (λ t. record { text = t; status = status }) one ∙ ap (λ s. record { text = answer.text; status = s }) two
 
 no_memory : (held held_now : Option Text) (answer : Answer) (status : ℕ) → status ≡ 4 → held_now ≡ held → AnswersOne held held_now answer status
 no_memory held held_now answer status is same =
-    subst (AnswersOne held held_now answer) (sym is) (record { one = tt; answers = record { whole = λ bad. absurd (cc); part = subst (λ now. WritesPart held now answer.text) (sym same) (WritesPart-none held answer.text) } })
+    subst (AnswersOne held held_now answer) (sym is) (record { one = refl; answers = record { whole = λ bad. absurd (cc); part = subst (λ now. WritesPart held now answer.text) (sym same) (WritesPart-none held answer.text) } })
 
 pub tells_answer : (held held_now : Option Text) (last : Result Last AllocError) (answer : Answer) (status : ℕ) → IsLast last answer → TellsLast held held_now last status → AnswersOne held held_now answer status
 tells_answer held held_now (Ok last) answer status made told = subst (λ a. AnswersOne held held_now a status) (made_of answer last.line.items (code_of last.status) made.0 made.1) told
