@@ -10,3 +10,4 @@ pub mod OpeningLemmas
 pub mod HandingLemmas
 pub mod OldTextLemmas
 pub mod PeerLemmas
+pub mod ShareLemmas

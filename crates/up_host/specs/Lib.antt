@@ -15,3 +15,4 @@ pub mod TiedLaws
 pub mod Runs
 pub mod Opens
 pub mod Peers
+pub mod Shares

@@ -9,7 +9,7 @@
 //! record.
 //!
 //! [`Host::open`] opens the disks of all logs in their order, [`Host::into_disks`] hands them back, and a [`TreePeer`] is a whole host
-//! that another one asks.
+//! that another one asks. [`Host::into_shared`] makes it one that many callers ask at once.
 #![tactic(auto)]
 
 mod asking;
@@ -21,6 +21,7 @@ mod opening;
 mod peer;
 mod room;
 mod run;
+mod sharing;
 mod texts;
 mod trees;
 mod users;
@@ -31,3 +32,4 @@ pub use host::Host;
 pub use peer::TreePeer;
 pub use run::{Call, ask_all};
 pub use up_calls::{Event, Service, load_of};
+pub use up_shared::{Seats, Shared, TreeCell, TreeSeat};
