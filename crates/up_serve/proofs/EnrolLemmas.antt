@@ -17,7 +17,7 @@ use Rattle.up_lists.proofs.Causes.{HasCause-same, HasCause-then, HasCause-weaker
 use Rattle.up_lists.specs.Begins.{Begins}
 use Rattle.up_names.specs.Texts.{Text}
 use Rattle.up_serve.specs.EnrolLines.{enrol_line}
-use Rattle.up_serve.specs.Enrolling.{DoesLine, EnrolsUsers, IsAfter, KeepsHost, PutsUser, after_line, after_lines, ended, enrolment, is_cut, stop_by, with_user}
+use Rattle.up_serve.specs.Enrolling.{DoesLine, Enrolment, EnrolsUsers, IsAfter, KeepsHost, PutsUser, after_line, after_lines, ended, enrolment, is_cut, stop_by, with_user}
 use Rattle.up_serve.specs.declared.enrol_line.EnrolLine.{EnrolLine}
 use Rattle.up_serve.specs.declared.enrol_line.EnrolLine.TheVariants as lines
 use Rattle.up_serve.specs.declared.enrolling.EnrolStop.{EnrolStop}
@@ -46,7 +46,7 @@ lines_begin limits number log [] = Begins-self log
 lines_begin limits number log (line ∷ left) = by (after_line limits number log (enrol_line line)) (λ grown is. line_begins limits number log grown (enrol_line line) is) (λ grown. lines_begin limits (number + 1) grown left)
   where
     by : (done : Result (List KeyRecord) EnrolStop) → ((grown : List KeyRecord) → done ≡ Ok grown → Begins log grown) → ((grown : List KeyRecord) → Begins grown (after_lines limits (number + 1) grown left).log)
-        → Begins log (elim done [ Err why ↦ ended log (Some why) | Ok grown ↦ after_lines limits (number + 1) grown left ]).log
+        → Begins log (elim done as (λ _. Enrolment) [ Err why ↦ ended log (Some why) | Ok grown ↦ after_lines limits (number + 1) grown left ]).log
     by (Err why) begins rest = Begins-self log
     by (Ok grown) begins rest = Begins-trans (begins grown refl) (rest grown)
 

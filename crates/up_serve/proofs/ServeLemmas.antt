@@ -318,6 +318,9 @@ usage_codes n one = grind (arith)
 pub usage_or_4 : (n : ℕ) → IsOneOf (3 ∷ 64 ∷ []) n → IsOneOf (3 ∷ 4 ∷ 64 ∷ []) n
 usage_or_4 n one = grind (arith)
 
+pub four_or_usage : (n : ℕ) → n ≡ 4 → IsOneOf (3 ∷ 4 ∷ 64 ∷ []) n
+four_or_usage n is = grind (arith)
+
 pub usage_not_2 : (n : ℕ) → IsOneOf (3 ∷ 64 ∷ []) n → n ≡ 2 → ⊥
 usage_not_2 n one is = grind (arith)
 
