@@ -1,0 +1,9 @@
+-- Each log that was taken is among the disks.
+use Rattle.std.proofs.Common.{◌≡◌, ◌+◌, length}
+use Rattle.up_server.proofs.logs.all_moved.Given as goal
+
+abbrev pub invariant-loop-disk : goal.invariant-loop-disk
+invariant-loop-disk g l = length l.disks.disks + length l.left.disks ≡ length l.fn.logs.disks
+
+abbrev pub decreases-loop-disk : goal.decreases-loop-disk
+decreases-loop-disk g l = length l.left.disks
