@@ -4,12 +4,12 @@ use Rattle.up_disk.specs.declared.disk.Disk as disk
 use Rattle.up_ends.specs.declared.clock.Clock as clock
 use Rattle.up_ends.specs.declared.nonces.Nonces as nonces
 use Rattle.up_ends.specs.declared.verifier.Verifier as verifier
-use Rattle.up_host.specs.Alike.{TellsNoMore}
+use Rattle.up_calls.specs.Alike.{TellsNoMore}
 use Rattle.up_host.specs.Alone.{Counts, HostState, IsAlone, disk_faults, views}
-use Rattle.up_host.specs.Calls.{Asked}
-use Rattle.up_host.specs.Routes.{Question}
+use Rattle.up_calls.specs.Calls.{Asked}
+use Rattle.up_calls.specs.Routes.{Question}
 use Rattle.up_host.specs.Settled.{StaysSettled}
-use Rattle.up_host.specs.declared.event.Event.{Event}
+use Rattle.up_calls.specs.declared.event.Event.{Event}
 use Rattle.up_keys.specs.Records.{record_in}
 use Rattle.up_names.specs.Texts.{UserName}
 use Rattle.up_peer.specs.declared.loader.Loader as loader
