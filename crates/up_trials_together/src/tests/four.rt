@@ -3,7 +3,9 @@
 ghost use Rattle.up_shared.specs.Sharing.{AreSeats};
 
 use crate::tests::callers::Caller;
-use crate::tests::hosts::{ANN, BOB, HostDisk, ask_alone, is_changed, plain_host, request_of, session_of};
+use crate::tests::hosts::{
+    ANN, BOB, HostDisk, ask_alone, is_changed, plain_host, request_of, session_of,
+};
 use std::alloc::{AllocError, Global};
 use std::hash::RandomState;
 use std::sync::Wait;
@@ -183,7 +185,11 @@ fn both_at_once<'a, R: Threads + Wait + Sync>(
     both: &mut (Asker<'a>, Asker<'a>),
 ) {
     let (one, other) = (&mut both.0, &mut both.1);
-    join_mut(rt, &mut || one.ask_all(rt, alloc), &mut || other.ask_all(rt, alloc));
+    join_mut(
+        rt,
+        &mut || one.ask_all(rt, alloc),
+        &mut || other.ask_all(rt, alloc),
+    );
 }
 
 // The replies of four callers at once.

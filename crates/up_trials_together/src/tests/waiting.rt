@@ -1,5 +1,7 @@
 //! What need not wait for another caller, and what one caller sees of another.
-use crate::tests::hosts::{ANN, BOB, CARL, HostDisk, ask_alone, host_of, is_changed, plain_host, session_of};
+use crate::tests::hosts::{
+    ANN, BOB, CARL, HostDisk, ask_alone, host_of, is_changed, plain_host, session_of,
+};
 use crate::tests::pairs::{Asking, Came, Plan, asked_as, both_at_once};
 use crate::tests::texts::{access_file, store};
 use crate::tests::waits::WaitsInLoad;
@@ -157,7 +159,11 @@ fn put_access(alloc: Global, host: &mut Host<HostDisk>) -> Result<(), AllocError
     );
     drop(session_and_put);
     kept?;
-    if is_changed(&put) { Ok(()) } else { Err(AllocError) }
+    if is_changed(&put) {
+        Ok(())
+    } else {
+        Err(AllocError)
+    }
 }
 
 fn keep_text(
