@@ -1,12 +1,11 @@
 -- What callers of a shared host hold together stays the same, whatever they do.
-use Rattle.std.proofs.Common.{◌≡◌, ℕ, zero, suc, ◌+◌, ◌^◌, ◌≤◌, max, List, [], ◌∷◌, ◌++◌, length, Option, Some, None, slice_get, refl, sym, ap, subst, ◌∙◌, arith}
+use Rattle.std.proofs.Common.{◌≡◌, ℕ, zero, suc, ◌+◌, ◌≤◌, max, List, [], ◌∷◌, ◌++◌, length, Option, Some, None, slice_get, refl, sym, ap, subst, ◌∙◌, arith}
 use Rattle.std.specs.List.{AllByRecursion}
-use lib.Pow.{pow_pos}
 use Rattle.up_cell.specs.Known.{Known, Onward}
 use Rattle.up_cell.specs.Positions.{total}
 use Rattle.up_shared.proofs.Adding.{parts_of_whole, whole_by_parts}
 use Rattle.up_shared.specs.Sharing.{EachPair, SeatsLater, TreeSeatLater}
-use Rattle.up_shared.specs.Splits.{AreWhole, AreWholeTrees, IsWhole, SeatsAdd, SharesAdd, TreesAdd, parts}
+use Rattle.up_shared.specs.Splits.{AreWhole, AreWholeTrees, IsWhole, SeatsAdd, TreesAdd, parts}
 use Rattle.up_shared.specs.declared.shared.Seats.{Seats}
 use Rattle.up_shared.specs.declared.shared.TreeSeat.{TreeSeat}
 use Rattle.up_together.specs.Holding.{Among, HasAll, HaveAll, Step, Step.Calls, Step.Splits, Step.Joins, Steps}

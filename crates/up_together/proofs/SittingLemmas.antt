@@ -1,5 +1,5 @@
 -- Seats that have the marks of a host are its seats, and the other way round.
-use Rattle.std.proofs.Common.{◌≡◌, List, [], ◌∷◌, Some, refl, sym, ap, subst, ◌∙◌}
+use Rattle.std.proofs.Common.{◌≡◌, List, [], ◌∷◌, refl, sym, ap, ◌∙◌}
 use Rattle.std.specs.Prelude.{map}
 use Rattle.up_shared.proofs.Pairs.{cons_none, cons_same}
 use Rattle.up_shared.specs.Sharing.{AreSeats, EachPair, IsTreeSeat}

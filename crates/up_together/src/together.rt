@@ -32,8 +32,7 @@ struct Together<'r, 'h, 's, 'l, D: Disk + Drop, R: Wait, L> {
 }
 
 impl<'r, 'h, 's, 'l, D: Disk + Drop, R: Wait, L: Loader> Answers
-    for Together<'r, 'h, 's, 'l, D, R, L>
-{
+    for Together<'r, 'h, 's, 'l, D, R, L> {
     ghost use Rattle.std.proofs.Common.{refl, ◌∙◌};
     ghost use Rattle.up_shared.specs.Callers.{seats_same, seats_trans};
     ghost use Rattle.up_shared.specs.Sharing.{SeatsLater};

@@ -23,11 +23,7 @@ pub struct Caller<'a> {
 
 impl<'a> Caller<'a> {
     #[tactic(auto, using(up_together::proofs::SittingLemmas::marks_by_sits))]
-    pub fn new(
-        shared: &'a Shared<HostDisk>,
-        seats: Seats<HostDisk>,
-        session: Session,
-    ) -> Caller<'a>
+    pub fn new(shared: &'a Shared<HostDisk>, seats: Seats<HostDisk>, session: Session) -> Caller<'a>
         requires { AreSeats shared.now seats }
         ensures { result.shared.now ≡ shared.now }
     {

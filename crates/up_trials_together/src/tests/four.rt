@@ -3,7 +3,9 @@
 ghost use Rattle.up_shared.specs.Sharing.{AreSeats};
 
 use crate::tests::callers::Caller;
-use crate::tests::hosts::{ANN, BOB, HostDisk, ask_alone, is_changed, plain_host, request_of, session_of};
+use crate::tests::hosts::{
+    ANN, BOB, HostDisk, ask_alone, is_changed, plain_host, request_of, session_of,
+};
 use std::alloc::{AllocError, Global};
 use std::hash::RandomState;
 use std::sync::Wait;
@@ -95,7 +97,7 @@ impl<'a> Asker<'a> {
     }
 }
 
-fn asker<'a>(
+fn caller_by<'a>(
     alloc: Global,
     shared: &'a Shared<HostDisk>,
     seats: Seats<HostDisk>,
@@ -105,7 +107,7 @@ fn asker<'a>(
 {
     let name = if is_ann(by) { ANN } else { BOB };
     match session_of(alloc, name) {
-        Ok(session) => asker_as(alloc, shared, seats, session, by),
+        Ok(session) => caller_as(alloc, shared, seats, session, by),
         Err(failed) => {
             drop(seats);
             Err(failed)
@@ -113,7 +115,7 @@ fn asker<'a>(
     }
 }
 
-fn asker_as<'a>(
+fn caller_as<'a>(
     alloc: Global,
     shared: &'a Shared<HostDisk>,
     seats: Seats<HostDisk>,
@@ -148,8 +150,8 @@ fn two_askers<'a>(
 {
     match shared.split(alloc, &mut seats) {
         Ok(others) => both_of(
-            asker(alloc, shared, seats, by),
-            asker(alloc, shared, others, by.saturating_add(1)),
+            caller_by(alloc, shared, seats, by),
+            caller_by(alloc, shared, others, by.saturating_add(1)),
         ),
         Err(failed) => {
             drop(seats);
@@ -183,7 +185,11 @@ fn both_at_once<'a, R: Threads + Wait + Sync>(
     both: &mut (Asker<'a>, Asker<'a>),
 ) {
     let (one, other) = (&mut both.0, &mut both.1);
-    join_mut(rt, &mut || one.ask_all(rt, alloc), &mut || other.ask_all(rt, alloc));
+    join_mut(
+        rt,
+        &mut || one.ask_all(rt, alloc),
+        &mut || other.ask_all(rt, alloc),
+    );
 }
 
 // The replies of four callers at once.
@@ -223,12 +229,18 @@ fn told<'a>(
     others: (Asker<'a>, Asker<'a>),
 ) -> Result<Vec<Said>, AllocError> {
     let mut said = Vec::new(alloc);
-    for asker in [two.0, two.1, others.0, others.1] {
-        for one in asker.said {
-            said.push(one)?;
-        }
-    }
+    add_said(&mut said, two.0)?;
+    add_said(&mut said, two.1)?;
+    add_said(&mut said, others.0)?;
+    add_said(&mut said, others.1)?;
     Ok(said)
+}
+
+fn add_said<'a>(said: &mut Vec<Said>, asker: Asker<'a>) -> Result<(), AllocError> {
+    for one in asker.said {
+        said.push(one)?;
+    }
+    Ok(())
 }
 
 /// A host that is not shared, which is asked again, request by request in the order of their positions.

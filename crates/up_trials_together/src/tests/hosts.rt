@@ -274,10 +274,7 @@ fn owns_snapshots(owner: &User) -> bool
 }
 
 // The disks of the two trees, of the store and of the keys.
-fn four_disks(
-    alloc: Global,
-    flag: &Arc<AtomicU64, Global>,
-) -> Result<Disks<HostDisk>, AllocError>
+fn four_disks(alloc: Global, flag: &Arc<AtomicU64, Global>) -> Result<Disks<HostDisk>, AllocError>
     ensures { IfOk result (λ disks. length disks.disks ≡ 4) }
 {
     let mut disks = Disks::new(alloc);
@@ -308,5 +305,8 @@ fn waiting_disk(alloc: Global, flag: &Arc<AtomicU64, Global>) -> Result<HostDisk
 }
 
 fn disk_of(alloc: Global, flag: Arc<AtomicU64, Global>) -> HostDisk {
-    HookDisk::new(MemDisk::new(alloc, Items::new(alloc)), WaitsInSync::new(flag))
+    HookDisk::new(
+        MemDisk::new(alloc, Items::new(alloc)),
+        WaitsInSync::new(flag),
+    )
 }

@@ -22,7 +22,7 @@ pub struct Asking {
 }
 
 /// Asks what the words of a line ask, as the user of this name.
-pub fn asking(alloc: Global, name: &str, line: &str) -> Result<Asking, AllocError> {
+pub fn asked_as(alloc: Global, name: &str, line: &str) -> Result<Asking, AllocError> {
     let session = session_of(alloc, name)?;
     match request_of(alloc, session.user(), line) {
         Ok(request) => Ok(Asking { session, request }),

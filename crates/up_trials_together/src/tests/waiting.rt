@@ -1,6 +1,8 @@
 //! What need not wait for another caller, and what one caller sees of another.
-use crate::tests::hosts::{ANN, BOB, CARL, HostDisk, ask_alone, host_of, is_changed, plain_host, session_of};
-use crate::tests::pairs::{Asking, Came, Plan, asking, both_at_once};
+use crate::tests::hosts::{
+    ANN, BOB, CARL, HostDisk, ask_alone, host_of, is_changed, plain_host, session_of,
+};
+use crate::tests::pairs::{Asking, Came, Plan, asked_as, both_at_once};
 use crate::tests::texts::{access_file, store};
 use crate::tests::waits::WaitsInLoad;
 use std::alloc::{AllocError, Global};
@@ -32,8 +34,8 @@ fn on_two_trees<R: Threads + Wait + Sync>(
     alloc: Global,
     random: RandomState,
 ) -> Result<Came<Peers>, AllocError> {
-    let first = asking(alloc, ANN, "mkdir ann@a.example/x 100 0")?;
-    let second = asking(alloc, BOB, "mkdir bob@b.example/x 100 0")?;
+    let first = asked_as(alloc, ANN, "mkdir ann@a.example/x 100 0")?;
+    let second = asked_as(alloc, BOB, "mkdir bob@b.example/x 100 0")?;
     let flag = Arc::new(alloc, AtomicU64::new(0))?;
     let host = host_of(alloc, random, &flag)?;
     let plan = Plan {
@@ -63,8 +65,8 @@ fn while_loading<'a, R: Threads + Wait + Sync>(
     random: RandomState,
     flag: &'a AtomicU64,
 ) -> Result<Came<WaitsInLoad<'a>>, AllocError> {
-    let first = asking(alloc, CARL, "lookup ann@a.example/")?;
-    let second = asking(alloc, ANN, "mkdir ann@a.example/x 100 0")?;
+    let first = asked_as(alloc, CARL, "lookup ann@a.example/")?;
+    let second = asked_as(alloc, ANN, "mkdir ann@a.example/x 100 0")?;
     let host = host_with_group(alloc, random)?;
     let plan = Plan {
         first,
@@ -94,7 +96,7 @@ fn while_fetching<'a, R: Threads + Wait + Sync>(
     flag: &'a AtomicU64,
 ) -> Result<Came<WaitsInLoad<'a>>, AllocError> {
     let first = putting(alloc, OF_A_GROUP, Some("k.example:443"))?;
-    let second = asking(alloc, ANN, "mkdir ann@a.example/x 100 0")?;
+    let second = asked_as(alloc, ANN, "mkdir ann@a.example/x 100 0")?;
     let host = plain_host(alloc, random)?;
     let plan = Plan {
         first,
@@ -122,8 +124,8 @@ fn one_after_the_other<R: Threads + Wait + Sync>(
     random: RandomState,
     flag: &AtomicU64,
 ) -> Result<Came<Peers>, AllocError> {
-    let first = asking(alloc, ANN, "mkdir ann@a.example/x 100 0")?;
-    let second = asking(alloc, ANN, "lookup ann@a.example/x")?;
+    let first = asked_as(alloc, ANN, "mkdir ann@a.example/x 100 0")?;
+    let second = asked_as(alloc, ANN, "lookup ann@a.example/x")?;
     let host = plain_host(alloc, random)?;
     let plan = Plan {
         first,
@@ -157,7 +159,11 @@ fn put_access(alloc: Global, host: &mut Host<HostDisk>) -> Result<(), AllocError
     );
     drop(session_and_put);
     kept?;
-    if is_changed(&put) { Ok(()) } else { Err(AllocError) }
+    if is_changed(&put) {
+        Ok(())
+    } else {
+        Err(AllocError)
+    }
 }
 
 fn keep_text(
