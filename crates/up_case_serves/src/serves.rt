@@ -1,7 +1,5 @@
 //! A server that is opened over disks in memory, and logs that are moved. A line is a case of its own: commands, parted by `; `, and so are
 //! their answers.
-ghost use Rattle.std.specs.Prelude.{IfSome};
-ghost use Rattle.up_journal.specs.Journal.{AreLimits};
 ghost use Rattle.up_serve.specs.Serving.{AreServeLimits};
 
 use crate::plans::{add_plan, words_of};
@@ -49,7 +47,6 @@ struct Server {
     text: Vec<u8>,
     source_fails: Vec<u64>,
     sink_fails: Vec<u64>,
-    ghost fit: { IfSome limits AreServeLimits },
 }
 
 impl Server {
@@ -114,8 +111,8 @@ impl Server {
         let (device, largest) = words.two_numbers()?;
         self.limits = Some(Limits {
             records,
-            device: device.min(1 << 62),
-            largest: largest.clamp(8_192, 1_048_000),
+            device,
+            largest,
         });
         Ok(())
     }
@@ -194,7 +191,10 @@ impl Server {
         }
         match self.limits {
             None => Ok(serve_open(alloc, self.random, &self.words, disks, source, sink)),
-            Some(limits) => Ok(serve_within(alloc, self.random, limits, plan, disks, source, sink)),
+            Some(limits) => {
+                let limits = fit(limits);
+                Ok(serve_within(alloc, self.random, limits, plan, disks, source, sink))
+            }
         }
     }
 
@@ -218,14 +218,14 @@ impl Server {
 
     // The limits that were set, or the program's.
     fn limits(&self) -> Limits
-        ensures { AreLimits result }
+        ensures { AreServeLimits result }
     {
         match self.limits {
-            Some(limits) => limits,
+            Some(limits) => fit(limits),
             None => Limits {
-                records: 1 << 20,
-                device: 1 << 30,
-                largest: 1 << 17,
+                records: 1_048_576,
+                device: 1_073_741_824,
+                largest: 131_072,
             },
         }
     }
@@ -245,6 +245,17 @@ impl Server {
             Err(status) => add_status(status, &sink, answer),
         }
         Ok(())
+    }
+}
+
+// Limits that a server may have.
+fn fit(limits: Limits) -> Limits
+    ensures { AreServeLimits result }
+{
+    Limits {
+        records: limits.records,
+        device: limits.device.min(4_611_686_018_427_387_904),
+        largest: limits.largest.clamp(8_192, 1_048_000),
     }
 }
 
