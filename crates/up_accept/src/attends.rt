@@ -1,0 +1,31 @@
+//! Who answers connections.
+ghost use Rattle.std.specs.Prelude.{IfSome};
+
+use std::net::{SocketAddr, TcpStream};
+use std::sync::Wait;
+
+/// Who answers connections, many at once. Each connection has a part of it, which was split off from another one.
+pub trait Attends: Sync {
+    /// What one connection has of it.
+    type Part: Drop + Send;
+
+    /// Whether a part is one of this.
+    ghost is_part: { Self → Self.Part → Type 0 };
+
+    /// A part for one more connection. `None` where there is none, as for want of memory.
+    fn split(&self, part: &mut Self::Part) -> Option<Self::Part>
+        requires { is_part self.now part.old }
+        ensures kept { is_part self.now part.new }
+        ensures other { IfSome result (is_part self.now) };
+
+    /// Answers a connection, which came from this address, to its end.
+    fn attend<R: Wait>(
+        &self,
+        rt: &R,
+        part: &mut Self::Part,
+        stream: &TcpStream,
+        from: SocketAddr,
+    )
+        requires { is_part self.now part.old }
+        ensures kept { is_part self.now part.new };
+}

@@ -1,0 +1,6 @@
+//! The server.
+#![tactic(auto)]
+
+mod told_disk;
+
+pub use told_disk::ToldDisk;
