@@ -16,18 +16,18 @@ const STEP: u64 = 1_048_576;
 /// `upspin: NAME: N of M MiB are read`. It does so while reads go on behind all that was read before, and until it is first written to or
 /// cut: while its log is opened, and not afterwards. It is seen as the other disk.
 #[derive(Drop)]
-pub struct ToldDisk<D: Disk, R: Eprint + Clock> {
+pub struct ToldDisk<D: Disk, R: Eprint + Clock + Copy> {
     disk: D,
     progress: Progress<R>,
 }
 
-impl<D: Disk, R: Eprint + Clock> Model for ToldDisk<D, R> {
+impl<D: Disk, R: Eprint + Clock + Copy> Model for ToldDisk<D, R> {
     ghost Value = { D };
 
     ghost view = { λ told. told.disk };
 }
 
-impl<D: Disk, R: Eprint + Clock> ToldDisk<D, R> {
+impl<D: Disk, R: Eprint + Clock + Copy> ToldDisk<D, R> {
     /// Says of this disk, under this name, how far it was read.
     pub fn new(disk: D, rt: R, name: String) -> Self
         ensures { result ≡ disk }
@@ -57,7 +57,7 @@ impl<D: Disk, R: Eprint + Clock> ToldDisk<D, R> {
 
 /// How far a disk of this name and size was read, and when that was told last; never again where there is no such time.
 #[derive(Drop)]
-struct Progress<R: Eprint + Clock> {
+struct Progress<R: Eprint + Clock + Copy> {
     rt: R,
     name: String,
     size: u64,
@@ -66,7 +66,7 @@ struct Progress<R: Eprint + Clock> {
     told: Option<Duration>,
 }
 
-impl<R: Eprint + Clock> Progress<R> {
+impl<R: Eprint + Clock + Copy> Progress<R> {
     // Notes that a read ended here.
     fn note(&mut self, end: u64) {
         if self.size <= LONG || end <= self.read {
@@ -103,7 +103,7 @@ impl<R: Eprint + Clock> Progress<R> {
     }
 }
 
-impl<D: Disk, R: Eprint + Clock> Disk for ToldDisk<D, R> {
+impl<D: Disk, R: Eprint + Clock + Copy> Disk for ToldDisk<D, R> {
     ghost content = { D.content };
 
     ghost size_of = { D.size_of };
