@@ -1,0 +1,169 @@
+//! The logs of a server are opened, and those of the first format moved.
+ghost use Rattle.std.specs.Prelude.{◌≡◌, ◌<◌, ◌+◌, ◌^◌, length, IfOk};
+ghost use Rattle.up_journal.specs.Journal.{AreLimits};
+
+use crate::naming::{Format, file_name, file_names};
+use crate::told_disk::ToldDisk;
+use std::alloc::{AllocError, Global};
+use std::fs::File;
+use std::io;
+use std::io::ErrorKind;
+use up_command::Status;
+use up_disk::{Ahead, Disks};
+use up_ends::Sink;
+use up_journal::{Limits, Moved};
+use up_net::{FileDisk, LogDisk, SystemFile, open_logs};
+use up_serve::serve_move;
+
+/// The disk of a log of a server.
+pub type ServedDisk = ToldDisk<LogDisk, HostRuntime>;
+
+/// The limits of the logs of trees and of keys.
+const LIMITS: Limits = Limits {
+    records: 1_048_576,
+    device: 1_073_741_824,
+    largest: 131_072,
+};
+
+/// The largest record of a store's log, which has the other limits too.
+const LARGEST_BLOCK: u64 = 1_048_640;
+
+/// Where the logs of a server with so many trees are.
+#[derive(Clone, Copy)]
+pub(crate) struct Place<'a> {
+    pub rt: HostRuntime,
+    pub folder: &'a str,
+    pub trees: u64,
+}
+
+/// Opens the logs of a server, the missing ones made, each locked. Before that the log of each file of the first format that is there is
+/// moved, once both files are locked. An `Err` is the status with which the program ends.
+pub(crate) fn served_disks<K: Sink>(
+    alloc: Global,
+    place: Place<'_>,
+    sink: &mut K,
+) -> Result<Disks<ServedDisk>, u8>
+    requires { place.trees + 2 < 2 ^ 64 }
+    ensures { IfOk result (λ disks. length disks.disks ≡ place.trees + 2) }
+{
+    match opened(alloc, place) {
+        Ok(logs) => all_moved(alloc, place, logs, sink),
+        Err(_) => Err(Status::OutOfMemory.code()),
+    }
+}
+
+// The logs of the second format.
+fn opened(alloc: Global, place: Place<'_>) -> Result<Disks<LogDisk>, AllocError>
+    requires { place.trees + 2 < 2 ^ 64 }
+    ensures { IfOk result (λ disks. length disks.disks ≡ place.trees + 2) }
+{
+    let names = file_names(alloc, place.trees, Format::Second)?;
+    open_logs(alloc, &place.rt, place.folder, names.as_slice())
+}
+
+// The same logs, to each of which that of the first format was moved where there is one.
+fn all_moved<K: Sink>(
+    alloc: Global,
+    place: Place<'_>,
+    logs: Disks<LogDisk>,
+    sink: &mut K,
+) -> Result<Disks<ServedDisk>, u8>
+    ensures { IfOk result (λ disks. length disks.disks ≡ length logs.disks) }
+{
+    let mut left = logs;
+    let mut disks = Disks::new(alloc);
+    let mut which: u64 = 0;
+    while let Some(log) = left.take() {
+        let disk = moved(alloc, place, which, log, sink)?;
+        if disks.push(disk).is_err() {
+            return Err(Status::OutOfMemory.code());
+        }
+        which = which.saturating_add(1);
+    }
+    Ok(disks)
+}
+
+// The log at a place, to which that of the first format was moved where there is one.
+fn moved<K: Sink>(
+    alloc: Global,
+    place: Place<'_>,
+    which: u64,
+    log: LogDisk,
+    sink: &mut K,
+) -> Result<ServedDisk, u8> {
+    match old_log(alloc, place, which) {
+        Ok(Some(old)) => moved_from(alloc, place, which, old, log, sink),
+        Ok(None) => told(alloc, place, which, log),
+        Err(_) => Err(Status::OutOfMemory.code()),
+    }
+}
+
+// Moves an old log to the new one at its place.
+fn moved_from<K: Sink>(
+    alloc: Global,
+    place: Place<'_>,
+    which: u64,
+    old: LogDisk,
+    log: LogDisk,
+    sink: &mut K,
+) -> Result<ServedDisk, u8> {
+    let mut old = told(alloc, place, which, old)?;
+    let mut new = told(alloc, place, which, log)?;
+    let limits = limits_at(place.trees, which);
+    match serve_move(alloc, &mut old, &mut new, which, limits, sink) {
+        Ok(moved) => {
+            tell_moved(place, which, moved);
+            told(alloc, place, which, new.into_inner())
+        }
+        Err(status) => Err(status),
+    }
+}
+
+// The limits of the log at a place.
+fn limits_at(trees: u64, which: u64) -> Limits
+    ensures { AreLimits result }
+{
+    let mut limits = LIMITS;
+    if which == trees {
+        limits.largest = LARGEST_BLOCK;
+    }
+    limits
+}
+
+// Says that a log was moved. Nothing is said where it had been before.
+fn tell_moved(place: Place<'_>, which: u64, moved: Moved) {
+    if let Moved::Copied(records) = moved {
+        let _ = eprintln!(place.rt; "upspin: log {which}: {records} records are moved to the second format");
+    }
+}
+
+// The log at a place as a disk that says how far it was read.
+fn told(alloc: Global, place: Place<'_>, which: u64, log: LogDisk) -> Result<ServedDisk, u8> {
+    match file_name(alloc, place.trees, which, Format::Second) {
+        Ok(name) => Ok(ToldDisk::new(log, place.rt, name)),
+        Err(_) => Err(Status::OutOfMemory.code()),
+    }
+}
+
+// The log of the first format at a place: `None` where there is no such file, and a disk whose every call fails where it cannot be opened
+// or locked.
+fn old_log(alloc: Global, place: Place<'_>, which: u64) -> Result<Option<LogDisk>, AllocError> {
+    let name = file_name(alloc, place.trees, which, Format::First)?;
+    let folder = place.folder;
+    let path = format!(in alloc; "{folder}/{name}")?;
+    match try_open(&place.rt, path.as_str()) {
+        Ok(disk) => Ok(Some(Ahead::new(alloc, disk))),
+        Err(error) if error.kind() == ErrorKind::NotFound => Ok(None),
+        Err(error) => {
+            let _ = eprintln!(place.rt; "upspin: {path}: {error}");
+            Ok(Some(Ahead::new(alloc, FileDisk::missing())))
+        }
+    }
+}
+
+// A file that is there, locked.
+fn try_open(rt: &HostRuntime, path: &str) -> io::Result<FileDisk<SystemFile>> {
+    let file = File::options().read(true).write(true).open(rt, path)?;
+    file.try_lock()?;
+    FileDisk::new(SystemFile::new(file))
+}

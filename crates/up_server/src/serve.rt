@@ -1,0 +1,191 @@
+//! `upspin serve`.
+ghost use Rattle.std.specs.Prelude.{◌≡◌, ◌<◌, ◌+◌, ◌^◌, [], ◌∷◌, length, map, string_bytes, None, Some, IfOk, IfSome};
+ghost use Rattle.up_command.specs.Statuses.{IsOneOf, usage_line};
+ghost use Rattle.up_ends.specs.Writing.{WritesPart};
+ghost use Rattle.up_serve.specs.Plans.{plan_of};
+ghost use Rattle.up_serve.specs.declared.plan.ServePlan.{ServePlan as Plan};
+
+use crate::door::{Door, Visit};
+use crate::logs::{Place, ServedDisk, served_disks};
+use crate::saying::say_listening;
+use std::alloc::Global;
+use std::fmt::Display;
+use std::hash::RandomState;
+use std::io;
+use std::net::TcpListener;
+use std::str;
+use std::sync::Wait;
+use std::thread::Threads;
+use std::time::Clock;
+use up_accept::{Bounds, serve_each};
+use up_bytes::Bytes;
+use up_command::{Status, usage};
+use up_disk::Disks;
+use up_ends::{Sink, Source, StdSource};
+use up_host::Host;
+use up_net::{Machine, SeedNonces, open_enrol};
+use up_serve::{ServeFault, ServePlan, serve_open, serve_words};
+
+/// How many connections are answered at once.
+const AT_ONCE: u64 = 256;
+
+/// Runs `upspin serve`: reads the words, opens the logs of a folder, enrols users, listens, prints where, and answers so many
+/// connections, each in a thread of its own. It ends with 0 when all of them have ended.
+///
+/// Words that do not fit get the usage line and 64, and touch no file. Any other status than 0 is that of what failed: 2 where the file of
+/// users, or the system's random bytes, cannot be read; 3 where the sink failed; 4 for want of memory; 6 where a disk failed; 7 for a file
+/// of users of over 67,108,864 bytes; 8 where a log is damaged; 9 where it cannot listen or accept; 10 at a bad line of the file of users;
+/// 12 where a log is full. A connection's end never ends the server.
+pub fn serve<R: Threads + Wait + Clock + Sync, K: Sink>(
+    threads: &R,
+    rt: HostRuntime,
+    words: &[String],
+    sink: &mut K,
+) -> u8
+    ensures usage { plan_of (map string_bytes words.now) ≡ None
+        → IsOneOf (3 ∷ 4 ∷ 64 ∷ []) result
+        × WritesPart (K.held sink.old) (K.held sink.new) usage_line }
+{
+    match serve_words(rt.alloc(), words) {
+        Ok(Some(plan)) => serve_plan(threads, rt, words, plan, sink),
+        Ok(None) => usage(sink).code(),
+        Err(_) => Status::OutOfMemory.code(),
+    }
+}
+
+// The server of a plan.
+fn serve_plan<R: Threads + Wait + Clock + Sync, K: Sink>(
+    threads: &R,
+    rt: HostRuntime,
+    words: &[String],
+    plan: ServePlan,
+    sink: &mut K,
+) -> u8
+    requires { plan_of (map string_bytes words.now) ≡ Some plan }
+{
+    let alloc = rt.alloc();
+    let Ok(random) = RandomState::new(&rt) else {
+        return Status::ReadFault.code();
+    };
+    let Ok(nonces) = SeedNonces::from_random(&mut Machine::new(alloc, &rt)) else {
+        return Status::ReadFault.code();
+    };
+    match opened(rt, random, words, &plan, sink) {
+        Ok(host) => listen(threads, rt, &plan, host, nonces, sink).code(),
+        Err(status) => status,
+    }
+}
+
+// The host of a plan, with its users enrolled.
+fn opened<K: Sink>(
+    rt: HostRuntime,
+    random: RandomState,
+    words: &[String],
+    plan: &ServePlan,
+    sink: &mut K,
+) -> Result<Host<ServedDisk>, u8>
+    requires { plan_of (map string_bytes words.now) ≡ Some plan.now }
+{
+    let alloc = rt.alloc();
+    let (Some(folder), Some(enrol)) = (text(&plan.folder), text(&plan.enrol)) else {
+        return Err(Status::DiskFault.code());
+    };
+    let place = Place {
+        rt,
+        folder,
+        trees: plan.trees.len(),
+    };
+    let disks = served_disks(alloc, place, sink)?;
+    if enrol.is_empty() {
+        let mut nobody = StdSource::new(io::empty());
+        return enrolled(alloc, random, words, disks, &mut nobody, sink);
+    }
+    let mut users = open_enrol(&rt, enrol);
+    enrolled(alloc, random, words, disks, &mut users, sink)
+}
+
+// The host over these disks, with the users of a source enrolled.
+fn enrolled<S: Source, K: Sink>(
+    alloc: Global,
+    random: RandomState,
+    words: &[String],
+    disks: Disks<ServedDisk>,
+    users: &mut S,
+    sink: &mut K,
+) -> Result<Host<ServedDisk>, u8>
+    requires { IfSome (plan_of (map string_bytes words.now))
+        (λ plan. length disks.disks ≡ length plan.trees + 2) }
+{
+    match serve_open(alloc, random, words, disks, users, sink) {
+        Ok(host) => Ok(host),
+        Err(ServeFault { status, disks: _ }) => Err(status),
+    }
+}
+
+// Listens, and answers connections.
+fn listen<R: Threads + Wait + Clock + Sync, K: Sink>(
+    threads: &R,
+    rt: HostRuntime,
+    plan: &ServePlan,
+    host: Host<ServedDisk>,
+    nonces: SeedNonces,
+    sink: &mut K,
+) -> Status {
+    let Ok((shared, seats)) = host.into_shared(rt.alloc()) else {
+        return Status::OutOfMemory;
+    };
+    let (Some(address), Some(helper)) = (text(&plan.listen), text(&plan.helper)) else {
+        return Status::ListenFault;
+    };
+    let door = Door {
+        rt,
+        alloc: rt.alloc(),
+        shared: &shared,
+        helper,
+        peers: plan.peers.as_slice(),
+    };
+    let mut visit = Visit { seats, nonces };
+    match listening(rt, address, sink) {
+        Ok(listener) => {
+            let bounds = Bounds {
+                connections: plan.connections,
+                at_once: AT_ONCE,
+            };
+            match serve_each(threads, &listener, &door, &mut visit, bounds) {
+                Ok(()) => Status::Done,
+                Err(why) => refused(rt, address, why),
+            }
+        }
+        Err(status) => status,
+    }
+}
+
+// The listener of an address, once it is printed.
+fn listening<K: Sink>(
+    rt: HostRuntime,
+    address: &str,
+    sink: &mut K,
+) -> Result<TcpListener, Status> {
+    let listener = match TcpListener::bind(&rt, address) {
+        Ok(listener) => listener,
+        Err(why) => return Err(refused(rt, address, why)),
+    };
+    match listener.local_addr() {
+        Ok(here) => match say_listening(rt.alloc(), sink, here) {
+            Status::Done => Ok(listener),
+            status => Err(status),
+        },
+        Err(why) => Err(refused(rt, address, why)),
+    }
+}
+
+// Says why nobody is served at an address any more.
+fn refused(rt: HostRuntime, address: &str, why: impl Display + Drop) -> Status {
+    let _ = eprintln!(rt; "upspin: {address}: {why}");
+    Status::ListenFault
+}
+
+// The text that the value of an option is. Each word of a command is one.
+fn text(value: &Bytes) -> Option<&str> {
+    str::from_utf8(value.as_slice()).ok()
+}
