@@ -18,6 +18,7 @@ use up_talk::TalkEnd;
 use up_together::talk;
 
 /// A host that many share, as who answers connections: with the path of its helper, and the hosts elsewhere that it asks.
+#[derive(Drop)]
 pub(crate) struct Door<'a, D: Disk + Drop> {
     pub rt: HostRuntime,
     pub alloc: Global,
@@ -42,6 +43,8 @@ struct Neighbour {
 }
 
 impl<'a, D: Disk + Drop + Send> Attends for Door<'a, D> {
+    ghost use Rattle.up_shared.specs.Sharing.{AreSeats};
+
     type Part = Visit<D>;
 
     ghost is_part = { λ door visit. AreSeats door.shared.now visit.seats };

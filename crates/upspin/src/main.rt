@@ -6,6 +6,9 @@ use std::alloc::{AllocError, Global};
 use std::hash::RandomState;
 use std::process::ExitCode;
 use std::rt::Env;
+use std::sync::Wait;
+use std::thread::Threads;
+use std::time::Clock;
 use std::{env, io};
 use up_client::{Ask, TableAsk};
 use up_disk::blank_disks;
@@ -15,6 +18,7 @@ use up_lists::Items;
 use up_net::{HelperVerifier, HostClock, Machine, SeedNonces, SocketAsk, Waits};
 use up_peer::Peers;
 use up_script::{can_run, script_run};
+use up_server::serve;
 use up_terminal::{client_run, client_user};
 
 /// The status where the system gives no random bytes, to hash names with or to draw challenges from; nothing was read or written.
@@ -158,7 +162,40 @@ fn script_with(
     )
 }
 
-/// What a status means for people, and where to read on; nothing after 0, and after 64, whose usage line was printed.
+/// Runs `upspin serve`, and answers its status.
+fn serve_status<R: Threads + Wait + Clock + Sync>(
+    threads: &R,
+    rt: HostRuntime,
+    words: &[String],
+) -> u8 {
+    serve(threads, rt, words, &mut StdSink::new(rt.stdout()))
+}
+
+/// Whether the words are those of `upspin serve`, or meant to be.
+fn is_serve(words: &[String]) -> bool {
+    match words.first() {
+        Some(word) => word.as_str() == "serve",
+        None => false,
+    }
+}
+
+/// What a status of `serve` means for people, and where to read on; nothing after 0 and 64.
+fn serve_meaning(status: u8) -> Option<&'static str> {
+    match status {
+        2 => Some("upspin: no file of users, or no random bytes (docs/SERVING.md, Statuses)"),
+        3 => Some("upspin: standard output failed (docs/SERVING.md, Statuses)"),
+        4 => Some("upspin: there was no memory (docs/SERVING.md, Statuses)"),
+        6 => Some("upspin: a log cannot be had, read or written (docs/SERVING.md, Statuses)"),
+        7 => Some("upspin: the file of users is too long (docs/SERVING.md, Statuses)"),
+        8 => Some("upspin: a log is damaged, and was not opened (docs/SERVING.md, Statuses)"),
+        9 => Some("upspin: it cannot listen, or accept any more (docs/SERVING.md, Statuses)"),
+        10 => Some("upspin: a line of the file of users is bad (docs/SERVING.md, Statuses)"),
+        12 => Some("upspin: a log has no room for what it is to take (docs/SERVING.md, Statuses)"),
+        _ => None,
+    }
+}
+
+/// What a status of any other command means for people, and where to read on; nothing after 0, and after 64, whose usage line was printed.
 fn meaning(status: u8) -> Option<&'static str> {
     match status {
         1 => Some("upspin: a line of the input is malformed (docs/MISTAKES.md, docs/SCRIPTS.md)"),
@@ -173,18 +210,29 @@ fn meaning(status: u8) -> Option<&'static str> {
     }
 }
 
-fn main(rt: HostRuntime) -> ExitCode {
-    let status = match words(&rt) {
-        Ok(words) => match helper_status(&rt, &words) {
-            // A helper says no more than its status.
-            Some(status) => return ExitCode::from(status),
-            None => command_status(&rt, &words),
-        },
-        Err(_) => OUT_OF_MEMORY,
-    };
-    if let Some(line) = meaning(status) {
+/// Says in a line what a status means.
+fn tell(rt: &HostRuntime, line: Option<&'static str>) {
+    if let Some(line) = line {
         // Where even this line cannot be written, the status says it.
         let _ = rt.eprintln(line);
     }
+}
+
+fn main(rt: HostRuntime) -> ExitCode {
+    let Ok(words) = words(&rt) else {
+        tell(&rt, meaning(OUT_OF_MEMORY));
+        return ExitCode::from(OUT_OF_MEMORY);
+    };
+    // A helper says no more than its status.
+    if let Some(status) = helper_status(&rt, &words) {
+        return ExitCode::from(status);
+    }
+    if is_serve(&words) {
+        let status = serve_status(&rt, rt, &words);
+        tell(&rt, serve_meaning(status));
+        return ExitCode::from(status);
+    }
+    let status = command_status(&rt, &words);
+    tell(&rt, meaning(status));
     ExitCode::from(status)
 }
