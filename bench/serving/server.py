@@ -12,18 +12,18 @@ USER = "ann@a.example"
 class Server:
     """The words of `upspin serve` over a folder, and the process that runs them."""
 
-    def __init__(self, program, folder=None, connections=1_000_000_000, users=(USER,), trees=(USER,)):
+    def __init__(self, program, folder=None, connections=1_000_000_000, keys=None, helper=None):
         self.program = os.path.abspath(program)
+        self.helper = helper or self.program
         self.folder = folder or tempfile.mkdtemp(prefix="serving-", dir=os.environ.get("SERVING", None))
         self.enrol = f"{self.folder}/enrol"
         with open(self.enrol, "w", encoding="utf-8") as file:
-            file.writelines(f"{user} {user}\n" for user in users)
-        self.connections, self.trees, self.process, self.port = connections, trees, None, None
+            file.writelines(f"{user} {key}\n" for user, key in ({USER: USER} if keys is None else keys).items())
+        self.connections, self.process, self.port = connections, None, None
 
     def words(self):
-        trees = [word for tree in self.trees for word in ("--tree", tree)]
-        return [self.program, "serve", "--listen", "127.0.0.1:0", "--host", "home", "--operator", "op@h.example", *trees, "--folder", self.folder,
-                "--helper", self.program, "--enrol", self.enrol, "--connections", str(self.connections)]
+        return [self.program, "serve", "--listen", "127.0.0.1:0", "--host", "home", "--operator", "op@h.example", "--tree", USER, "--folder", self.folder,
+                "--helper", self.helper, "--enrol", self.enrol, "--connections", str(self.connections)]
 
     def begin(self, **options):
         """Starts it, and does not wait until it listens."""
