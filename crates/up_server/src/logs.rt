@@ -1,8 +1,8 @@
 //! The logs of a server are opened, and those of the first format moved.
-ghost use Rattle.std.specs.Prelude.{◌≡◌, ◌<◌, ◌+◌, ◌^◌, length, IfOk};
+ghost use Rattle.std.specs.Prelude.{◌≡◌, ◌+◌, length, IfOk};
 ghost use Rattle.up_journal.specs.Journal.{AreLimits};
 
-use crate::naming::{Format, file_name, file_names};
+use crate::naming::{Format, Log, file_names};
 use crate::told_disk::ToldDisk;
 use std::alloc::{AllocError, Global};
 use std::fs::File;
@@ -25,8 +25,12 @@ const LIMITS: Limits = Limits {
     largest: 131_072,
 };
 
-/// The largest record of a store's log, which has the other limits too.
-const LARGEST_BLOCK: u64 = 1_048_640;
+/// Those of the log of a store.
+const STORE_LIMITS: Limits = Limits {
+    records: 1_048_576,
+    device: 1_073_741_824,
+    largest: 1_048_640,
+};
 
 /// Where the logs of a server with so many trees are.
 #[derive(Clone, Copy)]
@@ -43,7 +47,6 @@ pub(crate) fn served_disks<K: Sink>(
     place: Place<'_>,
     sink: &mut K,
 ) -> Result<Disks<ServedDisk>, u8>
-    requires { place.trees + 2 < 2 ^ 64 }
     ensures { IfOk result (λ disks. length disks.disks ≡ place.trees + 2) }
 {
     match opened(alloc, place) {
@@ -54,7 +57,6 @@ pub(crate) fn served_disks<K: Sink>(
 
 // The logs of the second format.
 fn opened(alloc: Global, place: Place<'_>) -> Result<Disks<LogDisk>, AllocError>
-    requires { place.trees + 2 < 2 ^ 64 }
     ensures { IfOk result (λ disks. length disks.disks ≡ place.trees + 2) }
 {
     let names = file_names(alloc, place.trees, Format::Second)?;
@@ -73,8 +75,8 @@ fn all_moved<K: Sink>(
     let mut left = logs;
     let mut disks = Disks::new(alloc);
     let mut which: u64 = 0;
-    while let Some(log) = left.take() {
-        let disk = moved(alloc, place, which, log, sink)?;
+    while let Some(disk) = left.take() {
+        let disk = moved(alloc, place, which, disk, sink)?;
         if disks.push(disk).is_err() {
             return Err(Status::OutOfMemory.code());
         }
@@ -83,51 +85,47 @@ fn all_moved<K: Sink>(
     Ok(disks)
 }
 
-// The log at a place, to which that of the first format was moved where there is one.
+// The disk of the log at a place, to which that of the first format was moved where there is one.
 fn moved<K: Sink>(
     alloc: Global,
     place: Place<'_>,
     which: u64,
-    log: LogDisk,
+    disk: LogDisk,
     sink: &mut K,
 ) -> Result<ServedDisk, u8> {
-    match old_log(alloc, place, which) {
-        Ok(Some(old)) => moved_from(alloc, place, which, old, log, sink),
-        Ok(None) => told(alloc, place, which, log),
+    let log = Log::at(place.trees, which);
+    match old_disk(alloc, place, log) {
+        Ok(Some(old)) => moved_from(alloc, place, which, old, disk, sink),
+        Ok(None) => told(alloc, place, log, disk),
         Err(_) => Err(Status::OutOfMemory.code()),
     }
 }
 
-// Moves an old log to the new one at its place.
+// Moves an old log to the disk of the new one at its place.
 fn moved_from<K: Sink>(
     alloc: Global,
     place: Place<'_>,
     which: u64,
     old: LogDisk,
-    log: LogDisk,
+    disk: LogDisk,
     sink: &mut K,
 ) -> Result<ServedDisk, u8> {
-    let mut old = told(alloc, place, which, old)?;
-    let mut new = told(alloc, place, which, log)?;
-    let limits = limits_at(place.trees, which);
-    match serve_move(alloc, &mut old, &mut new, which, limits, sink) {
-        Ok(moved) => {
-            tell_moved(place, which, moved);
-            told(alloc, place, which, new.into_inner())
-        }
-        Err(status) => Err(status),
-    }
+    let log = Log::at(place.trees, which);
+    let mut old = told(alloc, place, log, old)?;
+    let mut new = told(alloc, place, log, disk)?;
+    let moved = serve_move(alloc, &mut old, &mut new, which, limits_of(log), sink)?;
+    tell_moved(place, which, moved);
+    told(alloc, place, log, new.into_inner())
 }
 
-// The limits of the log at a place.
-fn limits_at(trees: u64, which: u64) -> Limits
+// The limits of a log.
+fn limits_of(log: Log) -> Limits
     ensures { AreLimits result }
 {
-    let mut limits = LIMITS;
-    if which == trees {
-        limits.largest = LARGEST_BLOCK;
+    match log {
+        Log::Store => STORE_LIMITS,
+        Log::Tree(_) | Log::Keys => LIMITS,
     }
-    limits
 }
 
 // Says that a log was moved. Nothing is said where it had been before.
@@ -137,19 +135,18 @@ fn tell_moved(place: Place<'_>, which: u64, moved: Moved) {
     }
 }
 
-// The log at a place as a disk that says how far it was read.
-fn told(alloc: Global, place: Place<'_>, which: u64, log: LogDisk) -> Result<ServedDisk, u8> {
-    match file_name(alloc, place.trees, which, Format::Second) {
-        Ok(name) => Ok(ToldDisk::new(log, place.rt, name)),
+// The disk of a log as one that says how far it was read.
+fn told(alloc: Global, place: Place<'_>, log: Log, disk: LogDisk) -> Result<ServedDisk, u8> {
+    match log.file(alloc, Format::Second) {
+        Ok(name) => Ok(ToldDisk::new(disk, place.rt, name)),
         Err(_) => Err(Status::OutOfMemory.code()),
     }
 }
 
-// The log of the first format at a place: `None` where there is no such file, and a disk whose every call fails where it cannot be opened
-// or locked.
-fn old_log(alloc: Global, place: Place<'_>, which: u64) -> Result<Option<LogDisk>, AllocError> {
-    let name = file_name(alloc, place.trees, which, Format::First)?;
-    let folder = place.folder;
+// The disk of a log of the first format: `None` where there is no such file, and one whose every call fails where it cannot be opened or
+// locked.
+fn old_disk(alloc: Global, place: Place<'_>, log: Log) -> Result<Option<LogDisk>, AllocError> {
+    let (folder, name) = (place.folder, log.file(alloc, Format::First)?);
     let path = format!(in alloc; "{folder}/{name}")?;
     match try_open(&place.rt, path.as_str()) {
         Ok(disk) => Ok(Some(Ahead::new(alloc, disk))),

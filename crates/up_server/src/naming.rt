@@ -1,7 +1,16 @@
 //! The files of a server's logs.
-ghost use Rattle.std.specs.Prelude.{◌≡◌, ◌<◌, ◌+◌, ◌^◌, length, IfOk};
+ghost use Rattle.std.specs.Prelude.{◌≡◌, ◌+◌, length, IfOk};
 
 use std::alloc::{AllocError, Global};
+
+/// A log of a server.
+#[derive(Clone, Copy, Debug)]
+pub(crate) enum Log {
+    /// That of the tree at this place, from 0.
+    Tree(u64),
+    Store,
+    Keys,
+}
 
 /// The format of a log, by the end of its file's name.
 #[derive(Clone, Copy, Debug)]
@@ -12,30 +21,29 @@ pub(crate) enum Format {
     Second,
 }
 
-impl Format {
-    fn ending(self) -> &'static str {
-        match self {
-            Format::First => "log",
-            Format::Second => "log2",
+impl Log {
+    /// The log at a place, from 0, among those of a server with so many trees: theirs, that of the store, that of the keys.
+    pub fn at(trees: u64, which: u64) -> Log {
+        if which < trees {
+            Log::Tree(which)
+        } else if which == trees {
+            Log::Store
+        } else {
+            Log::Keys
         }
     }
-}
 
-/// The file of the log at a place among those of a server with so many trees: first the logs of the trees, then that of the store, then
-/// that of the keys.
-pub(crate) fn file_name(
-    alloc: Global,
-    trees: u64,
-    which: u64,
-    format: Format,
-) -> Result<String, AllocError> {
-    let ending = format.ending();
-    if which < trees {
-        format!(in alloc; "tree-{which}.{ending}")
-    } else if which == trees {
-        format!(in alloc; "store.{ending}")
-    } else {
-        format!(in alloc; "keys.{ending}")
+    /// The name of its file.
+    pub fn file(self, alloc: Global, format: Format) -> Result<String, AllocError> {
+        let ending = match format {
+            Format::First => "log",
+            Format::Second => "log2",
+        };
+        match self {
+            Log::Tree(place) => format!(in alloc; "tree-{place}.{ending}"),
+            Log::Store => format!(in alloc; "store.{ending}"),
+            Log::Keys => format!(in alloc; "keys.{ending}"),
+        }
     }
 }
 
@@ -45,12 +53,21 @@ pub(crate) fn file_names(
     trees: u64,
     format: Format,
 ) -> Result<Vec<String>, AllocError>
-    requires { trees + 2 < 2 ^ 64 }
     ensures { IfOk result (λ names. length names.items ≡ trees + 2) }
 {
+    let mut names = tree_names(alloc, trees, format)?;
+    names.push(Log::Store.file(alloc, format)?)?;
+    names.push(Log::Keys.file(alloc, format)?)?;
+    Ok(names)
+}
+
+// Those of the trees.
+fn tree_names(alloc: Global, trees: u64, format: Format) -> Result<Vec<String>, AllocError>
+    ensures { IfOk result (λ names. length names.items ≡ trees) }
+{
     let mut names = Vec::new(alloc);
-    for which in 0..trees + 2 {
-        names.push(file_name(alloc, trees, which, format)?)?;
+    for place in 0..trees {
+        names.push(Log::Tree(place).file(alloc, format)?)?;
     }
     Ok(names)
 }
