@@ -47,7 +47,7 @@ pub(crate) fn served_disks<K: Sink>(
     place: Place<'_>,
     sink: &mut K,
 ) -> Result<Disks<ServedDisk>, u8>
-    ensures { IfOk result (λ disks. length disks.disks ≡ place.trees + 2) }
+    ensures { IfOk result (λ disks. length disks.disks ≡ place.entry.trees + 2) }
 {
     match opened(alloc, place) {
         Ok(logs) => all_moved(alloc, place, logs, sink),
@@ -57,7 +57,7 @@ pub(crate) fn served_disks<K: Sink>(
 
 // The logs of the second format.
 fn opened(alloc: Global, place: Place<'_>) -> Result<Disks<LogDisk>, AllocError>
-    ensures { IfOk result (λ disks. length disks.disks ≡ place.trees + 2) }
+    ensures { IfOk result (λ disks. length disks.disks ≡ place.entry.trees + 2) }
 {
     let names = file_names(alloc, place.trees, Format::Second)?;
     open_logs(alloc, &place.rt, place.folder, names.as_slice())

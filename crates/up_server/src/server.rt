@@ -3,7 +3,6 @@ ghost use Rattle.std.specs.Prelude.{◌≡◌, ◌<◌, ◌+◌, ◌^◌, [], �
 ghost use Rattle.up_command.specs.Statuses.{IsOneOf, usage_line};
 ghost use Rattle.up_ends.specs.Writing.{WritesPart};
 ghost use Rattle.up_serve.specs.Plans.{plan_of};
-ghost use Rattle.up_serve.specs.declared.plan.ServePlan.{ServePlan as Plan};
 
 use crate::door::{Door, Visit};
 use crate::logs::{Place, ServedDisk, served_disks};
