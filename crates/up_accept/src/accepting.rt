@@ -1,8 +1,7 @@
 //! The next connection of a listener.
-use std::io;
 use std::net::{SocketAddr, TcpListener, TcpStream};
-use std::thread;
 use std::time::{Clock, Duration};
+use std::{io, thread};
 
 /// The failures after which `accept` is tried again, by their numbers on Linux: no memory, no descriptor in the system, none in the
 /// process, a connection that ended before it was accepted, and no buffer.

@@ -19,13 +19,7 @@ pub trait Attends: Sync {
         ensures other { IfSome result (is_part self.now) };
 
     /// Answers a connection, which came from this address, to its end.
-    fn attend<R: Wait>(
-        &self,
-        rt: &R,
-        part: &mut Self::Part,
-        stream: &TcpStream,
-        from: SocketAddr,
-    )
+    fn attend<R: Wait>(&self, rt: &R, part: &mut Self::Part, stream: &TcpStream, from: SocketAddr)
         requires { is_part self.now part.old }
         ensures kept { is_part self.now part.new };
 }

@@ -2,12 +2,11 @@
 use crate::accepting::accepted;
 use crate::attends::Attends;
 use crate::room::Room;
-use std::io;
 use std::net::{SocketAddr, TcpListener, TcpStream};
 use std::sync::Wait;
-use std::thread;
 use std::thread::Threads;
 use std::time::Clock;
+use std::{io, thread};
 
 /// How many connections are answered.
 #[derive(Clone, Copy, Debug)]
@@ -44,9 +43,9 @@ pub fn serve_each<A: Attends, R: Threads + Wait + Clock + Sync>(
                     one(rt, attendant, whole, stream, from, room);
                     continue;
                 };
-                let job = move || requires { A.is_part attendant.now part } {
-                    one_apart(rt, attendant, part, stream, from, room)
-                };
+                let job = move ||
+                    requires { A.is_part attendant.now part }
+                { one_apart(rt, attendant, part, stream, from, room) };
                 if let Err(refused) = scope.spawn(job) {
                     let job = refused.value;
                     job();

@@ -14,9 +14,9 @@ mod ending;
 mod logs;
 mod naming;
 mod saying;
-mod serve;
+mod server;
 mod told_disk;
 
 pub use logs::ServedDisk;
-pub use serve::serve;
+pub use server::serve;
 pub use told_disk::ToldDisk;

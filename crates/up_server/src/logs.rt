@@ -47,7 +47,7 @@ pub(crate) fn served_disks<K: Sink>(
     place: Place<'_>,
     sink: &mut K,
 ) -> Result<Disks<ServedDisk>, u8>
-    ensures { IfOk result (λ disks. length disks.disks ≡ place.trees + 2) }
+    ensures { IfOk result (λ disks. length disks.disks ≡ place.entry.trees + 2) }
 {
     match opened(alloc, place) {
         Ok(logs) => all_moved(alloc, place, logs, sink),
@@ -57,7 +57,7 @@ pub(crate) fn served_disks<K: Sink>(
 
 // The logs of the second format.
 fn opened(alloc: Global, place: Place<'_>) -> Result<Disks<LogDisk>, AllocError>
-    ensures { IfOk result (λ disks. length disks.disks ≡ place.trees + 2) }
+    ensures { IfOk result (λ disks. length disks.disks ≡ place.entry.trees + 2) }
 {
     let names = file_names(alloc, place.trees, Format::Second)?;
     open_logs(alloc, &place.rt, place.folder, names.as_slice())
@@ -131,7 +131,9 @@ fn limits_of(log: Log) -> Limits
 // Says that a log was moved. Nothing is said where it had been before.
 fn tell_moved(place: Place<'_>, which: u64, moved: Moved) {
     if let Moved::Copied(records) = moved {
-        let _ = eprintln!(place.rt; "upspin: log {which}: {records} records are moved to the second format");
+        let _ = eprintln!(place.rt;
+            "upspin: log {which}: {records} records are moved to the second format"
+        );
     }
 }
 

@@ -1,0 +1,2 @@
+//! Many connections.
+mod crowd;
