@@ -1,5 +1,5 @@
 -- Each turn does the next line.
-use Rattle.std.proofs.Common.{◌≡◌, arith, length, rules}
+use Rattle.std.proofs.Common.{arith, rules}
 use Rattle.up_serve.proofs.EnrolLemmas.{enrolling_end, enrolling_first, enrolling_step, enrolling_stop}
 use Rattle.up_serve.proofs.enrolling.enrol_users.Goals as goal
 
