@@ -14,6 +14,9 @@ use up_journal::{Limits, Moved};
 use up_lists::Items;
 use up_serve::{ServeFault, ServePlan, serve_move, serve_open, serve_within, serve_words};
 
+/// How many bytes a line may write to a disk.
+const MOST_BYTES: u64 = 1_048_576;
+
 /// Lines about servers. Names are hashed with these keys.
 #[derive(Clone, Copy)]
 pub struct Serves {
@@ -134,6 +137,9 @@ impl Server {
     fn fill(&mut self, alloc: Global, mut words: Words<'_>) -> Result<(), Fault> {
         let place = words.number()?;
         let bytes = bytes_of(alloc, words.one()?)?;
+        if bytes.len() > MOST_BYTES {
+            return Err(Fault::BadLine);
+        }
         let Some(disk) = self.disks.get_mut(place as usize) else {
             return Err(Fault::BadLine);
         };
@@ -233,7 +239,10 @@ impl Server {
     fn move_log(&mut self, alloc: Global, which: u64, answer: &mut Answer) -> Result<(), Fault> {
         let limits = self.limits();
         let mut sink = MemSink::new(alloc, copied(alloc, &self.sink_fails)?);
-        let [old, new, ..] = self.disks.as_mut_slice() else {
+        let Some((old, others)) = self.disks.split_first_mut() else {
+            return Err(Fault::BadLine);
+        };
+        let Some(new) = others.first_mut() else {
             return Err(Fault::BadLine);
         };
         match serve_move(alloc, old, new, which, limits, &mut sink) {

@@ -1,8 +1,6 @@
 -- How a move of a log is answered.
-use Rattle.std.proofs.Common.{◌≡◌, ◌≢◌, ◌∙◌, ℕ, List, [], ◌∷◌, Option, Result, Ok, Err, false, is_some, refl, sym, ap, arith}
-use Rattle.std.specs.Prelude.{IfSome, IsErrOf}
+use Rattle.std.proofs.Common.{◌≡◌, ◌∙◌, ℕ, [], ◌∷◌, Option, Ok, Err, refl, sym, ap, arith}
 use Rattle.up_command.specs.Statuses.{IsOneOf, is_cut_short}
-use Rattle.up_disk.specs.Disk.{LeavesOnly, Only}
 use Rattle.up_disk.specs.declared.disk.Disk.{Ghosts}
 use Rattle.up_journal.specs.declared.fault.MoveWhy.{MoveWhy}
 use Rattle.up_journal.specs.declared.fault.MoveWhy.TheVariants as move

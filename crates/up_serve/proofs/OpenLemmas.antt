@@ -1,11 +1,10 @@
 -- A host is opened by the name of a plan, or there was no memory to read it.
-use Rattle.std.proofs.Common.{◌≡◌, ◌∙◌, Bool, true, false, List, ℕ, inl, Some, None, refl, sym, subst}
+use Rattle.std.proofs.Common.{◌≡◌, Bool, true, false, List, inl, Some, None, refl, subst}
 use Rattle.std.specs.Prelude.{if◌then◌else◌}
 use Rattle.up_disk.specs.Spare.{Spared}
 use Rattle.up_disk.specs.declared.disk.Disk.{Ghosts}
 use Rattle.up_host.specs.Alone.{HostState}
 use Rattle.up_host.specs.Opens.{OpensHost, RefusesHost}
-use Rattle.up_host.specs.declared.fault.HostFault.{HostFault}
 use Rattle.up_journal.specs.declared.fault.OpenWhy.TheVariants as why
 use Rattle.up_journal.specs.declared.limits.Limits.{Limits}
 use Rattle.up_names.specs.Texts.{Text, UserName}

@@ -1,5 +1,5 @@
 -- What follows from what came of a plan.
-use Rattle.std.proofs.Common.{◌≡◌, ◌≢◌, ◌∙◌, ◌≤◌, ◌<◌, ◌+◌, ◌-◌, ◌^◌, ℕ, true, false, List, [], ◌∷◌, ◌++◌, ◌⊎◌, inl, inr, length, map, Option, Some, None, IfErr, IfSome, Result, Ok, Err, refl, sym, ap, subst, arith}
+use Rattle.std.proofs.Common.{◌≡◌, ◌∙◌, ◌≤◌, ◌<◌, ◌+◌, ◌-◌, ◌^◌, ℕ, false, List, [], ◌∷◌, ◌++◌, ◌⊎◌, inl, inr, length, Option, Some, None, IfErr, IfSome, Result, Ok, Err, refl, sym, ap, subst, arith}
 use Rattle.std.proofs.lemmas.Bool.{cases_lt}
 use Rattle.std.specs.List.{sum_by}
 use Rattle.std.specs.Prelude.{◌↔◌}
@@ -24,7 +24,7 @@ use Rattle.up_lists.specs.Counts.{Rose}
 use Rattle.up_names.specs.Texts.{Text, UserName}
 use Rattle.up_serve.proofs.CountLemmas.{host_faults, opens_later, refuses_counts}
 use Rattle.up_serve.proofs.TellLemmas.{refused_codes, refused_six, stopped_codes, stopped_six}
-use Rattle.up_serve.specs.Enrolling.{EnrolsUsers, KeepsHost, ended, enrolment, is_cut}
+use Rattle.up_serve.specs.Enrolling.{EnrolsUsers, KeepsHost, enrolment, is_cut}
 use Rattle.up_serve.specs.Serving.{AreServed, HasCauses, IsInput, IsServed, Reads, Serves, Stays, disks_after, result_code}
 use Rattle.up_serve.specs.Telling.{AnswersOne, refused_by, stopped_by}
 use Rattle.up_serve.specs.declared.enrolling.EnrolStop.{EnrolStop}

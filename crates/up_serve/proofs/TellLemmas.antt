@@ -1,10 +1,9 @@
 -- How a last line and its status are answered and printed.
-use Rattle.std.proofs.Common.{◌≡◌, ◌∙◌, ℕ, Bool, true, false, List, [], ◌∷◌, Option, Result, Ok, Err, refl, sym, ap, subst, arith}
+use Rattle.std.proofs.Common.{◌≡◌, ◌∙◌, ℕ, false, [], ◌∷◌, Option, Result, Ok, Err, refl, sym, ap, subst, arith}
 use Rattle.std.specs.Prelude.{IfOk}
 use Rattle.std.specs.Io.KnownBytes.{Appends}
 use Rattle.std.specs.declared.alloc.AllocError.{AllocError}
-use Rattle.up_command.specs.Statuses.{Answer, AnswersWith, IsOneOf, code_of, is_cut_short}
-use Rattle.up_command.specs.declared.status.Status.{Status}
+use Rattle.up_command.specs.Statuses.{Answer, IsOneOf, code_of, is_cut_short}
 use Rattle.up_ends.proofs.Going.{WritesPart-none}
 use Rattle.up_ends.specs.Writing.{WritesPart}
 use Rattle.up_journal.specs.declared.fault.MoveWhy.{MoveWhy}

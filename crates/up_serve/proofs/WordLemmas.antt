@@ -1,6 +1,6 @@
 -- A text cut at its first `=`, the words at the end of options, and the key that a word stands for.
-use Rattle.std.proofs.Common.{◌≡◌, ◌∙◌, ◌<◌, ℕ, ◌+◌, ◌-◌, Bool, true, false, List, [], ◌∷◌, length, map, take, drop, Option, Some, None, refl, sym, ap, arith}
-use Rattle.std.specs.List.{after_first, before_first, list_any, position, position_or_len}
+use Rattle.std.proofs.Common.{◌≡◌, ◌∙◌, ◌<◌, ℕ, ◌+◌, ◌-◌, Bool, true, false, List, [], ◌∷◌, length, map, take, drop, Option, Some, None, refl, ap, arith}
+use Rattle.std.specs.List.{after_first, list_any, position, position_or_len}
 use Rattle.std.specs.Prelude.{◌==◌, if◌then◌else◌}
 use Rattle.up_command.specs.Words.{◌>>=◌, is_key, key_named}
 use Rattle.up_names.specs.Texts.{Text}

@@ -1,5 +1,5 @@
 -- A log of a server is moved from a file of the first format. This project's own.
-use Rattle.std.specs.Prelude.{◌≡◌, ◌≢◌, ℕ, List, [], ◌∷◌, Option, Result, Ok, Err, false, is_some, IfSome, IsErrOf}
+use Rattle.std.specs.Prelude.{◌≡◌, ◌≢◌, ℕ, Option, Result, Ok, Err, false, is_some, IfSome, IsErrOf}
 use Rattle.up_disk.specs.Disk.{LeavesOnly, Only}
 use Rattle.up_disk.specs.declared.disk.Disk.{Ghosts}
 use Rattle.up_journal.specs.Cells.{OnlyRead}

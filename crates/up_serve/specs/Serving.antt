@@ -12,7 +12,7 @@ use Rattle.up_journal.specs.Journal.{AreLimits}
 use Rattle.up_journal.specs.declared.limits.Limits.{Limits}
 use Rattle.up_keys.specs.Records as keys
 use Rattle.up_lists.specs.Counts.{Rose}
-use Rattle.up_names.specs.Texts.{Text, UserName}
+use Rattle.up_names.specs.Texts.{Text}
 use Rattle.up_serve.specs.Enrolling.{EnrolsUsers, enrolment}
 use Rattle.up_serve.specs.Telling.{AnswersOne, refused_by, stopped_by}
 use Rattle.up_serve.specs.declared.enrolling.EnrolStop.{EnrolStop}

@@ -1,6 +1,4 @@
 -- The key is one that a word stands for.
-use Rattle.std.proofs.Common.{◌≡◌, Some}
-use Rattle.up_command.specs.Words.{key_named}
 use Rattle.up_serve.proofs.WordLemmas.{key_is}
 use Rattle.up_serve.proofs.enrol_line.user_line.Goals as goal
 

@@ -1,5 +1,5 @@
 -- A line says nothing, or is bad, or there was no memory to read it.
-use Rattle.std.proofs.Common.{◌≡◌, Some, None}
+use Rattle.std.proofs.Common.{◌≡◌, Some, None, rules}
 use Rattle.up_serve.proofs.EnrolLemmas.{line_bad, line_silent, line_unread}
 use Rattle.up_serve.specs.EnrolLines.{enrol_line}
 use Rattle.up_serve.specs.declared.enrol_line.EnrolLine.TheVariants as lines
@@ -18,7 +18,7 @@ returns-in-Ok-None g c =
     let says = c.in-Ok-None.ensures.says in
     let found = c.in-Ok-None.field-0-is in
     let is : None ≡ enrol_line c.args.line.now = cc in
-    line_bad g.D.Disk c.args.host.now c.args.number c.args.line.now is
+    search (line_bad, rules)
 
 pub returns-in-Err : goal.returns-in-Err
 returns-in-Err g c = line_unread g.D.Disk c.args.host.now c.args.number c.args.line.now

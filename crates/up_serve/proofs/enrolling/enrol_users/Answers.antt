@@ -1,10 +1,10 @@
 -- Each turn does the next line.
-use Rattle.std.proofs.Common.{◌≡◌, arith, length}
+use Rattle.std.proofs.Common.{arith, rules}
 use Rattle.up_serve.proofs.EnrolLemmas.{enrolling_end, enrolling_first, enrolling_step, enrolling_stop}
 use Rattle.up_serve.proofs.enrolling.enrol_users.Goals as goal
 
 pub loop-line-init : goal.loop-line-init
-loop-line-init g c = (enrolling_first g.D.Disk c.args.text.now c.args.host.now, omega arith)
+loop-line-init g c = (search (enrolling_first, rules), omega arith)
 
 pub returns-in-Err : goal.returns-in-Err
 returns-in-Err g c = enrolling_stop g.D.Disk c.loop-line.invariant.0 c.in-Some.ensures.lines c.in-Err.ensures

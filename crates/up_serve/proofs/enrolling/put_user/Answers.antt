@@ -1,5 +1,5 @@
 -- A record was held, or was put, or was refused.
-use Rattle.std.proofs.Common.{◌≡◌, Err, rules, subst, sym}
+use Rattle.std.proofs.Common.{Err, rules, subst, sym}
 use Rattle.up_serve.specs.Enrolling.{PutsUser}
 use Rattle.up_serve.proofs.EnrolLemmas.{user_held, user_put, user_refused}
 use Rattle.up_serve.proofs.enrolling.put_user.Goals as goal
