@@ -94,12 +94,12 @@ pub fn both_at_once<R: Threads + Wait + Sync, L: Loader + Drop + Send>(
     }
 }
 
-fn split_between<R: Threads + Wait + Sync, L: Loader + Drop + Send>(
+fn split_between<'a, R: Threads + Wait + Sync, L: Loader + Drop + Send>(
     rt: &R,
     alloc: Global,
-    shared: &Shared<HostDisk>,
+    shared: &'a Shared<HostDisk>,
     mut seats: Seats<HostDisk>,
-    flag: &AtomicU64,
+    flag: &'a AtomicU64,
     plan: Plan<L>,
 ) -> Result<Came<L>, AllocError>
     requires { AreSeats shared.now seats }
@@ -114,13 +114,13 @@ fn split_between<R: Threads + Wait + Sync, L: Loader + Drop + Send>(
     }
 }
 
-fn ask_both<R: Threads + Wait + Sync, L: Loader + Drop + Send>(
+fn ask_both<'a, R: Threads + Wait + Sync, L: Loader + Drop + Send>(
     rt: &R,
     alloc: Global,
-    shared: &Shared<HostDisk>,
+    shared: &'a Shared<HostDisk>,
     seats: Seats<HostDisk>,
     others: Seats<HostDisk>,
-    flag: &AtomicU64,
+    flag: &'a AtomicU64,
     plan: Plan<L>,
 ) -> Came<L>
     requires these { AreSeats shared.now seats }
