@@ -6,6 +6,7 @@ use crate::tests::callers::Caller;
 use crate::tests::hosts::{
     ANN, BOB, HostDisk, ask_alone, is_changed, plain_host, request_of, session_of,
 };
+use crate::tests::waits::Nobody;
 use std::alloc::{AllocError, Global};
 use std::hash::RandomState;
 use std::sync::Wait;
@@ -13,7 +14,6 @@ use std::test::Fail;
 use std::thread::{Threads, join_mut};
 use up_host::Host;
 use up_names::User;
-use up_peer::Peers;
 use up_shared::{Seats, Shared};
 use up_sign::Session;
 use up_wire::{Reply, Request};
@@ -70,7 +70,7 @@ struct Asker<'a> {
 
 impl<'a> Asker<'a> {
     fn ask_all<R: Wait>(&mut self, rt: &R, alloc: Global) {
-        let mut nobody = Peers::new(alloc);
+        let mut nobody = Nobody;
         for number in 0..ASKS {
             // A request for which there is no memory is missing afterwards.
             let _ = self.ask_one(rt, alloc, &mut nobody, number);
@@ -81,7 +81,7 @@ impl<'a> Asker<'a> {
         &mut self,
         rt: &R,
         alloc: Global,
-        nobody: &mut Peers,
+        nobody: &mut Nobody,
         number: u64,
     ) -> Result<(), AllocError> {
         let request = asked(alloc, &self.user, self.by, number)?;

@@ -4,7 +4,7 @@ ghost use Rattle.std.specs.List.{AllByRecursion, IsDistinct};
 ghost use Rattle.std.specs.Str.{bytes_eq};
 ghost use Rattle.up_policy.specs.Trees.{owns_snapshots};
 
-use crate::tests::waits::WaitsInSync;
+use crate::tests::waits::{Nobody, WaitsInSync};
 use std::alloc::{AllocError, Global};
 use std::hash::RandomState;
 use std::sync::Arc;
@@ -16,7 +16,6 @@ use up_host::Host;
 use up_journal::Limits;
 use up_lists::Items;
 use up_names::{User, parse_user};
-use up_peer::Peers;
 use up_sign::{Session, SignOn};
 use up_text::read_request;
 use up_wire::{Done, KeyRecord, Reply, Request};
@@ -161,9 +160,7 @@ pub fn ask_alone(
     session: &Session,
     request: &Request,
 ) -> Reply {
-    let mut nobody = Peers::new(alloc);
-    let event = host.ask(alloc, &mut nobody, session, request, NOW);
-    drop(nobody);
+    let event = host.ask(alloc, &mut Nobody, session, request, NOW);
     event.reply
 }
 

@@ -3,13 +3,13 @@ ghost use Rattle.up_shared.specs.Sharing.{AreSeats};
 
 use crate::tests::callers::Caller;
 use crate::tests::hosts::{HostDisk, request_of, session_of};
-use crate::tests::waits::{ARMED, DONE, wait_while_armed};
+use crate::tests::waits::{ARMED, DONE, Nobody, wait_while_armed};
 use std::alloc::{AllocError, Global};
 use std::sync::Wait;
 use std::sync::atomic::{AtomicU64, Ordering};
 use std::thread::{Threads, join_mut};
 use up_host::Host;
-use up_peer::{Loader, Peers};
+use up_peer::Loader;
 use up_shared::{Seats, Shared};
 use up_sign::Session;
 use up_wire::{Reply, Request};
@@ -143,7 +143,7 @@ fn ask_both<'a, R: Threads + Wait + Sync, L: Loader + Drop + Send>(
     };
     let mut other = Step {
         caller: Caller::new(shared, others, second.session),
-        loader: Peers::new(alloc),
+        loader: Nobody,
         request: second.request,
         flag,
         waits: second_asks_later,
@@ -151,7 +151,7 @@ fn ask_both<'a, R: Threads + Wait + Sync, L: Loader + Drop + Send>(
         reply: Reply::OutOfMemory,
     };
     flag.store(ARMED, Ordering::SeqCst);
-    join_mut(rt, &mut || one.run(rt, alloc), &mut || other.run(rt, alloc));
+    run_both(rt, alloc, &mut one, &mut other);
     let in_time = flag.load(Ordering::SeqCst) == DONE;
     Came {
         first: one.reply,
@@ -159,4 +159,13 @@ fn ask_both<'a, R: Threads + Wait + Sync, L: Loader + Drop + Send>(
         second: other.reply,
         in_time,
     }
+}
+
+fn run_both<'a, R: Threads + Wait + Sync, L: Loader + Drop + Send>(
+    rt: &R,
+    alloc: Global,
+    one: &mut Step<'a, L>,
+    other: &mut Step<'a, Nobody>,
+) {
+    join_mut(rt, &mut || one.run(rt, alloc), &mut || other.run(rt, alloc));
 }

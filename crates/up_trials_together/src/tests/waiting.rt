@@ -4,7 +4,7 @@ use crate::tests::hosts::{
 };
 use crate::tests::pairs::{Asking, Came, Plan, asked_as, both_at_once};
 use crate::tests::texts::{access_file, store};
-use crate::tests::waits::WaitsInLoad;
+use crate::tests::waits::{Nobody, WaitsInLoad};
 use std::alloc::{AllocError, Global};
 use std::hash::RandomState;
 use std::sync::atomic::AtomicU64;
@@ -12,7 +12,6 @@ use std::sync::{Arc, Wait};
 use std::test::Fail;
 use std::thread::Threads;
 use up_host::Host;
-use up_peer::Peers;
 use up_sign::Session;
 use up_wire::{Done, Reply, Request};
 
@@ -33,14 +32,14 @@ fn on_two_trees<R: Threads + Wait + Sync>(
     rt: &R,
     alloc: Global,
     random: RandomState,
-) -> Result<Came<Peers>, AllocError> {
+) -> Result<Came<Nobody>, AllocError> {
     let first = asked_as(alloc, ANN, "mkdir ann@a.example/x 100 0")?;
     let second = asked_as(alloc, BOB, "mkdir bob@b.example/x 100 0")?;
     let flag = Arc::new(alloc, AtomicU64::new(0))?;
     let host = host_of(alloc, random, &flag)?;
     let plan = Plan {
         first,
-        loader: Peers::new(alloc),
+        loader: Nobody,
         second,
         second_asks_later: false,
     };
@@ -123,13 +122,13 @@ fn one_after_the_other<R: Threads + Wait + Sync>(
     alloc: Global,
     random: RandomState,
     flag: &AtomicU64,
-) -> Result<Came<Peers>, AllocError> {
+) -> Result<Came<Nobody>, AllocError> {
     let first = asked_as(alloc, ANN, "mkdir ann@a.example/x 100 0")?;
     let second = asked_as(alloc, ANN, "lookup ann@a.example/x")?;
     let host = plain_host(alloc, random)?;
     let plan = Plan {
         first,
-        loader: Peers::new(alloc),
+        loader: Nobody,
         second,
         second_asks_later: true,
     };

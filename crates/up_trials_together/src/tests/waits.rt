@@ -104,3 +104,34 @@ impl<'a> Loader for WaitsInLoad<'a> {
 
     ghost joined = { λ a b c p q. tt };
 }
+
+/// Has nothing, and never waits.
+#[derive(Drop)]
+pub struct Nobody;
+
+impl Loader for Nobody {
+    ghost loads = { λ old question answer new. Unit {0} };
+
+    ghost fetches = { λ old question answer new. Unit {0} };
+
+    ghost faults = { λ one. 0 };
+
+    ghost tied = { λ old new. Unit {0} };
+
+    fn load(&mut self, alloc: Global, asker: &User, name: &Path) -> Result<LoadAnswer, AllocError> {
+        Ok(LoadAnswer::Missing)
+    }
+
+    fn fetch(
+        &mut self,
+        alloc: Global,
+        address: &[u8],
+        reference: &Reference,
+    ) -> Result<Fetch, AllocError> {
+        Ok(Fetch::Missing)
+    }
+
+    ghost same = { λ a. tt };
+
+    ghost joined = { λ a b c p q. tt };
+}
