@@ -160,7 +160,8 @@ pub fn ask_alone(
     session: &Session,
     request: &Request,
 ) -> Reply {
-    let event = host.ask(alloc, &mut Nobody, session, request, NOW);
+    let mut nobody = Nobody;
+    let event = host.ask(alloc, &mut nobody, session, request, NOW);
     event.reply
 }
 
