@@ -11,7 +11,9 @@ use up_disk::Disk;
 use up_ends::Nonces;
 use up_lists::Items;
 use up_names::User;
-use up_net::{HelperVerifier, HostClock, Machine, SeedNonces, ServerWaits, SocketPeer, Waits, ends};
+use up_net::{
+    HelperVerifier, HostClock, Machine, SeedNonces, ServerWaits, SocketPeer, Waits, ends,
+};
 use up_peer::{Loader, Peer, Peers};
 use up_shared::{Seats, Shared};
 use up_talk::TalkEnd;
@@ -55,13 +57,7 @@ impl<'a, D: Disk + Drop + Send> Attends for Door<'a, D> {
         Some(Visit { seats, nonces })
     }
 
-    fn attend<R: Wait>(
-        &self,
-        rt: &R,
-        part: &mut Visit<D>,
-        stream: &TcpStream,
-        from: SocketAddr,
-    ) {
+    fn attend<R: Wait>(&self, rt: &R, part: &mut Visit<D>, stream: &TcpStream, from: SocketAddr) {
         match self.neighbours() {
             Ok(neighbours) => self.answer(rt, part, stream, from, neighbours),
             Err(_) => tell_end(&self.rt, from, TalkEnd::OutOfMemory),

@@ -8,9 +8,23 @@ use up_talk::TalkEnd;
 pub(crate) fn tell_end(rt: &impl Eprint, from: SocketAddr, end: TalkEnd) {
     match end {
         TalkEnd::Ended => {}
-        TalkEnd::Cut(bytes) => tell_place(rt, from, "it ended within a frame, after so many bytes", bytes),
-        TalkEnd::BadFrame(place) => tell_place(rt, from, "no frame that may come begins at byte", place),
-        TalkEnd::NotSigned => tell(rt, from, "the user has no key, or the signature is not good"),
+        TalkEnd::Cut(bytes) => tell_place(
+            rt,
+            from,
+            "it ended within a frame, after so many bytes",
+            bytes,
+        ),
+        TalkEnd::BadFrame(place) => tell_place(
+            rt,
+            from,
+            "no frame that may come begins at byte",
+            place,
+        ),
+        TalkEnd::NotSigned => tell(
+            rt,
+            from,
+            "the user has no key, or the signature is not good",
+        ),
         TalkEnd::HelperFault => tell(rt, from, "the helper failed"),
         TalkEnd::ReadFault => tell(rt, from, "reading failed, or waited too long"),
         TalkEnd::WriteFault => tell(rt, from, "writing failed, or waited too long"),

@@ -131,7 +131,9 @@ fn limits_of(log: Log) -> Limits
 // Says that a log was moved. Nothing is said where it had been before.
 fn tell_moved(place: Place<'_>, which: u64, moved: Moved) {
     if let Moved::Copied(records) = moved {
-        let _ = eprintln!(place.rt; "upspin: log {which}: {records} records are moved to the second format");
+        let _ = eprintln!(place.rt;
+            "upspin: log {which}: {records} records are moved to the second format"
+        );
     }
 }
 

@@ -10,12 +10,11 @@ use crate::saying::say_listening;
 use std::alloc::Global;
 use std::fmt::Display;
 use std::hash::RandomState;
-use std::io;
 use std::net::TcpListener;
-use std::str;
 use std::sync::Wait;
 use std::thread::Threads;
 use std::time::Clock;
+use std::{io, str};
 use up_accept::{Bounds, serve_each};
 use up_bytes::Bytes;
 use up_command::{Status, usage};
@@ -160,11 +159,7 @@ fn listen<R: Threads + Wait + Clock + Sync, K: Sink>(
 }
 
 // The listener of an address, once it is printed.
-fn listening<K: Sink>(
-    rt: HostRuntime,
-    address: &str,
-    sink: &mut K,
-) -> Result<TcpListener, Status> {
+fn listening<K: Sink>(rt: HostRuntime, address: &str, sink: &mut K) -> Result<TcpListener, Status> {
     let listener = match TcpListener::bind(&rt, address) {
         Ok(listener) => listener,
         Err(why) => return Err(refused(rt, address, why)),
