@@ -1,0 +1,9 @@
+use Rattle.up_command.specs.Statuses.{usage_line}
+use Rattle.up_ends.proofs.Going.{WritesPart-none}
+use Rattle.up_server.proofs.server.serve.Goals as goal
+
+-- src/server.rt:37:1
+pub returns-in-Err : goal.returns-in-Err
+returns-in-Err g c = record {
+  usage = λ unfit. rw c.code-in-Err.ensures (tt, WritesPart-none (g.K.Sink.held c.args.sink.now) usage_line);
+}
