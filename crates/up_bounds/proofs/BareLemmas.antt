@@ -92,11 +92,11 @@ text_by is_control failed read = if not is_control then Ok [] else if failed the
 
 found_bare : (tree : Tree) (tested : List PathName) (link : Entry) → ShowsBareLinks tree → first_link tree tested ≡ Some link → (read : Bool) → IsBare (shown_as read link)
 found_bare tree [] link links is read = absurd (some_none link (sym is))
-found_bare tree (path ∷ paths) link links is read = go (link_at tree path) refl is
+found_bare tree (path ∷ paths) link links is read = go (link_at tree path) refl (λ later. found_bare tree paths link links later read) is
   where
-    go : (o : Option Entry) → link_at tree path ≡ o → option_or o (first_link tree paths) ≡ Some link → IsBare (shown_as read link)
-    go None there is = found_bare tree paths link links is read
-    go (Some other) there is = links path link (there ∙ is) read
+    go : (o : Option Entry) → link_at tree path ≡ o → (first_link tree paths ≡ Some link → IsBare (shown_as read link)) → option_or o (first_link tree paths) ≡ Some link → IsBare (shown_as read link)
+    go None there rest is = rest is
+    go (Some other) there rest is = links path link (there ∙ is) read
 
 module _ (look : Look) (links : ShowsBareLinks look.tree) where
   lacking_bare : (path : PathName) (needed : Option Right) → BareRefusal (lacking (rights look path) needed)

@@ -27,11 +27,11 @@ all_map P Q f each (x ∷ xs) all = (each x all.0, all_map P Q f each xs all.1)
 
 pub all_filter : {X : Type 0} (P : X → Type 0) (test : X → Bool) (xs : List X) → AllByRecursion P xs → AllByRecursion P (filter test xs)
 all_filter P test [] all = tt
-all_filter P test (x ∷ xs) all = go (test x)
+all_filter P test (x ∷ xs) all = go (test x) (all_filter P test xs all.1)
   where
-    go : (b : Bool) → AllByRecursion P (cond b (x ∷ filter test xs) (filter test xs))
-    go true = (all.0, all_filter P test xs all.1)
-    go false = all_filter P test xs all.1
+    go : (b : Bool) → AllByRecursion P (filter test xs) → AllByRecursion P (cond b (x ∷ filter test xs) (filter test xs))
+    go true rest = (all.0, rest)
+    go false rest = rest
 
 pub all_fold : {X S : Type 0} (P : X → Type 0) (I : S → Type 0) (step : S → X → S) → ((s : S) (x : X) → I s → P x → I (step s x)) → (s : S) (xs : List X) → I s → AllByRecursion P xs → I (fold step s xs)
 all_fold P I step keeps s [] start all = start
@@ -45,20 +45,20 @@ module _ {K X : Type 0} (R : K → K → Ordering) (P : X → Type 0) where
 
   pub each_put : (k : K) (x : X) (es : List (K × X)) → P x → Each es → Each (put R k x es)
   each_put k x [] is all = (is, tt)
-  each_put k x (e ∷ es) is all = go (R k e.0)
+  each_put k x (e ∷ es) is all = go (R k e.0) (each_put k x es is all.1)
     where
-      go : (o : Ordering) → Each (by_order o ((k, x) ∷ e ∷ es) ((e.0, x) ∷ es) (e ∷ put R k x es))
-      go Less = (is, all)
-      go Equal = (is, all.1)
-      go Greater = (all.0, each_put k x es is all.1)
+      go : (o : Ordering) → Each (put R k x es) → Each (by_order o ((k, x) ∷ e ∷ es) ((e.0, x) ∷ es) (e ∷ put R k x es))
+      go Less rest = (is, all)
+      go Equal rest = (is, all.1)
+      go Greater rest = (all.0, rest)
 
   pub each_found : (q : K) (es : List (K × X)) (x : X) → Each es → find R q es ≡ Some x → P x
   each_found q [] x all is = absurd (some_none x (sym is))
-  each_found q (e ∷ es) x all is = go (eq_by_cmp R q e.0) is
+  each_found q (e ∷ es) x all is = go (eq_by_cmp R q e.0) (each_found q es x all.1) is
     where
-      go : (b : Bool) → cond b (Some e.1) (find R q es) ≡ Some x → P x
-      go true is = subst P (some_same e.1 x is) all.0
-      go false is = each_found q es x all.1 is
+      go : (b : Bool) → (find R q es ≡ Some x → P x) → cond b (Some e.1) (find R q es) ≡ Some x → P x
+      go true rest is = subst P (some_same e.1 x is) all.0
+      go false rest is = rest is
 
   pub each_value : (es : List (K × X)) → Each es → AllByRecursion P (values_of es)
   each_value [] all = tt

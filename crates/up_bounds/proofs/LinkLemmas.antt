@@ -1,5 +1,5 @@
 -- A link of a tree has neither blocks nor packdata, nor has one of a snapshot tree.
-use Rattle.std.proofs.Common.{◌≡◌, ℕ, zero, suc, Bool, true, false, List, [], ◌∷◌, length, take, refl, sym, subst, Option, Some, None}
+use Rattle.std.proofs.Common.{◌≡◌, ℕ, zero, suc, Bool, true, false, List, [], ◌∷◌, length, take, refl, sym, subst, Option, Some, None, arith}
 use Rattle.std.specs.Prelude.{⊤, ◌==◌, map, filter, fold, slice_get, if◌then◌else◌}
 use Rattle.std.specs.FinMap.Entries as entries
 use Rattle.std.specs.List.{AllByRecursion}
@@ -39,7 +39,7 @@ AreBare tree = Each path_cmp BareLink tree
 
 none_left : {X : Type 0} (xs : List X) → (length xs == 0) ≡ true → xs ≡ []
 none_left [] h = refl
-none_left (x ∷ xs) h = absurd (cc)
+none_left (x ∷ xs) h = absurd (omega (arith, eqb-true (length (x ∷ xs)) 0 h))
 
 form_bare : (entry : Entry) (kind : Kind) → blocks_fit kind entry.blocks ≡ true → packdata_fits kind entry.packdata ≡ true → kind ≡ Link → IsBare entry
 form_bare entry Link blocks packdata is = (none_left entry.blocks blocks, none_left entry.packdata packdata)

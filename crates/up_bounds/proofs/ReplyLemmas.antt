@@ -3,7 +3,7 @@ use Rattle.std.proofs.Common.{◌≡◌, ◌≤◌, ◌||◌, ℕ, zero, suc, �
 use Rattle.std.specs.Prelude.{⊤, nat_lt, slice_get, fold, if◌then◌else◌}
 use Rattle.std.specs.FinMap.Entries.{find}
 use Rattle.std.specs.List.{AllByRecursion}
-use Rattle.std.proofs.lemmas.Bool.{leb-true}
+use Rattle.std.proofs.lemmas.Bool.{and_parts, leb-true}
 use Rattle.up_answers.specs.Answers.{answer, outcome}
 use Rattle.up_answers.specs.Laws.{IsWhole}
 use Rattle.up_blocks.specs.Records as blocks
@@ -67,17 +67,13 @@ tree_short log loaded fetched user request now whole is =
 abbrev AllFit : {R : Type 0} → (R → Type 0) → List R → Type 0
 AllFit P log = AllByRecursion P log
 
-and_first : (a b : Bool) → (if a then b else false) ≡ true → a ≡ true
-and_first true b h = refl
-and_first false b h = absurd (cc)
-
 -- a block is not too long
 abbrev SmallBlock : BlockRecord → Type 0
 SmallBlock (block.Put reference size bytes) = size ≤ largest_block
 SmallBlock (block.Delete reference) = ⊤
 
 block_small : (log : List BlockRecord) (r : BlockRecord) → blocks.fits log r ≡ true → SmallBlock r
-block_small log (block.Put reference size bytes) fits = leb-true size largest_block (and_first _ _ fits)
+block_small log (block.Put reference size bytes) fits = leb-true size largest_block (and_parts _ _ fits).0
 block_small log (block.Delete reference) fits = tt
 
 abbrev Small : ℕ → Type 0
@@ -117,7 +113,7 @@ get_few : (log : List BlockRecord) (o : Option (List ℕ)) → FewLed (get_leads
 get_few log None = tt
 get_few log (Some reference) = go (holds log reference)
   where
-    go : (b : Bool) → FewLed (if b then Leads.Reads {BlockRecord} reference else Leads.Says reply.NotExist)
+    go : (b : Bool) → FewLed {E = BlockRecord} (if b then Leads.Reads reference else Leads.Says reply.NotExist)
     go true = tt
     go false = tt
 

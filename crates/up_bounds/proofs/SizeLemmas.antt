@@ -1,5 +1,5 @@
 -- How many bytes a reply has whose parts are bounded.
-use Rattle.std.proofs.Common.{◌≡◌, ◌≤◌, ◌<◌, ◌+◌, ◌^◌, ℕ, Bool, true, false, List, [], ◌∷◌, ◌++◌, length, refl, sym, ap, Option, Some, None, Ok, Err, arith}
+use Rattle.std.proofs.Common.{◌≡◌, ◌≤◌, ◌<◌, ◌+◌, ◌^◌, ℕ, Bool, true, false, List, [], ◌∷◌, ◌++◌, length, refl, sym, ap, Option, Some, None, Result, Ok, Err, arith}
 use Rattle.std.specs.Prelude.{⊤, nat_lt, if◌then◌else◌}
 use Rattle.std.proofs.lemmas.Bool.{false≢true, ltb-false}
 use Rattle.std.proofs.lemmas.List.{length-append}
@@ -9,7 +9,7 @@ use Rattle.up_bytes.specs.Spelling.{byte, int, list, text, zigzag}
 use Rattle.up_bytes.proofs.Numbers.{length-num}
 use Rattle.up_blocks.specs.Records.{largest_block}
 use Rattle.up_names.specs.PathNames.{IsCanonical, PathName, canonical, path_of}
-use Rattle.up_names.specs.PathParts as parts
+use Rattle.up_names.specs.declared.fault.NameFault.{NameFault}
 use Rattle.up_names.proofs.Owners.{at_most_254}
 use Rattle.up_entry.specs.Attrs.{attr_byte}
 use Rattle.up_entry.specs.Spelling.{IsEntry, IsTarget, block, entry, heading, link_text}
@@ -35,13 +35,13 @@ text_small bytes n le = omega (arith, length-append (num (length bytes)) bytes, 
 
 -- ---- entries
 
+not_long : (b : Bool) (n : ℕ) (why : NameFault) (else_is : Result PathName NameFault) (path : PathName) → nat_lt 4096 n ≡ b → (if b then Err why else else_is) ≡ Ok path → n ≤ 4096
+not_long true n why else_is path long is = absurd (cc)
+not_long false n why else_is path short is = ltb-false 4096 n short
+
 canonical_small : (path : PathName) → IsCanonical path → length (canonical path) ≤ 4096
 unfolding path_of
-canonical_small path is = go (nat_lt 4096 (length (canonical path))) refl is
-  where
-    go : (b : Bool) → nat_lt 4096 (length (canonical path)) ≡ b → (if b then Err _ else _) ≡ Ok path → length (canonical path) ≤ 4096
-    go true long is = absurd (cc)
-    go false short is = ltb-false 4096 (length (canonical path)) short
+canonical_small path is = not_long (nat_lt 4096 (length (canonical path))) (length (canonical path)) _ _ path refl is
 
 link_small : (link : Option PathName) → IsTarget link → length (link_text link) ≤ 4096
 link_small None is = omega arith
