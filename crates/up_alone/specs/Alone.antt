@@ -1,15 +1,15 @@
 -- A host that is not shared, as who answers a connection. This project's own.
 use Rattle.std.specs.Prelude.{◌≡◌, ℕ, Option}
+use Rattle.up_calls.specs.Alike.{TellsNoMore}
+use Rattle.up_calls.specs.Calls.{Asked}
+use Rattle.up_calls.specs.Routes.{Question}
+use Rattle.up_calls.specs.declared.event.Event.{Event}
 use Rattle.up_disk.specs.declared.disk.Disk as disk
 use Rattle.up_ends.specs.declared.clock.Clock as clock
 use Rattle.up_ends.specs.declared.nonces.Nonces as nonces
 use Rattle.up_ends.specs.declared.verifier.Verifier as verifier
-use Rattle.up_host.specs.Alike.{TellsNoMore}
 use Rattle.up_host.specs.Alone.{Counts, HostState, IsAlone, disk_faults, views}
-use Rattle.up_host.specs.Calls.{Asked}
-use Rattle.up_host.specs.Routes.{Question}
 use Rattle.up_host.specs.Settled.{StaysSettled}
-use Rattle.up_host.specs.declared.event.Event.{Event}
 use Rattle.up_keys.specs.Records.{record_in}
 use Rattle.up_names.specs.Texts.{UserName}
 use Rattle.up_peer.specs.declared.loader.Loader as loader
@@ -17,8 +17,8 @@ use Rattle.up_talk.specs.Around.{Around, Parties}
 use Rattle.up_talk.specs.Requests.{FitsRequest, request_payload}
 use Rattle.up_wire.specs.Spelling.{server}
 use Rattle.up_wire.specs.declared.keys.KeyRecord.{KeyRecord}
-use Rattle.up_wire.specs.declared.messages.ServerFrame.{ServerFrame}
 use Rattle.up_wire.specs.declared.messages.ServerFrame.TheVariants as servers
+use Rattle.up_wire.specs.declared.messages.ServerFrame.{ServerFrame}
 use Rattle.up_wire.specs.declared.requests.Request.{Request}
 
 -- a host, and who stands behind it
