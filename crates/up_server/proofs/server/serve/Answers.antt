@@ -1,3 +1,4 @@
+use Rattle.std.proofs.Common.{refl}
 use Rattle.up_command.specs.Statuses.{usage_line}
 use Rattle.up_ends.proofs.Going.{WritesPart-none}
 use Rattle.up_server.proofs.server.serve.Goals as goal
@@ -5,5 +6,5 @@ use Rattle.up_server.proofs.server.serve.Goals as goal
 -- src/server.rt:37:1
 pub returns-in-Err : goal.returns-in-Err
 returns-in-Err g c = record {
-  usage = λ unfit. rw c.code-in-Err.ensures (tt, WritesPart-none (g.K.Sink.held c.args.sink.now) usage_line);
+  usage = λ unfit. rw c.code-in-Err.ensures (refl, WritesPart-none (g.K.Sink.held c.args.sink.now) usage_line);
 }
