@@ -84,8 +84,8 @@ fn ask_request<L: Loader>(
     added
 }
 
-// What comes of a request, of which nothing else is known.
-fn event_of<L: Loader>(
+/// What comes of a request, of which nothing else is known.
+pub fn event_of<L: Loader>(
     alloc: Global,
     host: &mut Host<MemDisk>,
     loader: &mut L,

@@ -3,9 +3,12 @@
 ghost use Rattle.std.specs.Prelude.{◌<◌, length, IfSome};
 
 use crate::asking::ask_alone;
+use crate::direct::direct_line;
 use crate::lines::{enrol_line, key_line, text_line};
 use crate::opening::{add_sizes, host_over, new_host};
 use crate::peers::{Has, Kind, Told, ask_peer, ask_with, has_of, kind_of, tree};
+use crate::talking::{failing_line, many_line, prefixes_line, talk_line};
+use crate::waiting::waits_line;
 use crate::words::cut;
 use std::alloc::Global;
 use std::hash::RandomState;
@@ -286,6 +289,12 @@ impl Hosts {
             "key" => key_line(alloc, host, words, answer),
             "text" => text_line(alloc, host, words, answer),
             "ask" => ask_alone(alloc, host, words, answer),
+            "talk" => talk_line(alloc, host, words, answer),
+            "prefixes" => prefixes_line(alloc, host, words, answer),
+            "failing" => failing_line(alloc, host, words, answer),
+            "many" => many_line(alloc, host, words, answer),
+            "waits" => waits_line(alloc, host, words, answer),
+            "direct" => direct_line(alloc, host, words, answer),
             _ => Err(Fault::BadLine),
         }
     }

@@ -4,6 +4,7 @@
 #![tactic(auto)]
 
 mod asking;
+mod direct;
 mod events;
 mod hosts;
 mod lines;
@@ -11,6 +12,8 @@ mod opening;
 mod peers;
 mod requests;
 mod sessions;
+mod talking;
+mod waiting;
 mod words;
 
 pub use hosts::Hosts;
