@@ -47,6 +47,20 @@ pub fn foreign<D: Disk>(
     foreign_in(alloc, state.memory(), user, request, loaded)
 }
 
+/// The same for a request whose texts were read.
+pub fn foreign_asked<D: Disk>(
+    alloc: Global,
+    state: &TreeState<D>,
+    user: &User,
+    asked: &Asked,
+    loaded: &Loaded,
+) -> Result<Names, AllocError>
+    ensures { IfOk result (λ names. names
+        ≡ needs_asked (log_of state.now) loaded.now user.now asked.now) }
+{
+    names_for(alloc, state.memory(), user, asked, loaded)
+}
+
 /// The groups that have to be loaded for a user's request over a tree in memory: those of other owners that are reached from the texts
 /// that govern the places that the request looks at, in order of first mention, and that have no answer yet.
 #[tactic(auto, unfolding(up_answers::specs::Needs::needs))]
@@ -71,7 +85,7 @@ pub fn foreign_in(
     }
 }
 
-/// The same for a request whose texts were read.
+/// The same over a tree in memory, for a request whose texts were read.
 #[tactic(auto, unfolding(up_answers::specs::Needs::needs_asked))]
 fn names_for(
     alloc: Global,

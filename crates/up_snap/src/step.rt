@@ -50,7 +50,11 @@ pub fn snap_step<D: Disk>(
     ensures grows { OnlyGrows entries_of (λ state. D.faults state.disk) fixed_of state.old state.new }
 {
     match asked_of(alloc, user, request) {
-        Ok(asked) => snap_asked(alloc, state, user, asked, now),
+        Ok(asked) => {
+            let reply = snap_asked(alloc, state, user, &asked, now);
+            drop(asked);
+            reply
+        }
         Err(fault) => refused(fault),
     }
 }
@@ -70,21 +74,20 @@ pub fn snap_asked<D: Disk>(
     alloc: Global,
     state: &mut TreeState<D>,
     user: &User,
-    asked: Asked,
+    asked: &Asked,
     now: u64,
 ) -> Reply
     requires moment { now < 253402207200 }
-    requires place { IsOfSnapshots state.old.owner (owner_asked asked) }
+    requires place { IsOfSnapshots state.old.owner (owner_asked asked.now) }
     ensures steps { Steps D.Disk
-        (answer_of (log_of state.old) (snapshot_outcome (log_of state.old) user.now asked now))
-        (added_by (log_of state.old) (snapshot_outcome (log_of state.old) user.now asked now))
+        (answer_of (log_of state.old) (snapshot_outcome (log_of state.old) user.now asked.now now))
+        (added_by (log_of state.old) (snapshot_outcome (log_of state.old) user.now asked.now now))
         state.old state.new result }
     ensures quiet { StaysUnless (D.faults state.old.disk) (D.faults state.new.disk)
         (result ≡ Reply.Io) }
     ensures grows { OnlyGrows entries_of (λ state. D.faults state.disk) fixed_of state.old state.new }
 {
-    let led = asked_in_memory(alloc, state.memory(), user, &asked, now);
-    drop(asked);
+    let led = asked_in_memory(alloc, state.memory(), user, asked, now);
     change(state, led)
 }
 
