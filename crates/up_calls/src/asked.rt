@@ -79,7 +79,9 @@ fn ask_read<B: Logs, L: Loader>(
 {
     match tree_asked(alloc, asked) {
         Ok((owner, locations)) => {
-            ask_owner(alloc, logs, loader, &owner, locations, user, request, asked, now)
+            ask_owner(
+                alloc, logs, loader, &owner, locations, user, request, asked, now,
+            )
         }
         Err(_) => bare(alloc, logs.random(), Reply::OutOfMemory, 0, now),
     }
@@ -113,7 +115,9 @@ fn ask_owner<B: Logs, L: Loader>(
         drop(locations);
         return bare(alloc, logs.random(), Reply::WrongHost, 0, now);
     }
-    match ask_there(alloc, logs, loader, owner, locations, user, request, asked, now) {
+    match ask_there(
+        alloc, logs, loader, owner, locations, user, request, asked, now,
+    ) {
         Ok(event) => event,
         Err(_) => bare(alloc, logs.random(), Reply::OutOfMemory, 0, now),
     }
@@ -146,7 +150,9 @@ fn ask_there<B: Logs, L: Loader>(
     ensures tried { IsTried L.Loader loader.old loader.new }
 {
     let fetched = gather_blocks(alloc, logs, loader, locations)?;
-    ask_loaded(alloc, logs, loader, owner, user, request, asked, fetched, now)
+    ask_loaded(
+        alloc, logs, loader, owner, user, request, asked, fetched, now,
+    )
 }
 
 // The same with what was fetched: a turn of the tree, and a round of loads for what it misses, until it answers.

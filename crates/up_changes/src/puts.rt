@@ -109,11 +109,7 @@ fn record_of(
 }
 
 /// The record of an entry with its text, behind those that the tree has.
-fn record_with(
-    tree: &MemTree,
-    entry: &Entry,
-    text: Bytes,
-) -> Result<Result<Rec, Reply>, AllocError>
+fn record_with(tree: &MemTree, entry: &Entry, text: Bytes) -> Result<Result<Rec, Reply>, AllocError>
     ensures { IfOk result (λ led. led
         ≡ std.Ok (rec.Put (record entry.now { sequence = length tree.now.log + 1 }) text)) }
 {
