@@ -17,7 +17,7 @@ use crate::logs::{Logs, Turn};
 use std::alloc::{AllocError, Global};
 use up_dir::{Fetched, tree_asked};
 use up_entry::{EntryFault, Location};
-use up_list::{Asked, asked_of};
+use up_list::{ReadRequest, asked_of};
 use up_lists::Items;
 use up_names::User;
 use up_peer::Loader;
@@ -62,7 +62,7 @@ fn ask_read<B: Logs, L: Loader>(
     loader: &mut L,
     user: &User,
     request: &Request,
-    asked: &Asked,
+    asked: &ReadRequest,
     now: u64,
 ) -> Event
     requires ready { B.ready logs.old }
@@ -96,7 +96,7 @@ fn ask_owner<B: Logs, L: Loader>(
     locations: Items<Location>,
     user: &User,
     request: &Request,
-    asked: &Asked,
+    asked: &ReadRequest,
     now: u64,
 ) -> Event
     requires ready { B.ready logs.old }
@@ -132,7 +132,7 @@ fn ask_there<B: Logs, L: Loader>(
     locations: Items<Location>,
     user: &User,
     request: &Request,
-    asked: &Asked,
+    asked: &ReadRequest,
     now: u64,
 ) -> Result<Event, AllocError>
     requires ready { B.ready logs.old }
@@ -163,7 +163,7 @@ fn ask_loaded<B: Logs, L: Loader>(
     owner: &User,
     user: &User,
     request: &Request,
-    asked: &Asked,
+    asked: &ReadRequest,
     fetched: Fetched,
     now: u64,
 ) -> Result<Event, AllocError>

@@ -16,7 +16,7 @@ use std::alloc::{AllocError, Global};
 use std::hash::RandomState;
 use up_dir::Fetched;
 use up_entry::Fetch;
-use up_list::Asked;
+use up_list::ReadRequest;
 use up_names::{Path, User};
 use up_policy::{LoadAnswer, Loaded, Names};
 use up_refs::Reference;
@@ -89,7 +89,7 @@ pub trait Logs {
         owner: &User,
         user: &User,
         request: &Request,
-        asked: &Asked,
+        asked: &ReadRequest,
         loaded: &Loaded,
         fetched: &Fetched,
         now: u64,

@@ -24,7 +24,7 @@ use up_dir::{Fetched, foreign_asked, step_asked};
 use up_disk::Disk;
 use up_entry::Fetch;
 use up_keys::{Keys, key_step};
-use up_list::Asked;
+use up_list::ReadRequest;
 use up_names::{Path, User};
 use up_policy::{LoadAnswer, Loaded, Names};
 use up_refs::Reference;
@@ -39,7 +39,7 @@ pub fn try_tree<D: Disk>(
     state: &mut TreeState<D>,
     user: &User,
     request: &Request,
-    asked: &Asked,
+    asked: &ReadRequest,
     loaded: &Loaded,
     fetched: &Fetched,
     now: u64,

@@ -11,7 +11,7 @@ use crate::index::Key;
 use std::alloc::{AllocError, Global};
 use std::collections::BTreeSet;
 use up_entry::{Block, Entry, EntryFault, Location, is_control_file};
-use up_list::{Asked, asked_of};
+use up_list::{ReadRequest, asked_of};
 use up_lists::Items;
 use up_names::User;
 use up_wire::{Reply, Request};
@@ -45,7 +45,7 @@ pub fn route_of(alloc: Global, user: &User, request: &Request) -> Result<Route, 
 
 /// Where a request goes of which nothing is malformed: the owner of the log to which its path belongs, which for a path of a snapshot tree
 /// is the base user; and for a Put of a control file the different locations of its blocks, in order. An `Err` is want of memory.
-pub fn tree_asked(alloc: Global, asked: &Asked) -> Result<(User, Items<Location>), AllocError>
+pub fn tree_asked(alloc: Global, asked: &ReadRequest) -> Result<(User, Items<Location>), AllocError>
     ensures { IfOk result (λ to. to
         ≡ (log_owner (owner_asked asked.now), locations_asked asked.now)) }
 {
@@ -76,17 +76,17 @@ pub(crate) fn owns_snapshots(owner: &User) -> bool
 }
 
 /// What has to be fetched for a request.
-fn locations_asked(alloc: Global, asked: &Asked) -> Result<Items<Location>, AllocError>
+fn locations_asked(alloc: Global, asked: &ReadRequest) -> Result<Items<Location>, AllocError>
     ensures { IfOk result (λ locations. locations ≡ locations_asked asked.now) }
 {
     match asked {
-        Asked::Put(put) => locations_for(alloc, &put.entry),
-        Asked::Lookup(_)
-        | Asked::WhichAccess(_)
-        | Asked::GroupText(_)
-        | Asked::Delete(_)
-        | Asked::Glob(_)
-        | Asked::Watch(_, _) => Ok(Items::new(alloc)),
+        ReadRequest::Put(put) => locations_for(alloc, &put.entry),
+        ReadRequest::Lookup(_)
+        | ReadRequest::WhichAccess(_)
+        | ReadRequest::GroupText(_)
+        | ReadRequest::Delete(_)
+        | ReadRequest::Glob(_)
+        | ReadRequest::Watch(_, _) => Ok(Items::new(alloc)),
     }
 }
 

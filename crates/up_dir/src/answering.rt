@@ -17,7 +17,7 @@ use up_adding::change;
 use up_changes::{Fetched, log_owner};
 use up_disk::Disk;
 use up_entry::EntryFault;
-use up_list::{Asked, asked_of};
+use up_list::{ReadRequest, asked_of};
 use up_names::User;
 use up_policy::Loaded;
 use up_snap::snap_asked;
@@ -93,7 +93,7 @@ pub fn step_asked<D: Disk>(
     alloc: Global,
     state: &mut TreeState<D>,
     user: &User,
-    asked: &Asked,
+    asked: &ReadRequest,
     loaded: &Loaded,
     fetched: &Fetched,
     now: u64,
@@ -126,7 +126,7 @@ fn step_by_owner<D: Disk>(
     alloc: Global,
     state: &mut TreeState<D>,
     user: &User,
-    asked: &Asked,
+    asked: &ReadRequest,
     loaded: &Loaded,
     fetched: &Fetched,
     now: u64,
@@ -171,7 +171,7 @@ fn step_in_tree<D: Disk>(
     alloc: Global,
     state: &mut TreeState<D>,
     user: &User,
-    asked: &Asked,
+    asked: &ReadRequest,
     loaded: &Loaded,
     fetched: &Fetched,
 ) -> Reply

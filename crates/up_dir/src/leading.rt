@@ -14,7 +14,7 @@ use std::alloc::{AllocError, Global};
 use std::hash::RandomState;
 use up_changes::{Fetched, delete_record, put_record};
 use up_entry::Rec;
-use up_list::{Asked, TreeLook, glob_for, group_text, lookup, which_access};
+use up_list::{ReadRequest, TreeLook, glob_for, group_text, lookup, which_access};
 use up_names::{Path, User};
 use up_nodes::MemTree;
 use up_policy::Loaded;
@@ -33,7 +33,7 @@ pub(crate) fn led_in(
     loaded: &Loaded,
     fetched: &Fetched,
     user: &User,
-    asked: &Asked,
+    asked: &ReadRequest,
 ) -> Result<Led, AllocError>
     requires owned { owner_asked asked.now ≡ tree.now.owner }
     requires formed { IsFormed asked.now }
@@ -43,15 +43,21 @@ pub(crate) fn led_in(
 {
     let look = TreeLook::new(tree, loaded, user);
     match asked {
-        Asked::Lookup(path) => Ok(Err(lookup(alloc, &look, path)?)),
-        Asked::WhichAccess(path) => Ok(Err(which_access(alloc, &look, path)?)),
-        Asked::GroupText(path) => Ok(Err(text_alone(alloc, loaded.random(), tree, user, path)?)),
-        Asked::Glob(pattern) => Ok(Err(glob_for(alloc, &look, pattern)?)),
-        Asked::Watch(path, sequence) => {
+        ReadRequest::Lookup(path) => Ok(Err(lookup(alloc, &look, path)?)),
+        ReadRequest::WhichAccess(path) => Ok(Err(which_access(alloc, &look, path)?)),
+        ReadRequest::GroupText(path) => Ok(Err(text_alone(
+            alloc,
+            loaded.random(),
+            tree,
+            user,
+            path,
+        )?)),
+        ReadRequest::Glob(pattern) => Ok(Err(glob_for(alloc, &look, pattern)?)),
+        ReadRequest::Watch(path, sequence) => {
             Ok(Err(watch_in(alloc, tree, loaded, user, path, *sequence)?))
         }
-        Asked::Delete(path) => delete_record(alloc, tree, loaded, user, path),
-        Asked::Put(put) => put_record(alloc, tree, loaded, user, fetched.as_slice(), put),
+        ReadRequest::Delete(path) => delete_record(alloc, tree, loaded, user, path),
+        ReadRequest::Put(put) => put_record(alloc, tree, loaded, user, fetched.as_slice(), put),
     }
 }
 

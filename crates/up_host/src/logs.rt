@@ -7,7 +7,7 @@ use up_calls::{Logs, Turn, read_block, read_text, try_keys, try_store, try_tree}
 use up_dir::Fetched;
 use up_disk::Disk;
 use up_entry::Fetch;
-use up_list::Asked;
+use up_list::ReadRequest;
 use up_names::{Path, User};
 use up_policy::{LoadAnswer, Loaded};
 use up_refs::Reference;
@@ -62,7 +62,7 @@ impl<D: Disk> Logs for Host<D> {
         owner: &User,
         user: &User,
         request: &Request,
-        asked: &Asked,
+        asked: &ReadRequest,
         loaded: &Loaded,
         fetched: &Fetched,
         now: u64,

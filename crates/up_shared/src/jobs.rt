@@ -16,7 +16,7 @@ use up_dir::Fetched;
 use up_disk::Disk;
 use up_entry::Fetch;
 use up_keys::Keys;
-use up_list::Asked;
+use up_list::ReadRequest;
 use up_names::{Path, User};
 use up_policy::{LoadAnswer, Loaded};
 use up_refs::Reference;
@@ -29,7 +29,7 @@ pub(crate) struct TryTree<'a> {
     pub(crate) alloc: Global,
     pub(crate) user: &'a User,
     pub(crate) request: &'a Request,
-    pub(crate) asked: &'a Asked,
+    pub(crate) asked: &'a ReadRequest,
     pub(crate) loaded: &'a Loaded,
     pub(crate) fetched: &'a Fetched,
     pub(crate) now: u64,
