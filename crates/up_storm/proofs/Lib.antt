@@ -1,2 +1,7 @@
 pub mod Names
+pub mod Asking
 pub mod Running
+pub mod Beginning
+pub mod Saying
+pub mod OpeningLemmas
+pub mod PreparingLemmas

@@ -24,10 +24,11 @@ is_fault reply.Io = true
 is_fault reply.OutOfMemory = true
 is_fault other = false
 
--- One session: its seats at the host, its user, the number from which its next request is drawn, what it will print, its replies by their
+-- One session: its seats at the host, whom it asks for groups of other owners, its user, the number from which its next request is drawn, what it will print, its replies by their
 -- kinds, and whether a disk failed it or memory was wanting.
-pub record Session (D : Type 0) : Type 0 where
+pub record Session (D L : Type 0) : Type 0 where
   pub seats : Seats D
+  pub peers : L
   pub user : UserName
   pub number : ℕ
   pub text : Text
@@ -35,17 +36,15 @@ pub record Session (D : Type 0) : Type 0 where
   pub failed : Bool
 
 -- what it says once it has ended
-abbrev pub said_of : {D : Type 0} → Session D → Said
+abbrev pub said_of : {D L : Type 0} → Session D L → Said
 said_of w = record { text = w.text; tally = w.tally }
 
-module _ {D L : Type 0} (loader : Ghosts L) (none : L) (shared : Shared D) where
-  -- A caller's request was answered at one point of its log, not before anything that its seats had seen of it; at moment 0, and with
-  -- nobody to ask for groups of other owners.
-  pub record IsAnswered (a : Seats D) (q : Question) (event : Event) (b : Seats D) : Type 0 where
-    pub after : L
-    pub asked : Asked loader shared.operator (views_of a) none q event (views_of b) after
+module _ {D L : Type 0} (loader : Ghosts L) (shared : Shared D) where
+  -- A caller's request was answered at one point of its log, not before anything that its seats had seen of it, at moment 0.
+  pub record IsAnswered (a : Seats D) (old : L) (q : Question) (event : Event) (b : Seats D) (new : L) : Type 0 where
+    pub asked : Asked loader shared.operator (views_of a) old q event (views_of b) new
     pub looked : Leaves (λ log n. HasLooked log n a b) (views_of a) q event
-    pub risen : Risen (λ log. HasFailed log a b) (loader.faults none) (loader.faults after) q event
+    pub risen : Risen (λ log. HasFailed log a b) (loader.faults old) (loader.faults new) q event
     pub rounds : LoadsInRounds (views_of a) (views_of b) q event
     pub alike : TellsNoMore (views_of b) q event
     pub later : SeatsLater a b
@@ -53,9 +52,9 @@ module _ {D L : Type 0} (loader : Ghosts L) (none : L) (shared : Shared D) where
 
   -- Session k asked its next request: that which the generator's next number draws. No disk failed, and what is printed of it and how the
   -- reply is counted is told.
-  pub record HasAsked (full : Bool) (k : ℕ) (v w : Session D) : Type 0 where
+  pub record HasAsked (full : Bool) (k : ℕ) (v w : Session D L) : Type 0 where
     pub event : Event
-    pub answered : IsAnswered v.seats (record { user = v.user; request = request_of k (drawn_of (next_number v.number)) }) event w.seats
+    pub answered : IsAnswered v.seats v.peers (record { user = v.user; request = request_of k (drawn_of (next_number v.number)) }) event w.seats w.peers
     pub sound : is_fault event.reply ≡ false
     pub user : w.user ≡ v.user
     pub number : w.number ≡ next_number v.number
@@ -64,6 +63,6 @@ module _ {D L : Type 0} (loader : Ghosts L) (none : L) (shared : Shared D) where
     pub failed : w.failed ≡ v.failed
 
   -- Session k asked so many requests, one after the other: each begins with what the one before it left.
-  abbrev pub HasRun : Bool → ℕ → ℕ → Session D → Session D → Type 0
+  abbrev pub HasRun : Bool → ℕ → ℕ → Session D L → Session D L → Type 0
   HasRun full k zero v w = w ≡ v
-  HasRun full k (suc n) v w = (between : Session D) × HasAsked full k v between × HasRun full k n between w
+  HasRun full k (suc n) v w = (between : Session D L) × HasAsked full k v between × HasRun full k n between w

@@ -66,6 +66,7 @@ fn read_log<D: Disk>(
 }
 
 // Adds all records of a log, each with its position.
+#[tactic(auto, using(crate::proofs::Saying::records_next, crate::proofs::Saying::records_all))]
 fn say_records<D: Disk>(
     alloc: Global,
     out: &mut Vec<u8>,

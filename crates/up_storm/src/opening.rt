@@ -57,7 +57,7 @@ fn owners(alloc: Global) -> Result<Items<User>, AllocError>
 }
 
 // An empty disk for each tree, for the store and for the keys.
-#[tactic(auto, using(up_disk::proofs::BlankLemmas::all_more))]
+#[tactic(auto, using(crate::proofs::OpeningLemmas::blank_more))]
 fn empty_disks(alloc: Global) -> Result<Disks<MemDisk>, AllocError>
     ensures four { IfOk result (λ disks. length disks.disks ≡ 4) }
     ensures blank { IfOk result (λ disks.

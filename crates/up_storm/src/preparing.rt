@@ -8,6 +8,7 @@ ghost use Rattle.up_storm.specs.Preparing.{AddsWanted, HasAskedAll, HasPrepared,
 use crate::opening::open_host;
 use crate::requests::put_of;
 use crate::session::is_fault;
+use crate::sessions::Nobody;
 use crate::sign_on::sign_on;
 use crate::texts::{FIRST_OWNER, SECOND_OWNER, access_text, directory_text, owner_text};
 use std::alloc::{AllocError, Global};
@@ -40,24 +41,30 @@ pub(crate) fn prepared(
 }
 
 // Asks all that prepares a host.
+#[tactic(auto, using(crate::proofs::PreparingLemmas::adds_whole, crate::proofs::PreparingLemmas::wanted_moments))]
 fn prepare(alloc: Global, host: &mut Host<MemDisk>, sessions: u64) -> Result<(), AllocError>
     ensures { OnOk result (HasPrepared ⟦<MemDisk as Disk>⟧ ⟦<PeerList<RefusingPeer> as Loader>⟧ [] sessions
         host.old host.new) }
 {
     let calls = preparing(alloc, sessions)?;
-    let asked = ask_calls(alloc, host, &calls);
+    let mut peers = Nobody::new(alloc);
+    let asked = ask_calls(alloc, host, &mut peers, &calls);
     drop(calls);
     asked
 }
 
 // Asks calls. An `Err` is a disk that failed, or want of memory.
-fn ask_calls(alloc: Global, host: &mut Host<MemDisk>, calls: &[Call]) -> Result<(), AllocError>
+fn ask_calls<D: Disk, L: Loader>(
+    alloc: Global,
+    host: &mut Host<D>,
+    peers: &mut L,
+    calls: &[Call],
+) -> Result<(), AllocError>
     requires { AllByRecursion (λ call. call.moment < 253402207200) calls.now }
-    ensures { OnOk result (HasAskedAll ⟦<MemDisk as Disk>⟧ ⟦<PeerList<RefusingPeer> as Loader>⟧ [] host.old
-        calls.now host.new) }
+    ensures { OnOk result (HasAskedAll D.Disk L.Loader peers.old host.old calls.now
+        host.new) }
 {
-    let mut peers = PeerList::<RefusingPeer>::new(alloc);
-    let events = ask_all(alloc, host, &mut peers, calls)?;
+    let events = ask_all(alloc, host, peers, calls)?;
     if any_fault(events.as_slice()) {
         drop(events);
         return Err(AllocError);
@@ -73,6 +80,7 @@ fn any_fault(events: &[Event]) -> bool
 }
 
 // All calls that prepare a host for so many sessions.
+#[tactic(auto, using(crate::proofs::PreparingLemmas::adds_then))]
 fn preparing(alloc: Global, sessions: u64) -> Result<Vec<Call>, AllocError>
     ensures { IfOk result (λ calls. AddsWanted (preparing sessions) [] calls.items) }
 {
@@ -83,6 +91,7 @@ fn preparing(alloc: Global, sessions: u64) -> Result<Vec<Call>, AllocError>
 }
 
 // Both owners put the roots of their trees.
+#[tactic(auto, using(crate::proofs::PreparingLemmas::adds_then))]
 fn add_roots(alloc: Global, calls: &mut Vec<Call>) -> Result<(), AllocError>
     ensures { OnOk result (AddsWanted roots calls.old.items calls.new.items) }
 {
@@ -109,6 +118,7 @@ fn joined(alloc: Global, text: &[u8], more: &[u8]) -> Result<Bytes, AllocError>
 }
 
 // What prepares each session in turn.
+#[tactic(auto, using(crate::proofs::PreparingLemmas::adding_none, crate::proofs::PreparingLemmas::adding_next, crate::proofs::PreparingLemmas::adding_all))]
 fn add_sessions(alloc: Global, calls: &mut Vec<Call>, sessions: u64) -> Result<(), AllocError>
     ensures { OnOk result (AddsWanted (prepares_from 0 sessions) calls.old.items calls.new.items) }
 {
@@ -119,6 +129,7 @@ fn add_sessions(alloc: Global, calls: &mut Vec<Call>, sessions: u64) -> Result<(
 }
 
 // What prepares session `k`.
+#[tactic(auto, using(crate::proofs::PreparingLemmas::adds_then))]
 fn add_session(alloc: Global, calls: &mut Vec<Call>, k: u64) -> Result<(), AllocError>
     ensures { OnOk result (AddsWanted (prepares k) calls.old.items calls.new.items) }
 {
@@ -204,6 +215,7 @@ fn add_put(
 }
 
 // A request by whoever has this name.
+#[tactic(auto, using(crate::proofs::PreparingLemmas::adds_one))]
 fn add(
     alloc: Global,
     calls: &mut Vec<Call>,

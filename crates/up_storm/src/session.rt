@@ -18,7 +18,7 @@ use up_calls::Event;
 use up_command::{say_numbered, say_reply};
 use up_disk::Disk;
 use up_ends::Gate;
-use up_peer::{Loader, PeerList, RefusingPeer};
+use up_peer::Loader;
 use up_shared::{Seats, Shared};
 use up_sign::Session;
 use up_wire::Reply;
@@ -26,9 +26,10 @@ use up_wire::Reply;
 /// One session: its seats at the shared host, who signed on, the number from which its next request is drawn, what it will print, and its
 /// replies by their kinds.
 #[derive(Drop)]
-pub struct Worker<D: Disk + Drop> {
+pub struct Worker<D: Disk + Drop, L: Loader + Drop> {
     alloc: Global,
-    pub(crate) seats: Seats<D>,
+    seats: Seats<D>,
+    peers: L,
     session: Session,
     number: u64,
     text: Vec<u8>,
@@ -43,13 +44,14 @@ pub struct Said {
     pub tally: Tally,
 }
 
-impl<D: Disk + Drop> Model for Worker<D> {
+impl<D: Disk + Drop, L: Loader + Drop> Model for Worker<D, L> {
     ghost use Rattle.up_storm.specs.Sessions.{Session as OneSession};
 
-    ghost Value = { OneSession D };
+    ghost Value = { OneSession D L };
 
     ghost view = { λ worker. record {
       seats = worker.seats;
+      peers = worker.peers;
       user = worker.session.user;
       number = worker.number;
       text = worker.text.items;
@@ -58,11 +60,18 @@ impl<D: Disk + Drop> Model for Worker<D> {
     } };
 }
 
-impl<D: Disk + Drop> Worker<D> {
+impl<D: Disk + Drop, L: Loader + Drop> Worker<D, L> {
     /// A session that has asked nothing yet.
-    pub fn new(alloc: Global, seats: Seats<D>, session: Session, number: u64) -> Worker<D>
+    pub fn new(
+        alloc: Global,
+        seats: Seats<D>,
+        peers: L,
+        session: Session,
+        number: u64,
+    ) -> Worker<D, L>
         ensures { result ≡ record {
           seats = seats;
+          peers = peers;
           user = session.user;
           number = number;
           text = [];
@@ -73,6 +82,7 @@ impl<D: Disk + Drop> Worker<D> {
         Worker {
             alloc,
             seats,
+            peers,
             session,
             number,
             text: Vec::new(alloc),
@@ -96,6 +106,7 @@ impl<D: Disk + Drop> Worker<D> {
         let Worker {
             alloc: _,
             seats,
+            peers: _,
             session: _,
             number: _,
             text,
@@ -108,7 +119,7 @@ impl<D: Disk + Drop> Worker<D> {
 
     /// Asks so many requests as session `k`, one after the other, each between the gate's two calls. It stops where a disk fails, or
     /// memory is wanting.
-    #[tactic(auto, using(crate::proofs::Running::running_none, crate::proofs::Running::running_next, crate::proofs::Running::running_all))]
+    #[tactic(auto, using(crate::proofs::Running::running_none, crate::proofs::Running::running_next, crate::proofs::Running::running_all, up_shared::specs::Callers::seats_same, up_shared::specs::Callers::seats_trans))]
     pub fn run<R: Wait, G: Gate>(
         &mut self,
         rt: &R,
@@ -126,7 +137,7 @@ impl<D: Disk + Drop> Worker<D> {
         ensures later { SeatsLater self.old.seats self.new.seats }
         ensures few { IsFew requests self.new.tally }
         ensures ran { self.new.failed ≡ false
-            → HasRun ⟦<PeerList<RefusingPeer> as Loader>⟧ [] shared.now full k requests self.old self.new }
+            → HasRun L.Loader shared.now full k requests self.old self.new }
     {
         for call in 0..requests {
             gate.enter(k, call);
@@ -140,6 +151,7 @@ impl<D: Disk + Drop> Worker<D> {
     }
 
     // Asks the next request. An `Err` is a disk that failed, or want of memory.
+    #[tactic(auto, using(crate::proofs::Asking::asked_noted))]
     fn ask<R: Wait>(
         &mut self,
         rt: &R,
@@ -153,18 +165,53 @@ impl<D: Disk + Drop> Worker<D> {
         ensures sits { AreSeats shared.now self.new.seats }
         ensures later { SeatsLater self.old.seats self.new.seats }
         ensures asked { OnOk result
-            (HasAsked ⟦<PeerList<RefusingPeer> as Loader>⟧ [] shared.now full k self.old self.new) }
+            (HasAsked L.Loader shared.now full k self.old self.new) }
         ensures failed { self.new.failed ≡ self.old.failed }
         ensures few { total self.new.tally ≤ total self.old.tally + 1 }
     {
-        let alloc = self.alloc;
         let number = next_number(self.number);
         let draw = drawn_of(number);
-        let event = answer(alloc, rt, shared, &mut self.seats, &self.session, k, draw)?;
+        let event = self.answer(rt, shared, k, draw)?;
         self.number = number;
         let noted = self.note(full, k, draw, &event);
         drop(event);
         noted
+    }
+
+    // The answer to what the session asks by a draw.
+    #[tactic(auto, using(crate::proofs::Asking::answered, up_shared::specs::Callers::seats_same))]
+    fn answer<R: Wait>(
+        &mut self,
+        rt: &R,
+        shared: &Shared<D>,
+        k: u64,
+        draw: Draw,
+    ) -> Result<Event, AllocError>
+        requires sits { AreSeats shared.now self.old.seats }
+        requires number { k + 2 < 2 ^ 64 }
+        ensures sits { AreSeats shared.now self.new.seats }
+        ensures later { SeatsLater self.old.seats self.new.seats }
+        ensures answered { IfOk result (λ event. IsAnswered L.Loader shared.now
+            self.old.seats self.old.peers
+            (record { user = self.old.user; request = request_of k draw }) event
+            self.new.seats self.new.peers) }
+        ensures rest { self.new ≡ record self.old {
+          seats = self.new.seats;
+          peers = self.new.peers;
+        } }
+    {
+        let request = request_of(self.alloc, k, draw)?;
+        let event = shared.ask(
+            rt,
+            self.alloc,
+            &mut self.seats,
+            &mut self.peers,
+            &self.session,
+            &request,
+            0,
+        );
+        drop(request);
+        Ok(event)
     }
 
     // Notes what came of a request: for printing, and for the counts.
@@ -176,6 +223,7 @@ impl<D: Disk + Drop> Worker<D> {
         ensures tally { OnOk result (self.new.tally ≡ counted self.old.tally event.now.reply) }
         ensures few { total self.new.tally ≤ total self.old.tally + 1 }
         ensures seats { self.new.seats ≡ self.old.seats }
+        ensures peers { self.new.peers ≡ self.old.peers }
         ensures user { self.new.user ≡ self.old.user }
         ensures number { self.new.number ≡ self.old.number }
         ensures failed { self.new.failed ≡ self.old.failed }
@@ -189,28 +237,6 @@ impl<D: Disk + Drop> Worker<D> {
         }
         Ok(())
     }
-}
-
-// The answer to what a session asks by a draw. Nobody is asked for the groups of other owners.
-fn answer<D: Disk + Drop, R: Wait>(
-    alloc: Global,
-    rt: &R,
-    shared: &Shared<D>,
-    seats: &mut Seats<D>,
-    session: &Session,
-    k: u64,
-    draw: Draw,
-) -> Result<Event, AllocError>
-    requires sits { AreSeats shared.now seats.old }
-    requires number { k + 2 < 2 ^ 64 }
-    ensures sits { AreSeats shared.now seats.new }
-    ensures later { SeatsLater seats.old seats.new }
-    ensures answered { IfOk result (λ event. IsAnswered ⟦<PeerList<RefusingPeer> as Loader>⟧ [] shared.now seats.old
-        (record { user = session.now.user; request = request_of k draw }) event seats.new) }
-{
-    let request = request_of(alloc, k, draw)?;
-    let mut peers = PeerList::<RefusingPeer>::new(alloc);
-    Ok(shared.ask(rt, alloc, seats, &mut peers, session, &request, 0))
 }
 
 /// Whether a disk failed, or memory was wanting.
