@@ -5,3 +5,4 @@ pub mod Beginning
 pub mod Saying
 pub mod OpeningLemmas
 pub mod PreparingLemmas
+pub mod StormLemmas

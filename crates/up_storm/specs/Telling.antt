@@ -74,9 +74,13 @@ log_text owner log = ended (codes "log " ++ owner) ++ records_text 0 log
 
 -- ---- the summary
 
--- `TREE records N rows M`: how many records the log has, and how many items the tree that it gives
+-- `TREE records N rows M`
+abbrev pub numbers_line : Text → ℕ → ℕ → Text
+numbers_line owner records rows = ended (owner ++ (codes " records " ++ (decimal records ++ (codes " rows " ++ decimal rows))))
+
+-- how many records a tree's log has, and how many items the tree that it gives
 abbrev pub tree_line : Text → List Rec → Text
-tree_line owner log = ended (owner ++ (codes " records " ++ (decimal (length log) ++ (codes " rows " ++ decimal (length (tree_of log))))))
+tree_line owner log = numbers_line owner (length log) (length (tree_of log))
 
 -- `ok N notexist N private N`
 abbrev pub tally_line : Tally → Text

@@ -1,6 +1,8 @@
 //! `upspin storm`: sessions at once over one shared host, and what came of them.
-ghost use Rattle.std.specs.Prelude.{◌≡◌, ◌≢◌, ◌<◌, ◌≤◌, [], ◌∷◌, None, length, map, IfOk, IfSome, string_bytes};
+ghost use Rattle.std.specs.Prelude.{◌≡◌, ◌≢◌, ◌<◌, ◌≤◌, [], ◌∷◌, None, length, map, true, IfOk, IfSome, string_bytes};
 ghost use Rattle.std.specs.Io.KnownBytes.{Appends};
+ghost use Rattle.std.specs.List.{AllByRecursion};
+ghost use Rattle.up_entry.specs.declared.records.Rec.{Rec};
 ghost use Rattle.up_command.specs.Statuses.{AnswersWith, IsOneOf, code_of, usage_line};
 ghost use Rattle.up_ends.specs.Writing.{WritesPart};
 ghost use Rattle.up_lists.specs.Counts.{HasCause, Rose, StaysUnless};
@@ -9,6 +11,7 @@ ghost use Rattle.up_storm.specs.Logs.{IsLogRead};
 ghost use Rattle.up_storm.specs.Plans.{is_within, plan_of};
 ghost use Rattle.up_storm.specs.Seating.{HasEnded, IsRead};
 ghost use Rattle.up_storm.specs.Storms.{HasTold, IsStorm, Means};
+ghost use Rattle.up_storm.specs.Telling.{IsFew};
 
 use crate::logs::{LogRead, ReadLog};
 use crate::plan::{Plan, plan_of};
@@ -109,7 +112,7 @@ fn print<K: Sink>(sink: &mut K, text: &[u8]) -> Status
 }
 
 /// The text of a storm, whose sessions run in at most so many threads. An `Err` is want of memory, also of a disk in memory.
-pub(crate) fn storm<R: Threads + Wait + Sync, G: Gate + Sync>(
+pub fn storm<R: Threads + Wait + Sync, G: Gate + Sync>(
     rt: &R,
     alloc: Global,
     random: RandomState,
@@ -135,6 +138,7 @@ pub(crate) fn storm<R: Threads + Wait + Sync, G: Gate + Sync>(
 }
 
 // Runs all sessions to their end, and gives what they say. The seats take in theirs.
+#[tactic(auto, using(crate::proofs::StormLemmas::has_ended))]
 fn end_all<R: Threads + Wait + Sync, D: Disk + Drop + Send, G: Gate + Sync>(
     rt: &R,
     alloc: Global,
@@ -148,8 +152,11 @@ fn end_all<R: Threads + Wait + Sync, D: Disk + Drop + Send, G: Gate + Sync>(
     requires plan { is_within plan ≡ true }
     requires sits { AreSeats shared.now seats.old }
     ensures sits { AreSeats shared.now seats.new }
-    ensures ended { IfOk result (λ said. HasEnded ⟦<PeerList<RefusingPeer> as Loader>⟧ [] shared.now plan
-        seats.old seats.new said.items) }
+    ensures ended { IfOk result (λ said. HasEnded ⟦<PeerList<RefusingPeer> as Loader>⟧ [] shared.now
+        plan seats.old seats.new said.items) }
+    ensures number { IfOk result (λ said. length said.items ≤ 32) }
+    ensures few { IfOk result (λ said.
+        AllByRecursion (λ one. IsFew 4096 one.tally) said.items) }
 {
     let mut workers = begun(alloc, shared, seats, plan)?;
     run_all(rt, shared, gate, plan, threads, workers.as_mut_slice());
@@ -161,6 +168,7 @@ fn end_all<R: Threads + Wait + Sync, D: Disk + Drop + Send, G: Gate + Sync>(
 }
 
 // Reads both logs, and makes the text.
+#[tactic(auto, using(crate::proofs::StormLemmas::told_is))]
 fn tell<R: Wait, D: Disk + Drop>(
     rt: &R,
     alloc: Global,
@@ -172,6 +180,8 @@ fn tell<R: Wait, D: Disk + Drop>(
     requires plan { is_within plan ≡ true }
     requires sits { AreSeats shared.now seats.old }
     requires two { length shared.now.trees.items ≡ 2 }
+    requires number { length said.now ≤ 32 }
+    requires few { AllByRecursion (λ one. IsFew 4096 one.tally) said.now }
     ensures { IfOk result (λ text. HasTold plan seats.old said.now text.items) }
 {
     let first = read_tree(rt, alloc, shared, seats, 0, plan.full)?;
