@@ -2,7 +2,7 @@
 use Rattle.std.specs.Prelude.{Ok}
 use Rattle.std.proofs.Common.{◌≡◌, ℕ, false, ◌+◌, ◌-◌, ◌<◌, List, [], ◌∷◌, ◌++◌, length, refl, sym, ap, subst, ◌∙◌, append_assoc, append-nil, arith}
 use Rattle.std.specs.Prelude.{All, map}
-use Rattle.std.proofs.lemmas.List.Elements.{All-push}
+use Rattle.std.proofs.lemmas.List.Elements.{All-head, All-nil, All-push, All-tail}
 use Rattle.up_shared.specs.declared.shared.Seats.{Seats}
 use Rattle.up_shared.specs.declared.shared.Shared.{Shared}
 use Rattle.up_names.specs.Texts.{UserName}
@@ -16,9 +16,9 @@ use Rattle.up_storm.specs.Seating.{AreBegun, AreJoined, HasBegun}
 use Rattle.up_storm.specs.Sessions.{Session, said_of}
 use Rattle.up_storm.specs.declared.session.Said.{Said}
 
--- it holds of one more
-pub all_more : {X : Type 0} (P : X → Type 0) (xs : List X) (x : X) → All P xs → P x → All P (xs ++ x ∷ [])
-all_more P xs x = All-push P xs x
+length_push : {X : Type 0} (xs : List X) (x : X) → length (xs ++ x ∷ []) ≡ length xs + 1
+length_push [] x = refl
+length_push (y ∷ xs) x = let rest = length_push xs x in omega (arith, rest)
 
 -- so many were begun: whatever the others are, with these before them they are all
 pub record IsBeginning {D L : Type 0} (none : L) (seed : ℕ) (start : Seats D) (k : ℕ) (now : Seats D) (so_far : List (Session D L)) : Type 0 where
@@ -53,6 +53,20 @@ module _ {D L : Type 0} (none : L) (seed : ℕ) (start : Seats D) where
   pub beginning_all : (k : ℕ) (seats : Seats D) (so_far : List (Session D L)) → IsBeginning none seed start k seats so_far → AreBegun none seed 0 start so_far seats
   beginning_all k seats so_far h = subst (λ (vs : List (Session D L)). AreBegun none seed 0 start vs seats) (append-nil so_far) (h.goes [] seats refl)
 
+-- what holds of each session so far holds of one more
+pub none_each : {X : Type 0} (P : X → Type 0) → All P []
+none_each P = All-nil P
+
+module _ {D L : Type 0} (none : L) (shared : Shared D) (seed k : ℕ) (seats rest : Seats D) (before after : List (Session D L)) where
+  pub number_next : HasBegun none shared seed k seats before rest after → length before ≡ k → length after ≡ k + 1
+  number_next one long = ap (λ (vs : List (Session D L)). length vs) one.whole ∙ length_push before one.session ∙ ap (λ (n : ℕ). n + 1) long
+
+  pub each_next : HasBegun none shared seed k seats before rest after → All (λ (v : Session D L). AreSeats shared v.seats) before → All (λ (v : Session D L). AreSeats shared v.seats) after
+  each_next one each = subst (All (λ (v : Session D L). AreSeats shared v.seats)) (sym one.whole) (All-push (λ (v : Session D L). AreSeats shared v.seats) before one.session each one.sits)
+
+  pub fresh_next : HasBegun none shared seed k seats before rest after → All (λ (v : Session D L). v.tally ≡ none_counted) before → All (λ (v : Session D L). v.tally ≡ none_counted) after
+  fresh_next one each = subst (All (λ (v : Session D L). v.tally ≡ none_counted)) (sym one.whole) (All-push (λ (v : Session D L). v.tally ≡ none_counted) before one.session each one.begun.tally)
+
 -- these are left to be joined: whatever the seats are then, all are joined to the first ones
 pub record IsJoining {D L : Type 0} (start : Seats D) (all : List (Session D L)) (now : Seats D) (left : List (Session D L)) : Type 0 where
   pub goes : (end : Seats D) → AreJoined now left end → AreJoined start all end
@@ -61,20 +75,32 @@ module _ {D L : Type 0} (start : Seats D) (all : List (Session D L)) where
   pub joining_none : IsJoining start all start all
   joining_none = record { goes = λ end h. h }
 
-  pub joining_next : (seats both : Seats D) (left more : List (Session D L)) (w : Session D L) → IsJoining start all seats left → left ≡ w ∷ more
-      → AreBoth seats w.seats both → IsJoining start all both more
-  joining_next seats both left more w h is one = record {
-    goes = λ end rest. h.goes end (subst (λ (ws : List (Session D L)). AreJoined seats ws end) (sym is) (both, (one, rest)));
+  pub joining_next : (seats other both : Seats D) (left more : List (Session D L)) (w : Session D L) → IsJoining start all seats left → left ≡ w ∷ more
+      → other ≡ w.seats → AreBoth seats other both → IsJoining start all both more
+  joining_next seats other both left more w h is same one = record {
+    goes = λ end rest. h.goes end (subst (λ (ws : List (Session D L)). AreJoined seats ws end) (sym is) (both, (subst (λ (s : Seats D). AreBoth seats s both) same one, rest)));
   }
 
   pub joining_all : (seats : Seats D) (left : List (Session D L)) → IsJoining start all seats left → left ≡ [] → AreJoined start all seats
   joining_all seats left h is = h.goes seats (subst (λ (ws : List (Session D L)). AreJoined seats ws seats) (sym is) refl)
 
 -- what those said that were taken in, and what is left, make the whole
-pub said_next : {D L : Type 0} (said whole : List Said) (left more : List (Session D L)) (w : Session D L) → said ++ map (λ (v : Session D L). said_of v) left ≡ whole → left ≡ w ∷ more
-    → (said ++ said_of w ∷ []) ++ map (λ (v : Session D L). said_of v) more ≡ whole
-said_next {D} {L} said whole left more w h is =
-    append_assoc said (said_of w ∷ []) (map (λ (v : Session D L). said_of v) more) ∙ ap (λ (ws : List (Session D L)). said ++ map (λ (v : Session D L). said_of v) ws) (sym is) ∙ h
+pub said_next : {D L : Type 0} (said after whole : List Said) (one : Said) (left more : List (Session D L)) (w : Session D L) → said ++ map (λ (v : Session D L). said_of v) left ≡ whole → left ≡ w ∷ more
+    → one ≡ said_of w → after ≡ said ++ one ∷ [] → after ++ map (λ (v : Session D L). said_of v) more ≡ whole
+said_next {D} {L} said after whole one left more w h is same pushed =
+    ap (λ (xs : List Said). xs ++ map (λ (v : Session D L). said_of v) more) (pushed ∙ ap (λ (x : Said). said ++ x ∷ []) same)
+    ∙ append_assoc said (said_of w ∷ []) (map (λ (v : Session D L). said_of v) more) ∙ ap (λ (ws : List (Session D L)). said ++ map (λ (v : Session D L). said_of v) ws) (sym is) ∙ h
 
 pub said_all : {D L : Type 0} (said whole : List Said) (left : List (Session D L)) → said ++ map (λ (v : Session D L). said_of v) left ≡ whole → left ≡ [] → said ≡ whole
 said_all {D} {L} said whole left h is = sym (ap (λ (ws : List (Session D L)). said ++ map (λ (v : Session D L). said_of v) ws) is ∙ append-nil said) ∙ h
+
+-- the seats of the next one, and of those behind it
+pub next_sits : {D L : Type 0} (shared : Shared D) (left more : List (Session D L)) (w : Session D L) (other : Seats D) → All (λ (v : Session D L). AreSeats shared v.seats) left → left ≡ w ∷ more
+    → other ≡ w.seats → AreSeats shared other
+next_sits {D} {L} shared left more w other each is same =
+    subst (AreSeats shared) (sym same) (All-head (λ (v : Session D L). AreSeats shared v.seats) w more (subst (All (λ (v : Session D L). AreSeats shared v.seats)) is each))
+
+pub more_sit : {D L : Type 0} (shared : Shared D) (left more : List (Session D L)) (w : Session D L) → All (λ (v : Session D L). AreSeats shared v.seats) left → left ≡ w ∷ more
+    → All (λ (v : Session D L). AreSeats shared v.seats) more
+more_sit {D} {L} shared left more w each is =
+    All-tail (λ (v : Session D L). AreSeats shared v.seats) w more (subst (All (λ (v : Session D L). AreSeats shared v.seats)) is each)

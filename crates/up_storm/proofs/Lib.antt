@@ -5,4 +5,5 @@ pub mod Beginning
 pub mod Saying
 pub mod OpeningLemmas
 pub mod PreparingLemmas
+pub mod ReadingLemmas
 pub mod StormLemmas

@@ -25,7 +25,7 @@ use up_shared::{Seats, Shared};
 pub(crate) type Nobody = PeerList<RefusingPeer>;
 
 /// The sessions of a plan, each with seats that were split off from these.
-#[tactic(auto, using(crate::proofs::Beginning::beginning_none, crate::proofs::Beginning::beginning_next, crate::proofs::Beginning::beginning_all, crate::proofs::Beginning::all_more))]
+#[tactic(auto, using(crate::proofs::Beginning::beginning_none, crate::proofs::Beginning::beginning_next, crate::proofs::Beginning::beginning_all, crate::proofs::Beginning::none_each, crate::proofs::Beginning::number_next, crate::proofs::Beginning::each_next, crate::proofs::Beginning::fresh_next))]
 pub(crate) fn begun<D: Disk + Drop>(
     alloc: Global,
     shared: &Shared<D>,
@@ -114,7 +114,7 @@ pub(crate) fn any_failed<D: Disk + Drop, L: Loader + Drop>(workers: &[Worker<D, 
 }
 
 /// The seats take in those of all sessions. What the sessions say is left.
-#[tactic(auto, using(crate::proofs::Beginning::joining_none, crate::proofs::Beginning::joining_next, crate::proofs::Beginning::joining_all, crate::proofs::Beginning::said_next, crate::proofs::Beginning::said_all))]
+#[tactic(auto, using(crate::proofs::Beginning::joining_none, crate::proofs::Beginning::joining_next, crate::proofs::Beginning::joining_all, crate::proofs::Beginning::said_next, crate::proofs::Beginning::said_all, crate::proofs::Beginning::next_sits, crate::proofs::Beginning::more_sit))]
 pub(crate) fn join_all<D: Disk + Drop, L: Loader + Drop>(
     alloc: Global,
     shared: &Shared<D>,

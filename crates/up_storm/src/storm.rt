@@ -1,10 +1,12 @@
 //! `upspin storm`: sessions at once over one shared host, and what came of them.
-ghost use Rattle.std.specs.Prelude.{◌≡◌, ◌≢◌, ◌<◌, ◌≤◌, [], ◌∷◌, None, length, map, true, IfOk, IfSome, string_bytes};
+ghost use Rattle.std.specs.Prelude.{◌≡◌, ◌≢◌, ◌<◌, ◌≤◌, List, [], ◌∷◌, None, length, map, true, IfOk, IfSome, string_bytes};
 ghost use Rattle.std.specs.Io.KnownBytes.{Appends};
 ghost use Rattle.std.specs.List.{AllByRecursion};
 ghost use Rattle.up_entry.specs.declared.records.Rec.{Rec};
 ghost use Rattle.up_command.specs.Statuses.{AnswersWith, IsOneOf, code_of, usage_line};
 ghost use Rattle.up_ends.specs.Writing.{WritesPart};
+ghost use Rattle.up_cell.specs.Known.{Onward};
+ghost use Rattle.up_lists.specs.Begins.{Begins};
 ghost use Rattle.up_lists.specs.Counts.{HasCause, Rose, StaysUnless};
 ghost use Rattle.up_shared.specs.Sharing.{AreSeats};
 ghost use Rattle.up_storm.specs.Logs.{IsLogRead};
@@ -23,11 +25,13 @@ use std::alloc::{AllocError, Global};
 use std::hash::RandomState;
 use std::sync::Wait;
 use std::thread::Threads;
+use up_cell::{Cell, Seat};
 use up_command::{Status, usage};
 use up_disk::{Disk, MemDisk};
 use up_ends::{Gate, Sink, write_all};
 use up_peer::{Loader, PeerList, RefusingPeer};
 use up_shared::{Seats, Shared};
+use up_tree::TreeState;
 
 /// Runs `upspin storm`, whose words are `storm SEED SESSIONS REQUESTS` and perhaps `--full`: makes a host with two trees over disks in
 /// memory, runs so many sessions on it at once, each with its own seats and its own requests, which are drawn from the seed, and prints
@@ -74,6 +78,7 @@ pub fn storm_run<R: Threads + Wait + Sync, K: Sink, G: Gate + Sync>(
 }
 
 // Runs a storm, with a thread for each session, and prints what came of it.
+#[tactic(auto, using(crate::proofs::StormLemmas::means))]
 fn run_plan<R: Threads + Wait + Sync, K: Sink, G: Gate + Sync>(
     rt: &R,
     alloc: Global,
@@ -112,6 +117,7 @@ fn print<K: Sink>(sink: &mut K, text: &[u8]) -> Status
 }
 
 /// The text of a storm, whose sessions run in at most so many threads. An `Err` is want of memory, also of a disk in memory.
+#[tactic(auto, using(crate::proofs::StormLemmas::two_trees, crate::proofs::StormLemmas::is_storm))]
 pub fn storm<R: Threads + Wait + Sync, G: Gate + Sync>(
     rt: &R,
     alloc: Global,
@@ -138,7 +144,7 @@ pub fn storm<R: Threads + Wait + Sync, G: Gate + Sync>(
 }
 
 // Runs all sessions to their end, and gives what they say. The seats take in theirs.
-#[tactic(auto, using(crate::proofs::StormLemmas::has_ended))]
+#[tactic(auto, using(crate::proofs::StormLemmas::has_ended, crate::proofs::StormLemmas::few_said))]
 fn end_all<R: Threads + Wait + Sync, D: Disk + Drop + Send, G: Gate + Sync>(
     rt: &R,
     alloc: Global,
@@ -207,12 +213,29 @@ fn read_tree<R: Wait, D: Disk + Drop>(
     ensures read { IfOk result (λ read. (log : List Rec) × IsRead seats.old place log
         × IsLogRead full log read) }
 {
+    let cell = &shared.trees[place].cell;
+    read_log(rt, alloc, cell, &mut seats.trees[place].seat, full)
+}
+
+// Reads the log of a tree by a seat, which then has seen all of it.
+#[tactic(auto, using(crate::proofs::ReadingLemmas::read_by))]
+fn read_log<R: Wait, D: Disk + Drop>(
+    rt: &R,
+    alloc: Global,
+    cell: &Cell<TreeState<D>>,
+    seat: &mut Seat<TreeState<D>>,
+    full: bool,
+) -> Result<LogRead, AllocError>
+    requires { seat.old.cell ≡ cell.now }
+    ensures later { Onward seat.old seat.new }
+    ensures read { IfOk result (λ read. (log : List Rec) × Begins seat.old.seen log
+        × IsLogRead full log read) }
+{
     let mut job = ReadLog {
         alloc,
         full,
         read: Err(AllocError),
     };
-    let cell = &shared.trees[place].cell;
-    cell.lend(rt, &mut seats.trees[place].seat, &mut job);
+    cell.lend(rt, seat, &mut job);
     job.read
 }
