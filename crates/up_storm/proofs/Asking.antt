@@ -23,7 +23,13 @@ module _ {D L : Type 0} (loader : Ghosts L) (shared : Shared D) where
       → LoadsInRounds (views_of a) (views_of b) q event → TellsNoMore (views_of b) q event → SeatsLater a b → event.moment ≡ 0
       → IsAnswered loader shared a old q event b new
   answered a b old new q event asked looked risen rounds alike later moment = record {
-    asked = asked; looked = looked; risen = risen; rounds = rounds; alike = alike; later = later; moment = moment;
+    asked = asked;
+    looked = looked;
+    risen = risen;
+    rounds = rounds;
+    alike = alike;
+    later = later;
+    moment = moment;
   }
 
   -- v before the call, m once it was answered, w once it was noted

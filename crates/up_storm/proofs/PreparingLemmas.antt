@@ -40,8 +40,10 @@ adding_none sessions start =
 pub adding_next : (sessions : ℕ) (start before after : List Call) (k : ℕ) → k < sessions → IsAdding sessions start k before → AddsWanted (prepares k) before after → IsAdding sessions start (k + 1) after
 adding_next sessions start before after k less h one =
     let left : suc (sessions - (k + 1)) ≡ sessions - k = omega arith in
-    record { goes = λ end rest. h.goes end (subst (λ (n : ℕ). AddsWanted (prepares_from k n) before end) left
-        (adds_then (prepares k) (prepares_from (k + 1) (sessions - (k + 1))) before after end one rest)) }
+    record {
+      goes = λ end rest. h.goes end (subst (λ (n : ℕ). AddsWanted (prepares_from k n) before end) left
+          (adds_then (prepares k) (prepares_from (k + 1) (sessions - (k + 1))) before after end one rest));
+    }
 
 pub adding_all : (sessions : ℕ) (start now : List Call) → IsAdding sessions start sessions now → AddsWanted (prepares_from 0 sessions) start now
 adding_all sessions start now h =

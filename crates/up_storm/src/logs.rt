@@ -47,11 +47,7 @@ impl<D: Disk> Job<TreeState<D>> for ReadLog {
 }
 
 // What is printed of a log.
-fn read_log<D: Disk>(
-    alloc: Global,
-    state: &TreeState<D>,
-    full: bool,
-) -> Result<LogRead, AllocError>
+fn read_log<D: Disk>(alloc: Global, state: &TreeState<D>, full: bool) -> Result<LogRead, AllocError>
     ensures { IfOk result (IsLogRead full state.now.log) }
 {
     let mut text = Vec::new(alloc);
@@ -113,8 +109,7 @@ fn say_put(alloc: Global, out: &mut Vec<u8>, n: u64, entry: &Entry) -> Result<()
 }
 
 // The lines of the reply that has an entry.
-fn entry_lines(alloc: Global, entry: &Entry) -> Result<Items<Bytes>, AllocError>
-{
+fn entry_lines(alloc: Global, entry: &Entry) -> Result<Items<Bytes>, AllocError> {
     let reply = Reply::Ok(Done::Entry(entry.clone()?));
     let lines = reply_lines(alloc, &reply);
     drop(reply);

@@ -68,11 +68,7 @@ fn planned(seed: &str, sessions: &str, requests: &str, full: bool) -> Option<Pla
 fn bounded(plan: Plan) -> Option<Plan>
     ensures { result ≡ bounded plan }
 {
-    if is_within(&plan) {
-        Some(plan)
-    } else {
-        None
-    }
+    if is_within(&plan) { Some(plan) } else { None }
 }
 
 fn is_within(plan: &Plan) -> bool

@@ -216,12 +216,7 @@ fn add_put(
 
 // A request by whoever has this name.
 #[tactic(auto, using(crate::proofs::PreparingLemmas::adds_one))]
-fn add(
-    alloc: Global,
-    calls: &mut Vec<Call>,
-    who: &[u8],
-    request: Request,
-) -> Result<(), AllocError>
+fn add(alloc: Global, calls: &mut Vec<Call>, who: &[u8], request: Request) -> Result<(), AllocError>
     ensures { OnOk result (AddsWanted ((record { who = who.now; what = request }) ∷ [])
         calls.old.items calls.new.items) }
 {

@@ -78,14 +78,12 @@ fn begin<D: Disk + Drop>(
 }
 
 /// Runs all sessions at once, in at most so many threads; each has one of its own where there are as many.
-pub(crate) fn run_all<R: Threads + Wait + Sync, D: Disk + Drop + Send, L: Loader + Drop + Send, G: Gate + Sync>(
-    rt: &R,
-    shared: &Shared<D>,
-    gate: &G,
-    plan: Plan,
-    threads: usize,
-    workers: &mut [Worker<D, L>],
-)
+pub(crate) fn run_all<
+    R: Threads + Wait + Sync,
+    D: Disk + Drop + Send,
+    L: Loader + Drop + Send,
+    G: Gate + Sync,
+>(rt: &R, shared: &Shared<D>, gate: &G, plan: Plan, threads: usize, workers: &mut [Worker<D, L>])
     requires threads { 0 < threads }
     requires few { length workers.old ≤ 32 }
     requires requests { plan.requests ≤ 4096 }
@@ -101,9 +99,14 @@ pub(crate) fn run_all<R: Threads + Wait + Sync, D: Disk + Drop + Send, L: Loader
         → IsFew plan.requests (slice_index_or workers.new k d).tally }
     ensures number { length workers.new ≡ length workers.old }
 {
-    thread::for_each_mut(rt, workers, threads, &|k, worker: &mut Worker<D, L>| {
-        worker.run(rt, shared, gate, plan.full, k as u64, plan.requests)
-    });
+    thread::for_each_mut(
+        rt,
+        workers,
+        threads,
+        &|k, worker: &mut Worker<D, L>| {
+            worker.run(rt, shared, gate, plan.full, k as u64, plan.requests)
+        },
+    );
 }
 
 /// Whether a disk failed any of the sessions, or memory was wanting.
