@@ -13,7 +13,6 @@ use Rattle.up_storm.specs.Asked.{request_of}
 use Rattle.up_storm.specs.Generator.{drawn_of, next_number}
 use Rattle.up_storm.specs.Sessions.{HasAsked, IsAnswered, Session, is_fault}
 use Rattle.up_storm.specs.Telling.{counted, told}
-use Rattle.up_storm.specs.declared.generator.Draw.{Draw}
 
 module _ {D L : Type 0} (loader : Ghosts L) (shared : Shared D) where
   pub answered : (a b : Seats D) (old new : L) (q : Question) (event : Event)
@@ -33,25 +32,24 @@ module _ {D L : Type 0} (loader : Ghosts L) (shared : Shared D) where
   }
 
   -- v before the call, m once it was answered, w once it was noted
-  pub asked_noted : (full : Bool) (k number : ℕ) (draw : Draw) (v m w : Session D L) (event : Event)
-      → number ≡ next_number v.number → draw ≡ drawn_of number
-      → IsAnswered loader shared v.seats v.peers (record { user = v.user; request = request_of k draw }) event m.seats m.peers
+  pub asked_noted : (full : Bool) (k : ℕ) (v m w : Session D L) (event : Event)
+      → IsAnswered loader shared v.seats v.peers (record { user = v.user; request = request_of k (drawn_of (next_number v.number)) }) event m.seats m.peers
       → m ≡ record v { seats = m.seats; peers = m.peers }
       → is_fault event.reply ≡ false
-      → w.seats ≡ m.seats → w.peers ≡ m.peers → w.user ≡ m.user → w.number ≡ number
-      → w.text ≡ m.text ++ told full k draw event → w.tally ≡ counted m.tally event.reply → w.failed ≡ m.failed
+      → w.seats ≡ m.seats → w.peers ≡ m.peers → w.user ≡ m.user → w.number ≡ next_number v.number
+      → w.text ≡ m.text ++ told full k (drawn_of (next_number v.number)) event
+      → w.tally ≡ counted m.tally event.reply → w.failed ≡ m.failed
       → HasAsked loader shared full k v w
-  asked_noted full k number draw v m w event next drawn answered rest sound seats peers user is text tally failed =
-      let d : draw ≡ drawn_of (next_number v.number) = drawn ∙ ap drawn_of next in
+  asked_noted full k v m w event answered rest sound seats peers user number text tally failed =
+      let q : Question = record { user = v.user; request = request_of k (drawn_of (next_number v.number)) } in
       record {
         event = event;
-        answered = subst (λ (c : Draw). IsAnswered loader shared v.seats v.peers (record { user = v.user; request = request_of k c }) event w.seats w.peers) d
-            (subst (λ (s : Seats D). IsAnswered loader shared v.seats v.peers (record { user = v.user; request = request_of k draw }) event s w.peers) (sym seats)
-            (subst (λ (p : L). IsAnswered loader shared v.seats v.peers (record { user = v.user; request = request_of k draw }) event m.seats p) (sym peers) answered));
+        answered = subst (λ (s : Seats D). IsAnswered loader shared v.seats v.peers q event s w.peers) (sym seats)
+            (subst (λ (p : L). IsAnswered loader shared v.seats v.peers q event m.seats p) (sym peers) answered);
         sound = sound;
         user = user ∙ ap (λ (s : Session D L). s.user) rest;
-        number = is ∙ next;
-        text = text ∙ ap (λ (s : Session D L). s.text ++ told full k draw event) rest ∙ ap (λ (c : Draw). v.text ++ told full k c event) d;
+        number = number;
+        text = text ∙ ap (λ (s : Session D L). s.text ++ told full k (drawn_of (next_number v.number)) event) rest;
         tally = tally ∙ ap (λ (s : Session D L). counted s.tally event.reply) rest;
         failed = failed ∙ ap (λ (s : Session D L). s.failed) rest;
       }

@@ -47,7 +47,7 @@ module _ {D L : Type 0} (none : L) (seed : ℕ) (start : Seats D) where
   beginning_next shared k seats rest before after h one = record {
     goes = λ more left begun. subst (λ (vs : List (Session D L)). AreBegun none seed 0 start (vs ++ more) left) (sym one.whole)
         (subst (λ (vs : List (Session D L)). AreBegun none seed 0 start vs left) (sym (append_assoc before (one.session ∷ []) more))
-        (h.goes (one.session ∷ more) left (rest, (one.first, (one.second, (one.begun, begun))))));
+        (h.goes (one.session ∷ more) left (rest, one.first, one.second, one.begun, begun)));
   }
 
   pub beginning_all : (k : ℕ) (seats : Seats D) (so_far : List (Session D L)) → IsBeginning none seed start k seats so_far → AreBegun none seed 0 start so_far seats
@@ -78,7 +78,7 @@ module _ {D L : Type 0} (start : Seats D) (all : List (Session D L)) where
   pub joining_next : (seats other both : Seats D) (left more : List (Session D L)) (w : Session D L) → IsJoining start all seats left → left ≡ w ∷ more
       → other ≡ w.seats → AreBoth seats other both → IsJoining start all both more
   joining_next seats other both left more w h is same one = record {
-    goes = λ end rest. h.goes end (subst (λ (ws : List (Session D L)). AreJoined seats ws end) (sym is) (both, (subst (λ (s : Seats D). AreBoth seats s both) same one, rest)));
+    goes = λ end rest. h.goes end (subst (λ (ws : List (Session D L)). AreJoined seats ws end) (sym is) (both, subst (λ (s : Seats D). AreBoth seats s both) same one, rest));
   }
 
   pub joining_all : (seats : Seats D) (left : List (Session D L)) → IsJoining start all seats left → left ≡ [] → AreJoined start all seats

@@ -16,7 +16,7 @@ abbrev pub ReadOf : {E : Type 0} → Bool → List Rec → Result LogRead E → 
 ReadOf full seen read = IfOk read (λ r. (log : List Rec) × Begins seen log × IsLogRead full log r)
 
 read_from : {E : Type 0} (full : Bool) (seen log : List Rec) (read : Result LogRead E) → Begins seen log → IfOk read (IsLogRead full log) → ReadOf full seen read
-read_from full seen log (Ok r) begins told = (log, (begins, told))
+read_from full seen log (Ok r) begins told = (log, begins, told)
 read_from full seen log (Err e) begins told = told
 
 pub read_by : {D E J : Type 0} (faults : State D → ℕ) (full_of : J → Bool) (read_of : J → Result LogRead E) (job after : J) (v w : Known Rec (UserName × Limits))

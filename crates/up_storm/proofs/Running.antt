@@ -16,7 +16,7 @@ module _ {D L : Type 0} (loader : Ghosts L) (shared : Shared D) (full : Bool) (k
       → HasAsked loader shared full k before after → IsRunning loader shared full k requests start (turns + 1) after
   running_next start before after turns less running asked =
       let left : suc (requests - (turns + 1)) ≡ requests - turns = omega arith in
-      record { goes = λ end run. running.goes end (subst (λ (n : ℕ). HasRun loader shared full k n before end) left (after, (asked, run))) }
+      record { goes = λ end run. running.goes end (subst (λ (n : ℕ). HasRun loader shared full k n before end) left (after, asked, run)) }
 
   pub running_all : (start now : Session D L) → IsRunning loader shared full k requests start requests now → HasRun loader shared full k requests start now
   running_all start now running =

@@ -156,7 +156,7 @@ shared_length (t ∷ trees) (c ∷ cells) [] h = absurd h
 run_owners : {D L : Type 0} (disks : disk.Ghosts D) (loader : Ghosts L) (host : HostState D) (old : L) (calls : List (Called D)) (after : HostState D) (new : L) → IsRun disks loader host old calls after new
     → map owner_of after.trees ≡ map owner_of host.trees
 run_owners {D} disks loader host old [] after new h = ap (λ (s : HostState D). map owner_of s.trees) h.0
-run_owners disks loader host old (c ∷ calls) after new h = run_owners disks loader c.after h.0 calls after new h.1.1 ∙ h.1.0.stays.owners
+run_owners disks loader host old (c ∷ calls) after new h = run_owners disks loader c.after h.0 calls after new h.2 ∙ h.1.stays.owners
 
 pub two_trees : {D L : Type 0} (disks : disk.Ghosts D) (loader : Ghosts L) (none : L) (sessions : ℕ) (host : HostState D) (shared : Shared D) (seats : Seats D)
     → IsPrepared disks loader none sessions host → IsSharedHost host shared seats → length shared.trees.items ≡ 2
