@@ -1,6 +1,8 @@
 use Rattle.std.proofs.Common.{◌≤◌, sym, subst, arith}
 use Rattle.up_shared.specs.Callers.{seats_same, seats_trans}
 use Rattle.up_storm.proofs.Running.{running_next, running_none}
+use Rattle.up_shared.specs.Sharing.{SeatsLater}
+use Rattle.up_storm.specs.Sessions.{Session}
 use Rattle.up_storm.specs.Telling.{total}
 use Rattle.up_storm.proofs.session.Worker.run.Goals as goal
 
@@ -14,7 +16,8 @@ loop-call-init g c = record {
 
 pub returns-then-is_err-clause-later : goal.returns-then-is_err-clause-later
 returns-then-is_err-clause-later g c =
-    seats_trans c.args.self.now.seats c.loop-call.self.seats c.ask-asked.new.self.seats c.loop-call.invariant.later c.ask-asked.ensures.later
+    subst (λ (s : Session g.row.D.Denot g.row.L.Denot). SeatsLater c.args.self.now.seats s.seats) (sym c.self.view_is)
+    (seats_trans c.args.self.now.seats c.loop-call.self.seats c.ask-asked.new.self.seats c.loop-call.invariant.later c.ask-asked.ensures.later)
 
 pub loop-call-preserved : goal.loop-call-preserved
 loop-call-preserved g c =
