@@ -1,8 +1,17 @@
 -- How far a session is: what it has asked and what is left make the whole.
 use Rattle.std.proofs.Common.{◌≡◌, ℕ, suc, ◌+◌, ◌-◌, ◌<◌, Bool, refl, subst, arith}
+use Rattle.std.specs.Prelude.{OnOk, Result, Ok, Err, is_err, true, false}
 use Rattle.up_peer.specs.declared.loader.Loader.{Ghosts}
 use Rattle.up_shared.specs.declared.shared.Shared.{Shared}
 use Rattle.up_storm.specs.Sessions.{HasAsked, HasRun, Session}
+
+-- what holds of an Ok
+true_false : true ≡ false → ⊥
+true_false h = cc
+
+pub on_ok : {A E : Type 0} (r : Result A E) (P : Type 0) → is_err r ≡ false → OnOk r P → P
+on_ok (Ok a) P h k = k
+on_ok (Err e) P h k = absurd (true_false h)
 
 -- so many turns are done: whatever the others come to, with these before them it is the whole run
 pub record IsRunning {D L : Type 0} (loader : Ghosts L) (shared : Shared D) (full : Bool) (k requests : ℕ) (start : Session D L) (turns : ℕ) (now : Session D L) : Type 0 where

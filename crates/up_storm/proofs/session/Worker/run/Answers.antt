@@ -1,6 +1,6 @@
 use Rattle.std.proofs.Common.{◌≤◌, sym, subst, arith}
 use Rattle.up_shared.specs.Callers.{seats_same, seats_trans}
-use Rattle.up_storm.proofs.Running.{running_next, running_none}
+use Rattle.up_storm.proofs.Running.{on_ok, running_next, running_none}
 use Rattle.up_shared.specs.Sharing.{SeatsLater}
 use Rattle.up_storm.specs.Sessions.{Session}
 use Rattle.up_storm.specs.Telling.{total}
@@ -24,7 +24,7 @@ loop-call-preserved g c =
     let had = c.loop-call.invariant.few in
     let more = c.ask-asked.ensures.few in
     record {
-      running = running_next g.L.Loader c.args.shared.now c.args.full c.args.k c.args.requests c.args.self.now c.loop-call.self c.ask-asked.new.self c.loop-call.call c.loop-call-test.true c.loop-call.invariant.running search;
+      running = running_next g.L.Loader c.args.shared.now c.args.full c.args.k c.args.requests c.args.self.now c.loop-call.self c.ask-asked.new.self c.loop-call.call c.loop-call-test.true c.loop-call.invariant.running (on_ok c.ask-asked.result _ search c.ask-asked.ensures.asked);
       few = omega (arith, had, more);
       sits = c.ask-asked.ensures.sits;
       later = seats_trans c.args.self.now.seats c.loop-call.self.seats c.ask-asked.new.self.seats c.loop-call.invariant.later c.ask-asked.ensures.later;
