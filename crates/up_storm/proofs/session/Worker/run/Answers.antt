@@ -24,7 +24,7 @@ loop-call-preserved g c =
     let had = c.loop-call.invariant.few in
     let more = c.ask-asked.ensures.few in
     record {
-      running = running_next g.L.Loader c.args.shared.now c.args.full c.args.k c.args.requests c.args.self.now c.loop-call.self c.ask-asked.new.self c.loop-call.call c.loop-call-test.true c.loop-call.invariant.running (on_ok c.ask-asked.result _ search c.ask-asked.ensures.asked);
+      running = running_next g.L.Loader c.args.shared.now c.args.full c.args.k c.args.requests c.args.self.now c.loop-call.self c.ask-asked.new.self c.loop-call.call c.loop-call-test.true c.loop-call.invariant.running (on_ok c.ask-asked.result _ (sym c.if-is_err.ensures.value) c.ask-asked.ensures.asked);
       few = omega (arith, had, more);
       sits = c.ask-asked.ensures.sits;
       later = seats_trans c.args.self.now.seats c.loop-call.self.seats c.ask-asked.new.self.seats c.loop-call.invariant.later c.ask-asked.ensures.later;
