@@ -4,6 +4,7 @@ mod ends;
 mod files;
 mod folder;
 mod machine;
+mod pipes;
 mod server;
 mod sockets;
 mod streams;
