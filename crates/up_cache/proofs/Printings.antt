@@ -73,15 +73,18 @@ printed_as old now one two result same is = subst (λ text. PrintedAs old now te
 -- what is told of a file that was got
 pub file_line : (bytes : List ℕ) → codes "bytes " ++ (coded bytes ++ codes "\n") ≡ lines_text (got_lines (Ok bytes))
 unfolding reply_lines reply_words done_words further_words
-file_line bytes = sym (append_assoc (codes "bytes ") (coded bytes) (codes "\n")) ∙ sym (append-nil ((codes "bytes " ++ coded bytes) ++ codes "\n"))
+file_line bytes =
+    sym (append_assoc (codes "bytes ") (coded bytes) (codes "\n"))
+    ∙ ap (λ xs. xs ++ codes "\n") (ap (λ xs. codes "bytes" ++ codes " " ++ xs) (sym (append-nil (coded bytes))))
+    ∙ sym (append-nil ((codes "bytes " ++ (coded bytes ++ [])) ++ codes "\n"))
 
 -- a text of no byte, and of some
 empty_text : (text : Text) → length text ≡ 0 → text ≡ []
 empty_text [] none = refl
 empty_text (b ∷ text) none = absurd (omega (arith, none))
 
-pub coded_long : (text : Text) → (length text < 2 → ⊥) → flat_map coded_byte text ≡ coded text
-coded_long text long = sym (coded-other text (omega (arith, long)) (λ dash. long (let one = ap length dash in omega (arith, one))))
+pub coded_long : (text : Text) → 2 ≤ length text → flat_map coded_byte text ≡ coded text
+coded_long text long = sym (coded-other text (omega (arith, long)) (λ dash. let one : length text ≡ 1 = ap length dash in absurd (omega (arith, one, long))))
 
 -- a piece in which a byte is coded
 pub coded_some : (text : Text) → list_any is_coded text ≡ true → coded text ≡ flat_map coded_byte text
@@ -129,8 +132,11 @@ pieces_end old now bytes rest so none =
 -- ---- what came of getting a file
 
 -- a file that was got is told by its line
-pub told_file : (old now : Option Text) (bytes : List ℕ) (result : Result (Unit {0}) Stop) → PrintedAs old now (codes "bytes " ++ (coded bytes ++ codes "\n")) result → ToldAs old now (got_came (Ok bytes)) result
-told_file old now bytes result is = printed_as old now _ (lines_text (got_lines (Ok bytes))) result (file_line bytes) is
+pub told_file : (old now : Option Text) (got : Result (List ℕ) ClientFault) (bytes shown : List ℕ) (result : Result (Unit {0}) Stop) → got ≡ Ok bytes → shown ≡ bytes → PrintedAs old now (codes "bytes " ++ (coded shown ++ codes "\n")) result
+    → ToldAs old now (got_came got) result
+told_file old now got bytes shown result is same wrote =
+    let here : PrintedAs old now (lines_text (got_lines (Ok bytes))) result = printed_as old now (codes "bytes " ++ (coded shown ++ codes "\n")) (lines_text (got_lines (Ok bytes))) result (file_line shown ∙ ap (λ xs. lines_text (got_lines (Ok xs))) same) wrote in
+    subst (λ (r : Result (List ℕ) ClientFault). ToldAs old now (got_came r) result) (sym is) here
 
 -- any other fault than these two is told by its lines
 pub told_fault : (fault : ClientFault) → fault ≢ client.Failed → fault ≢ client.OutOfMemory → (old now : Option Text) (result : Result (Unit {0}) Stop) → PrintedAs old now (lines_text (got_lines (Err fault))) result → ToldAs old now (got_came (Err fault)) result

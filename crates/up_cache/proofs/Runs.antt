@@ -1,14 +1,16 @@
 -- Words that are done one after the other.
-use Rattle.std.proofs.Common.{◌≡◌, ◌≢◌, ◌≤◌, ◌<◌, ◌+◌, ◌⊎◌, inl, inr, ℕ, Bool, true, false, List, [], ◌∷◌, ◌++◌, length, take, drop, map, get_or, Option, Some, None, Result, Ok, Err, refl, sym, ap, subst, ◌∙◌, append_assoc, append-nil, arith}
-use Rattle.std.specs.Prelude.{codes, IsErrOf, IfSome}
+use Rattle.std.proofs.Common.{◌≡◌, ◌≢◌, ◌≤◌, ◌<◌, ◌+◌, ◌⊎◌, inl, inr, ℕ, Bool, true, false, List, [], ◌∷◌, ◌++◌, length, length-map, take, drop, map, get_or, zero, suc, Option, Some, None, Result, Ok, Err, refl, sym, ap, subst, ◌∙◌, append_assoc, append-nil, arith}
+use Rattle.std.specs.Prelude.{codes, IsErrOf, IfSome, string_bytes, if◌then◌else◌}
+use Rattle.std.specs.declared.string.String.{String}
 use Rattle.std.specs.Result.{result_ok}
 use Rattle.std.specs.Io.KnownBytes.{Appends}
 use Rattle.std.specs.List.{AllZip, flat_map}
 use Rattle.std.proofs.KnownBytes.{Appends-nil, Appends-trans}
 use Rattle.std.proofs.lemmas.Grind.{flat_map-append}
-use Rattle.std.proofs.lemmas.List.{drop_more, take_all, take_drop}
+use Rattle.std.proofs.lemmas.List.{drop_more, take-append-drop, take_all}
 use Rattle.up_ends.specs.Writing.{WritesPart}
 use Rattle.up_ends.proofs.Going.{WritesPart-all, WritesPart-none}
+use Rattle.up_lists.specs.Counts.{HasCause, Rose}
 use Rattle.up_lists.specs.Runs.{Run}
 use Rattle.up_lists.proofs.RunLemmas.{Run-append, Run-snoc, Run-taken}
 use Rattle.up_client.specs.Getting.{get_talk}
@@ -18,7 +20,7 @@ use Rattle.up_client.specs.declared.fault.ClientFault.TheVariants as client
 use Rattle.up_command.specs.Printed.{ended, got_lines}
 use Rattle.up_command.specs.Statuses.{IsOneOf}
 use Rattle.up_names.specs.PathNames.{PathName, path_of}
-use Rattle.up_names.specs.Texts.{Text}
+use Rattle.up_names.specs.Texts.{Text, UserName}
 use Rattle.up_wire.specs.declared.replies.Reply.{Reply}
 use Rattle.up_wire.specs.declared.requests.Request.{Request}
 use Rattle.up_cache.specs.Caching.{CachedAnswers, Caching, caching}
@@ -50,6 +52,21 @@ not_told old now (Ok did) stop.WriteFault told = inr (did, (refl, (told, λ e. c
 not_told old now (Ok did) stop.OutOfMemory told = inr (did, (refl, (told, λ e. cc)))
 not_told old now (Ok did) stop.AskFault told = absurd told
 not_told old now (Err other) why told = inl (ap (λ (w : Stop). Err w) (sym (same_stop why other told.0)), told.1)
+
+-- the bytes of strings
+get_map : (words : List String) (k : ℕ) (word : String) → get_or (map string_bytes words) k (string_bytes word) ≡ string_bytes (get_or words k word)
+get_map [] k word = refl
+get_map (first ∷ words) zero word = refl
+get_map (first ∷ words) (suc k) word = get_map words k word
+
+pub word_at : (words : List String) (k : ℕ) (word : String) (shown : Text) → shown ≡ string_bytes word → word ≡ get_or words k word → shown ≡ get_or (map string_bytes words) k shown
+word_at words k word shown is at = is ∙ ap string_bytes at ∙ sym (get_map words k word) ∙ ap (λ w. get_or (map string_bytes words) k w) (sym is)
+
+pub fewer_words : (words : List String) (k : ℕ) → k < length words → k < length (map string_bytes words)
+fewer_words words k below = let same = length-map string_bytes words in omega (arith, same, below)
+
+pub all_words : (words : List String) (k : ℕ) → length words ≤ k → length (map string_bytes words) ≤ k
+all_words words k above = let same = length-map string_bytes words in omega (arith, same, above)
 
 module _ {S : Type 0} (answers : S → Request → Option Reply → S → Type 0) where
   -- the first words were done
@@ -115,7 +132,7 @@ module _ {S : Type 0} (answers : S → Request → Option Reply → S → Type 0
       by (inl none) = record {
         done = take k words;
         rest = drop k words;
-        cut = take_drop k words;
+        cut = take-append-drop k words;
         dids = so.dids;
         last = b;
         run = so.run;
@@ -127,7 +144,7 @@ module _ {S : Type 0} (answers : S → Request → Option Reply → S → Type 0
           record {
             done = take (k + 1) words;
             rest = drop (k + 1) words;
-            cut = take_drop (k + 1) words;
+            cut = take-append-drop (k + 1) words;
             dids = so.dids ++ told.0 ∷ [];
             last = c;
             run = Run-taken (PathDoes answers) a b c words k word so.dids told.0 so.run below at does;
@@ -196,6 +213,12 @@ module _ {S : Type 0} (answers : S → Request → Option Reply → S → Type 0
     part = part_after old mid now (printed so.dids) (counts_line b.asked b.kept) so.written last;
   }
   copied_end old mid now a b words (Err stop.AskFault) so last = absurd last
+
+  -- the same by the counts that were told
+  pub copied_counted : (old mid now : Option Text) (a b : Caching S) (words : List Text) (asked kept : ℕ) (result : Result (Unit {0}) Stop) → Running (CachedAnswers answers) old mid a words b → asked ≡ b.asked → kept ≡ b.kept → PrintedAs mid now (counts_line asked kept) result
+      → Copied answers old now a words (code_by result) b
+  copied_counted old mid now a b words asked kept result so one two last =
+      copied_end old mid now a b words result so (subst (λ k. PrintedAs mid now (counts_line b.asked k) result) two (subst (λ n. PrintedAs mid now (counts_line n kept) result) one last))
 
   abbrev End : Caching S → List Text → Stop → Caching S → Type 0
   End last rest why b = Ends answers last rest (code_by (Err why)) [] b
@@ -308,3 +331,36 @@ module _ {S : Type 0} (answers : S → Request → Option Reply → S → Type 0
         kept = copied.last.kept;
         written = subst (λ tail. Appends old now (printed copied.dids ++ tail)) ends.1 (copied.whole (ap is_cut is));
       }
+
+-- ---- the command
+
+-- there was no memory to read the words
+pub none_copied : {S : Type 0} (answers : S → Request → Option Reply → S → Type 0) (found : Option UserName) (held : Option Text) (a : S) (words : List Text) (status : ℕ) → status ≡ 4 → IfSome found (λ user. CopiedOver answers held held a words status a)
+none_copied answers None held a words status is = tt
+none_copied answers (Some user) held a words status is = subst (λ n. CopiedOver answers held held a words n a) (sym is) (copied_none answers held a words)
+
+module _ {S : Type 0} (answers : S → Request → Option Reply → S → Type 0) (found : Option UserName) (user : UserName) (is : found ≡ Some user) (old now : Option Text) (a b : S) (words paths : List Text) (same : words ≡ paths)
+    (status code : ℕ) (coded : status ≡ code) (copied : CopiedOver answers old now a words code b) where
+  over_paths : CopiedOver answers old now a paths status b
+  over_paths = subst (λ n. CopiedOver answers old now a paths n b) (sym coded) (subst (λ ws. CopiedOver answers old now a ws code b) same copied)
+
+  pub copied_means : IfSome found (λ u. CopiedOver answers old now a paths status b)
+  copied_means = subst (λ (one : Option UserName). IfSome one (λ u. CopiedOver answers old now a paths status b)) (sym is) over_paths
+
+  pub copied_steady : IfSome found (λ u. (rows : List (Request × Reply)) → IsSteady answers rows a → status ≡ 0 → PlainlyCopied rows old now paths)
+  copied_steady =
+      subst (λ (one : Option UserName). IfSome one (λ u. (rows : List (Request × Reply)) → IsSteady answers rows a → status ≡ 0 → PlainlyCopied rows old now paths)) (sym is)
+      (λ rows steady zero_is. copied_plainly answers rows old now a b paths status steady over_paths zero_is)
+
+-- where nothing failed
+ended_well : (ended : Result (Unit {0}) Stop) → (IsErrOf ended stop.WriteFault → ⊥) → (IsErrOf ended stop.AskFault → ⊥) → IsOneOf (0 ∷ 4 ∷ []) (code_by ended)
+ended_well (Ok done) write ask = refl
+ended_well (Err stop.WriteFault) write ask = absurd (write refl)
+ended_well (Err stop.OutOfMemory) write ask = refl
+ended_well (Err stop.AskFault) write ask = absurd (ask refl)
+
+pub completes : (found : Option UserName) (user : UserName) (ended : Result (Unit {0}) Stop) (status sinks sinks_now asks asks_now : ℕ) → found ≡ Some user → status ≡ code_by ended → HasCause sinks sinks_now (IsErrOf ended stop.WriteFault) → HasCause asks asks_now (IsErrOf ended stop.AskFault)
+    → IfSome found (λ u. (Rose sinks sinks_now → ⊥) → (Rose asks asks_now → ⊥) → IsOneOf (0 ∷ 4 ∷ []) status)
+completes found user ended status sinks sinks_now asks asks_now is same sink ask =
+    subst (λ (one : Option UserName). IfSome one (λ u. (Rose sinks sinks_now → ⊥) → (Rose asks asks_now → ⊥) → IsOneOf (0 ∷ 4 ∷ []) status)) (sym is)
+    (λ no_sink no_ask. subst (IsOneOf (0 ∷ 4 ∷ [])) (sym same) (ended_well ended (λ failed. no_sink (sink.rose failed)) (λ failed. no_ask (ask.rose failed))))

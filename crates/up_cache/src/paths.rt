@@ -1,15 +1,17 @@
 //! The paths of a run, one after the other.
-ghost use Rattle.std.specs.Prelude.{IsErrOf, map, string_bytes};
+ghost use Rattle.std.specs.Prelude.{◌≡◌, IfOk, IsErrOf, map, string_bytes};
+ghost use Rattle.std.specs.Result.{result_ok};
 ghost use Rattle.up_cache.specs.Caching.{CachedAnswers};
 ghost use Rattle.up_cache.specs.Copying.{got_came};
 ghost use Rattle.up_cache.specs.Printing.{FileCopied, WordCopied, WordsCopied};
 ghost use Rattle.up_client.specs.Getting.{get_talk};
 ghost use Rattle.up_client.specs.Talks.{Held};
+ghost use Rattle.up_names.specs.PathNames.{path_of};
 ghost use Rattle.up_lists.specs.Counts.{HasCause, StaysUnless};
 
 use crate::printing::{print, print_got};
 use crate::stop::Stop;
-use std::alloc::Global;
+use std::alloc::{AllocError, Global};
 use up_client::{Ask, get};
 use up_ends::Sink;
 use up_names::{NameFault, Path, parse_path};
@@ -61,10 +63,21 @@ fn copy_path<A: Ask, K: Sink>(
     ensures sink_quiet { StaysUnless (K.faults sink.old) (K.faults sink.new)
         (IsErrOf result Stop.WriteFault) }
 {
+    match path_named(alloc, word) {
+        Ok(Some(path)) => copy_file(alloc, &path, ask, sink),
+        Ok(None) => print(sink, b"invalid name\n"),
+        Err(AllocError) => Err(Stop::OutOfMemory),
+    }
+}
+
+// The path that a word names. `None` where it names none.
+fn path_named(alloc: Global, word: &str) -> Result<Option<Path>, AllocError>
+    ensures { IfOk result (λ found. found ≡ result_ok (path_of word.now)) }
+{
     match parse_path(alloc, word.as_bytes()) {
-        Ok(path) => copy_file(alloc, &path, ask, sink),
-        Err(NameFault::OutOfMemory) => Err(Stop::OutOfMemory),
-        Err(_) => print(sink, b"invalid name\n"),
+        Ok(path) => Ok(Some(path)),
+        Err(NameFault::OutOfMemory) => Err(AllocError),
+        Err(_) => Ok(None),
     }
 }
 

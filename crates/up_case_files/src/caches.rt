@@ -116,7 +116,10 @@ fn add_given(
             let lines = reply_lines(alloc, reply)?;
             add_lines(alloc, lines.as_slice(), answer);
         }
-        Err(Failed) => answer.word("failed"),
+        Err(Failed) => {
+            answer.part();
+            answer.word("failed");
+        }
     }
     Ok(())
 }
