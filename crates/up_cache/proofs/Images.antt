@@ -8,7 +8,7 @@ use Rattle.up_client.specs.declared.fault.ClientFault.{ClientFault}
 use Rattle.up_names.specs.Texts.{Text}
 use Rattle.up_wire.specs.declared.replies.Reply.{Reply}
 use Rattle.up_wire.specs.declared.requests.Request.{Request}
-use Rattle.up_cache.specs.Blocks.{Block}
+use Rattle.up_cache.specs.Blocks.{Block, BlockCache}
 use Rattle.up_cache.specs.Caching.{AnsweredBy, CachedAnswers, Caching, caching, held_for, wanted}
 use Rattle.up_cache.specs.Copying.{Came, Copied, CopiedOver, Did, Ends, PathCame, PathDoes, copy_capacity}
 
@@ -67,9 +67,17 @@ module _ {T S : Type 0} (f : T → S) (one : T → Request → Option Reply → 
   }
 
   -- from a new cache on
-  pub copied_lent : (old now : Option Text) (start : T) (first a b : Caching T) (last : S) (words : List Text) (status : ℕ) → first ≡ caching start copy_capacity → a ≡ first → f b.ask ≡ last → Copied one old now a words status b → CopiedOver two old now (f start) words status last
-  copied_lent old now start first a b last words status new same left is = record {
+  pub copied_lent : (old now : Option Text) (start : T) (a b : Caching T) (last : S) (words : List Text) (status : ℕ) → a ≡ caching start copy_capacity → last ≡ f b.ask → Copied one old now a words status b → CopiedOver two old now (f start) words status last
+  copied_lent old now start a b last words status new left is = record {
     end = over b;
-    copied = subst (λ (c : Caching T). Copied two old now (over c) words status (over b)) (same ∙ new) (copied_image old now a b words status is);
-    left = left;
+    copied = subst (λ (c : Caching T). Copied two old now (over c) words status (over b)) new (copied_image old now a b words status is);
+    left = sym left;
   }
+
+-- a cache that is made of no block
+pub starts_new : {T : Type 0} (first : Caching T) (start : T) (cache : BlockCache) (capacity : ℕ) → first ≡ record { ask = start; cache = cache; asked = 0; kept = 0 } → cache ≡ record { blocks = []; capacity = capacity } → first ≡ caching start capacity
+starts_new first start cache capacity one two = one ∙ ap (λ (k : BlockCache). record { ask = start; cache = k; asked = 0; kept = 0 }) two
+
+-- what holds between two states holds between the same ones
+pub carried : {S : Type 0} (R : S → S → Type 0) (start last x y : S) → x ≡ start → last ≡ y → R x y → R start last
+carried R start last x y one two is = subst (R start) (sym two) (subst (λ s. R s y) one is)

@@ -1,13 +1,12 @@
 -- Words that are done one after the other.
-use Rattle.std.proofs.Common.{◌≡◌, ◌≢◌, ◌≤◌, ◌<◌, ◌+◌, ◌⊎◌, inl, inr, ℕ, Bool, true, false, List, [], ◌∷◌, ◌++◌, length, length-map, take, drop, map, get_or, zero, suc, Option, Some, None, Result, Ok, Err, refl, sym, ap, subst, ◌∙◌, append_assoc, append-nil, arith}
-use Rattle.std.specs.Prelude.{codes, IsErrOf, IfSome, string_bytes, if◌then◌else◌}
-use Rattle.std.specs.declared.string.String.{String}
+use Rattle.std.proofs.Common.{◌≡◌, ◌≢◌, ◌≤◌, ◌<◌, ◌+◌, ◌⊎◌, inl, inr, ℕ, Bool, true, false, List, [], ◌∷◌, ◌++◌, length, take, drop, map, get_or, zero, suc, Option, Some, None, Result, Ok, Err, refl, sym, ap, subst, ◌∙◌, append_assoc, append-nil, arith}
+use Rattle.std.specs.Prelude.{codes, IsErrOf, IfSome}
 use Rattle.std.specs.Result.{result_ok}
 use Rattle.std.specs.Io.KnownBytes.{Appends}
 use Rattle.std.specs.List.{AllZip, flat_map}
 use Rattle.std.proofs.KnownBytes.{Appends-nil, Appends-trans}
 use Rattle.std.proofs.lemmas.Grind.{flat_map-append}
-use Rattle.std.proofs.lemmas.List.{drop_more, take-append-drop, take_all}
+use Rattle.std.proofs.lemmas.List.{drop_more, length-map, take-append-drop, take_all}
 use Rattle.up_ends.specs.Writing.{WritesPart}
 use Rattle.up_ends.proofs.Going.{WritesPart-all, WritesPart-none}
 use Rattle.up_lists.specs.Counts.{HasCause, Rose}
@@ -51,22 +50,19 @@ not_told : (old now : Option Text) (came : Came) (why : Stop) → ToldAs old now
 not_told old now (Ok did) stop.WriteFault told = inr (did, (refl, (told, λ e. cc)))
 not_told old now (Ok did) stop.OutOfMemory told = inr (did, (refl, (told, λ e. cc)))
 not_told old now (Ok did) stop.AskFault told = absurd told
-not_told old now (Err other) why told = inl (ap (λ (w : Stop). Err w) (sym (same_stop why other told.0)), told.1)
+not_told old now (Err other) why told = inl (ap (λ (w : Stop). Err w) (same_stop why other told.0), told.1)
 
--- the bytes of strings
-get_map : (words : List String) (k : ℕ) (word : String) → get_or (map string_bytes words) k (string_bytes word) ≡ string_bytes (get_or words k word)
-get_map [] k word = refl
-get_map (first ∷ words) zero word = refl
-get_map (first ∷ words) (suc k) word = get_map words k word
+-- words, seen otherwise
+get_map : {X : Type 0} (f : X → Text) (words : List X) (k : ℕ) (word : X) → get_or (map f words) k (f word) ≡ f (get_or words k word)
+get_map f [] k word = refl
+get_map f (first ∷ words) zero word = refl
+get_map f (first ∷ words) (suc k) word = get_map f words k word
 
-pub word_at : (words : List String) (k : ℕ) (word : String) (shown : Text) → shown ≡ string_bytes word → word ≡ get_or words k word → shown ≡ get_or (map string_bytes words) k shown
-word_at words k word shown is at = is ∙ ap string_bytes at ∙ sym (get_map words k word) ∙ ap (λ w. get_or (map string_bytes words) k w) (sym is)
+pub word_at : {X : Type 0} (f : X → Text) (words : List X) (k : ℕ) (word : X) (shown : Text) → shown ≡ f word → word ≡ get_or words k word → shown ≡ get_or (map f words) k shown
+word_at f words k word shown is at = is ∙ ap f at ∙ sym (get_map f words k word) ∙ ap (λ w. get_or (map f words) k w) (sym is)
 
-pub fewer_words : (words : List String) (k : ℕ) → k < length words → k < length (map string_bytes words)
-fewer_words words k below = let same = length-map string_bytes words in omega (arith, same, below)
-
-pub all_words : (words : List String) (k : ℕ) → length words ≤ k → length (map string_bytes words) ≤ k
-all_words words k above = let same = length-map string_bytes words in omega (arith, same, above)
+pub fewer_words : {X : Type 0} (f : X → Text) (words : List X) (k : ℕ) → k < length words → k < length (map f words)
+fewer_words f words k below = let same = length-map words f in omega (arith, same, below)
 
 module _ {S : Type 0} (answers : S → Request → Option Reply → S → Type 0) where
   -- the first words were done
@@ -344,23 +340,7 @@ module _ {S : Type 0} (answers : S → Request → Option Reply → S → Type 0
   over_paths : CopiedOver answers old now a paths status b
   over_paths = subst (λ n. CopiedOver answers old now a paths n b) (sym coded) (subst (λ ws. CopiedOver answers old now a ws code b) same copied)
 
-  pub copied_means : IfSome found (λ u. CopiedOver answers old now a paths status b)
-  copied_means = subst (λ (one : Option UserName). IfSome one (λ u. CopiedOver answers old now a paths status b)) (sym is) over_paths
-
   pub copied_steady : IfSome found (λ u. (rows : List (Request × Reply)) → IsSteady answers rows a → status ≡ 0 → PlainlyCopied rows old now paths)
   copied_steady =
       subst (λ (one : Option UserName). IfSome one (λ u. (rows : List (Request × Reply)) → IsSteady answers rows a → status ≡ 0 → PlainlyCopied rows old now paths)) (sym is)
       (λ rows steady zero_is. copied_plainly answers rows old now a b paths status steady over_paths zero_is)
-
--- where nothing failed
-ended_well : (ended : Result (Unit {0}) Stop) → (IsErrOf ended stop.WriteFault → ⊥) → (IsErrOf ended stop.AskFault → ⊥) → IsOneOf (0 ∷ 4 ∷ []) (code_by ended)
-ended_well (Ok done) write ask = refl
-ended_well (Err stop.WriteFault) write ask = absurd (write refl)
-ended_well (Err stop.OutOfMemory) write ask = refl
-ended_well (Err stop.AskFault) write ask = absurd (ask refl)
-
-pub completes : (found : Option UserName) (user : UserName) (ended : Result (Unit {0}) Stop) (status sinks sinks_now asks asks_now : ℕ) → found ≡ Some user → status ≡ code_by ended → HasCause sinks sinks_now (IsErrOf ended stop.WriteFault) → HasCause asks asks_now (IsErrOf ended stop.AskFault)
-    → IfSome found (λ u. (Rose sinks sinks_now → ⊥) → (Rose asks asks_now → ⊥) → IsOneOf (0 ∷ 4 ∷ []) status)
-completes found user ended status sinks sinks_now asks asks_now is same sink ask =
-    subst (λ (one : Option UserName). IfSome one (λ u. (Rose sinks sinks_now → ⊥) → (Rose asks asks_now → ⊥) → IsOneOf (0 ∷ 4 ∷ []) status)) (sym is)
-    (λ no_sink no_ask. subst (IsOneOf (0 ∷ 4 ∷ [])) (sym same) (ended_well ended (λ failed. no_sink (sink.rose failed)) (λ failed. no_ask (ask.rose failed))))

@@ -19,10 +19,10 @@ use up_wire::{Done, Reply, Request};
 /// Whoever is asked, through a cache of the blocks that were got last.
 #[derive(Drop)]
 pub struct Cached<A: Ask> {
-    ask: A,
-    cache: BlockCache,
-    asked: u64,
-    kept: u64,
+    pub(crate) ask: A,
+    pub(crate) cache: BlockCache,
+    pub(crate) asked: u64,
+    pub(crate) kept: u64,
 }
 
 impl<A: Ask> Model for Cached<A> {

@@ -10,6 +10,7 @@ ghost use Rattle.up_lists.specs.Counts.{HasCause, Rose, StaysUnless};
 ghost use Rattle.up_wire.specs.declared.requests.Request.{Request as Requests};
 ghost use Rattle.up_wire.specs.declared.replies.Reply.{Reply as Replies};
 
+use crate::block_cache::BlockCache;
 use crate::cached::Cached;
 use crate::lent::Lent;
 use crate::paths::copy_paths;
@@ -129,10 +130,19 @@ fn copy_all<A: Ask, K: Sink>(
         (IsErrOf result Stop.AskFault) }
     ensures tie { A.tied ask.old ask.new }
 {
-    match Cached::new(alloc, Lent { ask }, CAPACITY) {
-        Ok(mut cached) => {
+    match BlockCache::new(alloc, CAPACITY) {
+        Ok(cache) => {
+            let mut cached = Cached {
+                ask: Lent { ask },
+                cache,
+                asked: 0,
+                kept: 0,
+            };
             let ended = copy_over(alloc, words, &mut cached, sink);
-            drop(cached);
+            let Cached {
+                ask: _lent, cache, ..
+            } = cached;
+            drop(cache);
             ended
         }
         Err(AllocError) => Err(Stop::OutOfMemory),
