@@ -1,4 +1,4 @@
--- The same run, seen through whoever is lent.
+-- The same run, by how what is lent is seen.
 use Rattle.std.proofs.Common.{◌≡◌, ◌⊎◌, inl, inr, ℕ, List, [], ◌∷◌, Option, Some, None, Result, Ok, Err, refl, sym, ap, subst, ◌∙◌}
 use Rattle.up_lists.specs.Runs.{Run}
 use Rattle.up_lists.proofs.RunLemmas.{Run-image}
@@ -8,9 +8,12 @@ use Rattle.up_client.specs.declared.fault.ClientFault.{ClientFault}
 use Rattle.up_names.specs.Texts.{Text}
 use Rattle.up_wire.specs.declared.replies.Reply.{Reply}
 use Rattle.up_wire.specs.declared.requests.Request.{Request}
-use Rattle.up_cache.specs.Blocks.{Block, BlockCache}
-use Rattle.up_cache.specs.Caching.{AnsweredBy, CachedAnswers, Caching, caching, held_for, wanted}
-use Rattle.up_cache.specs.Copying.{Came, Copied, CopiedOver, Did, Ends, PathCame, PathDoes, copy_capacity}
+use Rattle.up_cache.specs.Blocks.{BlockCache}
+use Rattle.up_cache.specs.Caching.{Caching, caching}
+use Rattle.up_cache.specs.Copying.{Came, Copied, CopiedOver, Did, PathCame, PathDoes, copy_capacity, printed}
+use Rattle.up_cache.specs.Printing.{Running, Stopped, StopsBy, WrittenBy}
+use Rattle.up_cache.specs.declared.stop.Stop.{Stop}
+use Rattle.up_cache.specs.declared.stop.Stop.TheVariants as stop
 
 -- a conversation, held with who is seen otherwise
 held_image : {T S X : Type 0} (f : T → S) (one : T → Request → Option Reply → T → Type 0) (two : S → Request → Option Reply → S → Type 0)
@@ -31,53 +34,40 @@ path_image f one two each a b word came PathCame.unread = PathCame.unread
 
 module _ {T S : Type 0} (f : T → S) (one : T → Request → Option Reply → T → Type 0) (two : S → Request → Option Reply → S → Type 0)
     (each : (a b : T) (request : Request) (given : Option Reply) → one a request given b → two (f a) request given (f b)) where
-  -- a cache over who is seen otherwise
-  abbrev over : Caching T → Caching S
-  over c = record { ask = f c.ask; cache = c.cache; asked = c.asked; kept = c.kept }
+  run_image : (a b : T) (words : List Text) (dids : List Did) → Run (PathDoes one) a words dids b → Run (PathDoes two) (f a) words dids (f b)
+  run_image a b words dids run = Run-image f (PathDoes one) (PathDoes two) (λ x word did y came. path_image f one two each x y word (Ok did) came) a b words dids run
 
-  answered_image : (a b : Caching T) (request : Request) (given : Option Reply) (found : Option Block) → AnsweredBy one found a request given b → AnsweredBy two found (over a) request given (over b)
-  answered_image a b request given (Some block) is = record { reply = is.reply; ask_stays = ap f is.ask_stays; to_front = is.to_front; asked = is.asked; kept = is.kept }
-  answered_image a b request given None is = record { answered = each a.ask b.ask request given is.answered; cache = is.cache; asked = is.asked; kept = is.kept }
+  pub running_image : (old now : Option Text) (a b : T) (words : List Text) → Running one old now a words b → Running two old now (f a) words (f b)
+  running_image old now a b words so = record { dids = so.dids; run = run_image a b words so.dids so.run; written = so.written }
 
-  cached_image : (a b : Caching T) (request : Request) (given : Option Reply) → CachedAnswers one a request given b → CachedAnswers two (over a) request given (over b)
-  cached_image a b request given is = answered_image a b request given (held_for a.cache.blocks (wanted request)) is
+  stops_image : (last b : T) (rest : List Text) (why : Stop) → StopsBy one last rest why b → StopsBy two (f last) rest why (f b)
+  stops_image last b rest stop.AskFault is = (is.0, (is.1.0, (is.1.1.0, path_image f one two each last b is.0 (Err stop.AskFault) is.1.1.1)))
+  stops_image last b rest stop.WriteFault is = ap f is
+  stops_image last b rest stop.OutOfMemory (inl is) = inl (ap f is)
+  stops_image last b rest stop.OutOfMemory (inr is) = inr (is.0, (is.1.0, (is.1.1.0, path_image f one two each last b is.0 (Err stop.OutOfMemory) is.1.1.1)))
 
-  came_image : (a b : Caching T) (word : Text) (came : Came) → PathCame (CachedAnswers one) a word came b → PathCame (CachedAnswers two) (over a) word came (over b)
-  came_image a b word came is = path_image over (CachedAnswers one) (CachedAnswers two) cached_image a b word came is
+  written_image : (old now : Option Text) (text : Text) (why : Stop) → WrittenBy one old now text why → WrittenBy two old now text why
+  written_image old now text stop.AskFault is = is
+  written_image old now text stop.WriteFault is = is
+  written_image old now text stop.OutOfMemory is = is
 
-  ends_image : (last b : Caching T) (rest : List Text) (status : ℕ) (tail : Text) → Ends one last rest status tail b → Ends two (over last) rest status tail (over b)
-  ends_image last b rest status tail (Ends.at_end none) = Ends.at_end none
-  ends_image last b rest status tail (Ends.unanswered next came) = Ends.unanswered next (came_image last b _ _ came)
-  ends_image last b rest status tail (Ends.wanting next came) = Ends.wanting next (came_image last b _ _ came)
-  ends_image last b rest status tail (Ends.cut cut) = Ends.cut cut
-  ends_image last b rest status tail (Ends.cut_at_end cut none) = Ends.cut_at_end cut none
-
-  pub copied_image : (old now : Option Text) (a b : Caching T) (words : List Text) (status : ℕ) → Copied one old now a words status b → Copied two old now (over a) words status (over b)
-  copied_image old now a b words status is = record {
-    done = is.done;
-    rest = is.rest;
-    cut = is.cut;
-    dids = is.dids;
-    last = over is.last;
-    run = Run-image over (PathDoes (CachedAnswers one)) (PathDoes (CachedAnswers two)) (λ x word did y came. came_image x y word (Ok did) came) a is.last is.done is.dids is.run;
-    tail = is.tail;
-    ends = ends_image is.last b is.rest status is.tail is.ends;
-    whole = is.whole;
-    part = is.part;
+  pub stopped_image : (old now : Option Text) (a b : T) (words : List Text) (why : Stop) → Stopped one old now a words why b → Stopped two old now (f a) words why (f b)
+  stopped_image old now a b words why so = record {
+    done = so.done;
+    rest = so.rest;
+    cut = so.cut;
+    dids = so.dids;
+    last = f so.last;
+    run = run_image a so.last so.done so.dids so.run;
+    stops = stops_image so.last b so.rest why so.stops;
+    written = written_image old now (printed so.dids) why so.written;
   }
 
-  -- from a new cache on
-  pub copied_lent : (old now : Option Text) (start : T) (a b : Caching T) (last : S) (words : List Text) (status : ℕ) → a ≡ caching start copy_capacity → last ≡ f b.ask → Copied one old now a words status b → CopiedOver two old now (f start) words status last
-  copied_lent old now start a b last words status new left is = record {
-    end = over b;
-    copied = subst (λ (c : Caching T). Copied two old now (over c) words status (over b)) new (copied_image old now a b words status is);
-    left = sym left;
-  }
-
--- a cache that is made of no block
-pub starts_new : {T : Type 0} (first : Caching T) (start : T) (cache : BlockCache) (capacity : ℕ) → first ≡ record { ask = start; cache = cache; asked = 0; kept = 0 } → cache ≡ record { blocks = []; capacity = capacity } → first ≡ caching start capacity
-starts_new first start cache capacity one two = one ∙ ap (λ (k : BlockCache). record { ask = start; cache = k; asked = 0; kept = 0 }) two
-
--- what holds between two states holds between the same ones
-pub carried : {S : Type 0} (R : S → S → Type 0) (start last x y : S) → x ≡ start → last ≡ y → R x y → R start last
-carried R start last x y one two is = subst (R start) (sym two) (subst (λ s. R s y) one is)
+-- from a new cache on
+pub copied_new : {S : Type 0} (answers : S → Request → Option Reply → S → Type 0) (old now : Option Text) (start last : S) (cache : BlockCache) (first end : Caching S) (words : List Text) (status : ℕ) → first ≡ record { ask = start; cache = cache; asked = 0; kept = 0 }
+    → cache ≡ record { blocks = []; capacity = copy_capacity } → last ≡ end.ask → Copied answers old now first words status end → CopiedOver answers old now start words status last
+copied_new {S} answers old now start last cache first end words status is empty left copied = record {
+  end = end;
+  copied = subst (λ (c : Caching S). Copied answers old now c words status end) (is ∙ ap (λ (k : BlockCache). record { ask = start; cache = k; asked = 0; kept = 0 }) empty) copied;
+  left = sym left;
+}

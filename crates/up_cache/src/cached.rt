@@ -1,28 +1,25 @@
 //! Whoever is asked, through a cache of blocks.
-ghost use Rattle.std.specs.Prelude.{◌≡◌, ◌≤◌, length, IfOk, IsErr, List, None};
-ghost use Rattle.std.specs.Result.{result_ok};
-ghost use Rattle.up_cache.specs.Blocks.{IsBlockCache, held};
-ghost use Rattle.up_cache.specs.Caching.{CachedAnswers, Caching, Keeps, PassedOn, RecalledReply, brought, caching, held_for, is_get, reply_of, wanted};
+ghost use Rattle.std.specs.Prelude.{◌≡◌, ◌≤◌, length, IfOk, List};
+ghost use Rattle.up_cache.specs.Blocks.{IsBlockCache};
+ghost use Rattle.up_cache.specs.Caching.{CachedAnswers, caching};
 ghost use Rattle.up_cache.specs.Steady.{IsSteady};
-ghost use Rattle.up_lists.specs.Counts.{HasCause, StaysUnless};
 ghost use Rattle.up_wire.specs.declared.requests.Request.{Request as Requests};
 ghost use Rattle.up_wire.specs.declared.replies.Reply.{Reply as Replies};
 
 use crate::block_cache::BlockCache;
+use crate::through::Through;
 use std::alloc::{AllocError, Global};
 use std::marker::Model;
-use up_bytes::Bytes;
 use up_client::{Ask, Failed};
-use up_refs::Reference;
-use up_wire::{Done, Reply, Request};
+use up_wire::{Reply, Request};
 
 /// Whoever is asked, through a cache of the blocks that were got last.
 #[derive(Drop)]
 pub struct Cached<A: Ask> {
-    pub(crate) ask: A,
-    pub(crate) cache: BlockCache,
-    pub(crate) asked: u64,
-    pub(crate) kept: u64,
+    ask: A,
+    cache: BlockCache,
+    asked: u64,
+    kept: u64,
 }
 
 impl<A: Ask> Model for Cached<A> {
@@ -84,41 +81,6 @@ impl<A: Ask> Cached<A> {
     {
         self.cache.len() as u64
     }
-
-    // The reply to a request for a block that is held.
-    fn recall(&mut self, alloc: Global, wanted: &Option<Reference>) -> Option<Reply>
-        ensures { RecalledReply (held_for self.old.cache.blocks wanted.now) self.old
-            result self.new }
-    {
-        let Some(reference) = wanted else {
-            return None;
-        };
-        let copy = self.cache.recall(alloc, reference)?;
-        self.kept = self.kept.saturating_add(1);
-        Some(reply_of(copy))
-    }
-
-    // Passes a request on, and keeps the block that its reply brings.
-    fn pass_on(
-        &mut self,
-        alloc: Global,
-        request: &Request,
-        reference: &Option<Reference>,
-    ) -> Result<Reply, Failed>
-        requires unheld { held_for self.old.cache.blocks reference.now ≡ None }
-        requires wanted { reference.now ≡ wanted request.now }
-        ensures passed { PassedOn A.answers self.old request.now (result_ok result) self.new }
-        ensures cause { HasCause (A.faults self.old.ask) (A.faults self.new.ask) (IsErr result) }
-        ensures quiet { StaysUnless (A.faults self.old.ask) (A.faults self.new.ask) (IsErr result) }
-        ensures tie { A.tied self.old.ask self.new.ask }
-    {
-        let given = self.ask.ask(alloc, request);
-        if is_get(request) {
-            self.asked = self.asked.saturating_add(1);
-        }
-        keep_brought(alloc, &mut self.cache, reference, &given);
-        given
-    }
 }
 
 impl<A: Ask> Ask for Cached<A> {
@@ -129,56 +91,19 @@ impl<A: Ask> Ask for Cached<A> {
     ghost tied = { λ a b. A.tied a.ask b.ask };
 
     fn ask(&mut self, alloc: Global, request: &Request) -> Result<Reply, Failed> {
-        let wanted = wanted(request);
-        match self.recall(alloc, &wanted) {
-            Some(reply) => Ok(reply),
-            None => self.pass_on(alloc, request, &wanted),
-        }
+        let mut through = Through {
+            ask: &mut self.ask,
+            cache: &mut self.cache,
+            asked: self.asked,
+            kept: self.kept,
+        };
+        let given = through.ask(alloc, request);
+        self.asked = through.asked;
+        self.kept = through.kept;
+        given
     }
 
     ghost same = { λ a. A.same a.ask };
 
     ghost joined = { λ a b c. A.joined a.ask b.ask c.ask };
-}
-
-// A request for a block.
-fn is_get(request: &Request) -> bool
-    ensures { result ≡ is_get request.now }
-{
-    matches!(request, Request::Get(_))
-}
-
-// The reference that a request for a block has.
-fn wanted(request: &Request) -> Option<Reference>
-    ensures { result ≡ wanted request.now }
-{
-    match request {
-        Request::Get(text) => Reference::parse(text.as_slice()),
-        _ => None,
-    }
-}
-
-// The reply to a request for a block, by a copy of its bytes.
-fn reply_of(copy: Result<Bytes, AllocError>) -> Reply
-    ensures { result ≡ reply_of copy }
-{
-    match copy {
-        Ok(bytes) => Reply::Ok(Done::Bytes(bytes)),
-        Err(AllocError) => Reply::OutOfMemory,
-    }
-}
-
-// Keeps the block that a reply brings. The wanted one is not held yet.
-fn keep_brought(
-    alloc: Global,
-    cache: &mut BlockCache,
-    wanted: &Option<Reference>,
-    given: &Result<Reply, Failed>,
-)
-    requires { held_for cache.old.blocks wanted.now ≡ None }
-    ensures { Keeps cache.old (brought wanted.now (result_ok given.now)) cache.new }
-{
-    if let (Some(reference), Ok(Reply::Ok(Done::Bytes(bytes)))) = (wanted, given) {
-        cache.keep(alloc, *reference, bytes.as_slice());
-    }
 }

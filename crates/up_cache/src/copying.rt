@@ -4,6 +4,7 @@ ghost use Rattle.std.specs.Io.KnownBytes.{Appends};
 ghost use Rattle.up_cache.specs.Copying.{Copied, CopiedOver, PlainlyCopied, copy_paths, copy_user};
 ghost use Rattle.up_cache.specs.Printing.{code_by};
 ghost use Rattle.up_cache.specs.Steady.{IsSteady};
+ghost use Rattle.up_cache.specs.Ties.{IsSame, seen};
 ghost use Rattle.up_command.specs.Statuses.{IsOneOf, usage_line};
 ghost use Rattle.up_ends.specs.Writing.{WritesPart};
 ghost use Rattle.up_lists.specs.Counts.{HasCause, Rose, StaysUnless};
@@ -11,11 +12,10 @@ ghost use Rattle.up_wire.specs.declared.requests.Request.{Request as Requests};
 ghost use Rattle.up_wire.specs.declared.replies.Reply.{Reply as Replies};
 
 use crate::block_cache::BlockCache;
-use crate::cached::Cached;
-use crate::lent::Lent;
 use crate::paths::copy_paths;
 use crate::printing::print_counts;
 use crate::stop::{Stop, code};
+use crate::through::Through;
 use std::alloc::{AllocError, Global};
 use up_client::Ask;
 use up_command::{Status, usage};
@@ -132,18 +132,14 @@ fn copy_all<A: Ask, K: Sink>(
 {
     match BlockCache::new(alloc, CAPACITY) {
         Ok(cache) => {
-            let mut cached = Cached {
-                ask: Lent { ask },
-                cache,
+            let mut cache = cache;
+            let mut through = Through {
+                ask,
+                cache: &mut cache,
                 asked: 0,
                 kept: 0,
             };
-            let ended = copy_over(alloc, words, &mut cached, sink);
-            let Cached {
-                ask: _lent, cache, ..
-            } = cached;
-            drop(cache);
-            ended
+            copy_over(alloc, words, &mut through, sink)
         }
         Err(AllocError) => Err(Stop::OutOfMemory),
     }
@@ -153,23 +149,24 @@ fn copy_all<A: Ask, K: Sink>(
 fn copy_over<A: Ask, K: Sink>(
     alloc: Global,
     words: &[String],
-    cached: &mut Cached<A>,
+    through: &mut Through<'_, A>,
     sink: &mut K,
 ) -> Result<(), Stop>
-    ensures copied { Copied A.answers (K.held sink.old) (K.held sink.new) cached.old
-        (map string_bytes words.now) (code_by result) cached.new }
+    ensures copied { Copied A.answers (K.held sink.old) (K.held sink.new) (seen through.old)
+        (map string_bytes words.now) (code_by result) (seen through.new) }
     ensures sink_cause { HasCause (K.faults sink.old) (K.faults sink.new)
         (IsErrOf result Stop.WriteFault) }
     ensures sink_quiet { StaysUnless (K.faults sink.old) (K.faults sink.new)
         (IsErrOf result Stop.WriteFault) }
-    ensures ask_cause { HasCause (A.faults cached.old.ask) (A.faults cached.new.ask)
+    ensures ask_cause { HasCause (A.faults through.old.ask.now) (A.faults through.new.ask.now)
         (IsErrOf result Stop.AskFault) }
-    ensures ask_quiet { StaysUnless (A.faults cached.old.ask) (A.faults cached.new.ask)
+    ensures ask_quiet { StaysUnless (A.faults through.old.ask.now) (A.faults through.new.ask.now)
         (IsErrOf result Stop.AskFault) }
-    ensures tie { A.tied cached.old.ask cached.new.ask }
+    ensures same { IsSame through.old through.new }
+    ensures tie { A.tied through.old.ask.now through.new.ask.now }
 {
-    match copy_paths(alloc, words, cached, sink) {
-        Ok(()) => print_counts(alloc, cached.asked(), cached.kept(), sink),
+    match copy_paths(alloc, words, through, sink) {
+        Ok(()) => print_counts(alloc, through.asked, through.kept, sink),
         Err(why) => Err(why),
     }
 }

@@ -13,10 +13,10 @@ mod block_cache;
 mod cached;
 mod copying;
 mod laws;
-mod lent;
 mod paths;
 mod printing;
 mod stop;
+mod through;
 
 pub use cached::Cached;
 pub use copying::{copy_run, copy_user};
