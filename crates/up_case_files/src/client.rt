@@ -120,7 +120,7 @@ fn add_row(
     Ok(())
 }
 
-fn request_of(alloc: Global, digits: &str) -> Result<Request, Fault> {
+pub(crate) fn request_of(alloc: Global, digits: &str) -> Result<Request, Fault> {
     let bytes = bytes_of_digits(alloc, digits)?;
     let frame = read_client(alloc, bytes.as_slice());
     drop(bytes);
@@ -238,7 +238,7 @@ fn get_line(
     added
 }
 
-fn add_got(
+pub(crate) fn add_got(
     alloc: Global,
     got: &Result<Bytes, ClientFault>,
     answer: &mut Answer,
@@ -276,7 +276,7 @@ fn add_fault(alloc: Global, fault: &ClientFault, answer: &mut Answer) -> Result<
     Ok(())
 }
 
-fn add_lines(alloc: Global, lines: &[Bytes], answer: &mut Answer) {
+pub(crate) fn add_lines(alloc: Global, lines: &[Bytes], answer: &mut Answer) {
     for line in lines {
         answer.part();
         answer.made(String::from_utf8_lossy(alloc, line.as_slice()));

@@ -166,13 +166,13 @@ impl Topic for TerminalLines {
     }
 }
 
-fn add_text(alloc: Global, texts: &mut Vec<String>, text: &str) -> Result<(), AllocError> {
+pub(crate) fn add_text(alloc: Global, texts: &mut Vec<String>, text: &str) -> Result<(), AllocError> {
     texts.push(text.to_string(alloc)?)?;
     Ok(())
 }
 
-// The numbers of calls, joined by commas; `-` for none.
-fn calls_of(alloc: Global, word: &str) -> Result<Items<u64>, Fault> {
+/// The numbers of calls, joined by commas; `-` for none.
+pub(crate) fn calls_of(alloc: Global, word: &str) -> Result<Items<u64>, Fault> {
     let mut calls = Items::new(alloc);
     if word == "-" {
         return Ok(calls);

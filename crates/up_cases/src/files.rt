@@ -3,7 +3,7 @@ use std::hash::RandomState;
 use std::random::RandomSource;
 use std::rt::Files;
 use std::{fs, io};
-use up_case_files::{ClientLines, TerminalLines};
+use up_case_files::{CacheLines, ClientLines, CopyLines, TerminalLines};
 use up_case_hosts::Hosts;
 use up_case_lines::{File, Tally, run_lines};
 use up_case_logs::{Crashes, Fields, Logs, Moves, Records};
@@ -87,6 +87,8 @@ fn run_other_topic<R: RandomSource + AllocGlobal + Print>(
     tally: &mut Tally,
 ) -> io::Result<()> {
     match topic_of(file.name) {
+        "caches" => run_lines(rt, file, CacheLines::new(), tally),
+        "copies" => run_lines(rt, file, CopyLines::new(rt.alloc()), tally),
         "ends" => run_lines(rt, file, Ends, tally),
         "frames" => run_lines(rt, file, Streams, tally),
         "peers" => run_lines(rt, file, PeerLines, tally),

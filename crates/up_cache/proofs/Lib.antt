@@ -1,0 +1,6 @@
+mod Keeping
+mod Passing
+mod Images
+mod Printings
+mod Runs
+mod Steadiness

@@ -1,0 +1,128 @@
+-- What `upspin copy` does and prints. This project's own.
+use Rattle.std.specs.Prelude.{◌≡◌, ◌≢◌, ℕ, Bool, ◌==◌, ◌&&◌, ◌||◌, nat_le, false, true, List, [], ◌∷◌, ◌++◌, drop, length, codes, bytes_eq, decimal, if◌then◌else◌, Option, Some, None, Result, Ok, Err}
+use Rattle.std.specs.List.{AllZip, flat_map}
+use Rattle.std.specs.Result.{result_ok}
+use Rattle.std.specs.Io.KnownBytes.{Appends}
+use Rattle.up_ends.specs.Writing.{WritesPart}
+use Rattle.up_lists.specs.Runs.{Run}
+use Rattle.up_client.specs.Getting.{get_talk}
+use Rattle.up_client.specs.Talks.{Held}
+use Rattle.up_client.specs.declared.fault.ClientFault.{ClientFault}
+use Rattle.up_client.specs.declared.fault.ClientFault.TheVariants as client
+use Rattle.up_command.specs.Printed.{ended, got_lines}
+use Rattle.up_names.specs.PathNames.{PathName, path_of}
+use Rattle.up_names.specs.Texts.{Text, UserName}
+use Rattle.up_names.specs.UserNames.{user_of}
+use Rattle.up_wire.specs.declared.replies.Reply.{Reply}
+use Rattle.up_wire.specs.declared.requests.Request.{Request}
+use Rattle.up_cache.specs.Caching.{CachedAnswers, Caching, caching}
+use Rattle.up_cache.specs.Steady.{Plain}
+use Rattle.up_cache.specs.declared.stop.Stop.{Stop}
+use Rattle.up_cache.specs.declared.stop.Stop.TheVariants as stop
+
+-- ---- the words
+
+-- the user of the words `copy ADDR HELPER USER PATH..`, of which 1 to 1,000 are for paths; none where the words are others, or the fourth
+-- is no user
+abbrev pub copy_user : List Text → Option UserName
+copy_user (command ∷ address ∷ helper ∷ user ∷ path ∷ more) =
+    if bytes_eq command (codes "copy") && nat_le (length more) 999 then result_ok (user_of user) else None
+copy_user words = None
+
+-- the words for paths
+abbrev pub copy_paths : List Text → List Text
+copy_paths words = drop 4 words
+
+-- how many blocks are held
+abbrev pub copy_capacity : ℕ
+copy_capacity = 64
+
+-- ---- what is done at a path, and what is printed of it
+
+-- the word names no path; or this came of getting the file
+pub data Did : Type 0 where
+  BadPath : Did
+  Got : Result (List ℕ) ClientFault → Did
+
+-- lines, each with its LF
+abbrev pub lines_text : List Text → Text
+lines_text lines = flat_map ended lines
+
+abbrev pub said : Did → Text
+said Did.BadPath = ended (codes "invalid name")
+said (Did.Got result) = lines_text (got_lines result)
+
+abbrev pub printed : List Did → Text
+printed dids = flat_map said dids
+
+-- the last line: how many requests for blocks were passed on, and how many were answered from the cache
+abbrev pub counts_line : ℕ → ℕ → Text
+counts_line asked kept = ended ((codes "asked " ++ decimal asked ++ codes " kept ") ++ decimal kept)
+
+-- what came of a word: what was done, or why the run ends
+abbrev pub Came : Type 0
+Came = Result Did Stop
+
+abbrev pub got_came : Result (List ℕ) ClientFault → Came
+got_came (Err client.Failed) = Err stop.AskFault
+got_came (Err client.OutOfMemory) = Err stop.OutOfMemory
+got_came result = Ok (Did.Got result)
+
+-- What comes of a word, over somebody who answers by a relation: nothing is asked where it names no path; else the client holds its
+-- conversation to get the file. There may be no memory to read the word.
+pub data PathCame {S : Type 0} (answers : S → Request → Option Reply → S → Type 0) (a : S) (word : Text) : Came → S → Type 0 where
+  bad_path : result_ok (path_of word) ≡ None → PathCame answers a word (Ok Did.BadPath) a
+  got : {path : PathName} {result : Result (List ℕ) ClientFault} {b : S} → result_ok (path_of word) ≡ Some path → Held answers (get_talk path) a result b → PathCame answers a word (got_came result) b
+  unread : PathCame answers a word (Err stop.OutOfMemory) a
+
+abbrev pub PathDoes : {S : Type 0} → (S → Request → Option Reply → S → Type 0) → S → Text → Did → S → Type 0
+PathDoes answers a word did b = PathCame answers a word (Ok did) b
+
+-- ---- the run
+
+-- a write fault or want of memory cut the text short
+abbrev pub is_cut : ℕ → Bool
+is_cut status = (status == 3) || (status == 4)
+
+-- How a run ends behind the words that were done, by those that are left: its status, what is written last, and the state it leaves.
+pub data Ends {S : Type 0} (answers : S → Request → Option Reply → S → Type 0) (last : Caching S) (rest : List Text) : ℕ → Text → Caching S → Type 0 where
+  at_end : rest ≡ [] → Ends answers last rest 0 (counts_line last.asked last.kept) last
+  unanswered : {word : Text} {more : List Text} {b : Caching S} → rest ≡ word ∷ more → PathCame (CachedAnswers answers) last word (Err stop.AskFault) b → Ends answers last rest 11 [] b
+  wanting : {word : Text} {more : List Text} {b : Caching S} → rest ≡ word ∷ more → PathCame (CachedAnswers answers) last word (Err stop.OutOfMemory) b → Ends answers last rest 4 [] b
+  cut : {status : ℕ} → is_cut status ≡ true → Ends answers last rest status [] last
+  cut_at_end : {status : ℕ} → is_cut status ≡ true → rest ≡ [] → Ends answers last rest status (counts_line last.asked last.kept) last
+
+-- Of words the first ones were done over a cache, one after the other, and the run ended. What they print is written, and the last line
+-- behind it; but where a write fault or want of memory cut it short, a front of it is.
+pub record Copied {S : Type 0} (answers : S → Request → Option Reply → S → Type 0) (old new : Option Text) (a : Caching S) (words : List Text) (status : ℕ) (b : Caching S) : Type 0 where
+  pub done : List Text
+  pub rest : List Text
+  pub cut : done ++ rest ≡ words
+  pub dids : List Did
+  pub last : Caching S
+  pub run : Run (PathDoes (CachedAnswers answers)) a done dids last
+  pub tail : Text
+  pub ends : Ends answers last rest status tail b
+  pub whole : is_cut status ≡ false → Appends old new (printed dids ++ tail)
+  pub part : WritesPart old new (printed dids ++ tail)
+
+-- the same from a new cache on, by what it leaves of whoever is asked
+pub record CopiedOver {S : Type 0} (answers : S → Request → Option Reply → S → Type 0) (old new : Option Text) (a : S) (words : List Text) (status : ℕ) (b : S) : Type 0 where
+  pub end : Caching S
+  pub copied : Copied answers old new (caching a copy_capacity) words status end
+  pub left : end.ask ≡ b
+
+-- ---- over a table
+
+-- what is done where each request has its reply of a table
+pub data PlainDid (rows : List (Request × Reply)) (word : Text) : Did → Type 0 where
+  plain_none : result_ok (path_of word) ≡ None → PlainDid rows word Did.BadPath
+  plain_got : {path : PathName} {result : Result (List ℕ) ClientFault} → result_ok (path_of word) ≡ Some path → Plain rows (get_talk path) result → PlainDid rows word (Did.Got result)
+
+-- each word was done so, and what they print was written, with the last line behind it
+pub record PlainlyCopied (rows : List (Request × Reply)) (old new : Option Text) (words : List Text) : Type 0 where
+  pub dids : List Did
+  pub each : AllZip (PlainDid rows) words dids
+  pub asked : ℕ
+  pub kept : ℕ
+  pub written : Appends old new (printed dids ++ counts_line asked kept)
