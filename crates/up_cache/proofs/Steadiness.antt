@@ -155,9 +155,11 @@ heeds_led (Some next) go reply on = on next
 heeds_following : (request : PathName → Request) (more : ℕ) (path : PathName) → Heeds (following request more path)
 unfolding following
 heeds_following request zero path = (refl, λ reply. heeds_led (leads_to path reply) (λ next. done (Err faults.TooManyLinks)) reply (λ next. tt))
-heeds_following request (suc more) path =
-    (refl, λ reply. heeds_led (leads_to path reply) (λ next. and_then (done (short next)) (following request more)) reply
-    (λ next. heeds_then (done (short next)) (following request more) tt (λ fit. heeds_following request more fit)))
+heeds_following request (suc more) path = (
+  refl,
+  λ reply. heeds_led (leads_to path reply) (λ next. and_then (done (short next)) (following request more)) reply
+      (λ next. heeds_then (done (short next)) (following request more) tt (λ fit. heeds_following request more fit)),
+)
 
 heeds_fetched : (endpoint : Endpoint) (i : ℕ) (block : EntryBlock) → Heeds (fetched_at endpoint i block)
 heeds_fetched endpoints.Local i block = (refl, λ reply. tt)

@@ -39,12 +39,7 @@ const MORE_PATHS: usize = 999;
 /// It answers a status: 0 where all was done and written, 3 where the sink failed, 4 for want of memory, here or as a reply, 11 where no
 /// answer came, and 64 where the words are others or the fourth is no user, with the usage line printed. After 3 and 4 a front of the text
 /// was written, after 11 the lines of the paths before.
-pub fn copy_run<A: Ask, K: Sink>(
-    alloc: Global,
-    words: &[String],
-    ask: &mut A,
-    sink: &mut K,
-) -> u8
+pub fn copy_run<A: Ask, K: Sink>(alloc: Global, words: &[String], ask: &mut A, sink: &mut K) -> u8
     // Each path is done once, in order, over one new cache, and what is written is the text of that.
     ensures meaning { IfSome (copy_user (map string_bytes words.now)) (λ user.
         CopiedOver A.answers (K.held sink.old) (K.held sink.new) ask.old
@@ -131,8 +126,7 @@ fn copy_all<A: Ask, K: Sink>(
     ensures tie { A.tied ask.old ask.new }
 {
     match BlockCache::new(alloc, CAPACITY) {
-        Ok(cache) => {
-            let mut cache = cache;
+        Ok(mut cache) => {
             let mut through = Through {
                 ask,
                 cache: &mut cache,

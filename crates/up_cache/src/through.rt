@@ -82,8 +82,11 @@ impl<'a, A: Ask> Ask for Through<'a, A> {
 
     ghost same = { λ a. (refl, refl, A.same a.ask.now) };
 
-    ghost joined = { λ a b c p q. (stays_still p.0 q.0, stays_still p.1 q.1,
-        A.joined a.ask.now b.ask.now c.ask.now p.2 q.2) };
+    ghost joined = { λ a b c p q. (
+      stays_still p.0 q.0,
+      stays_still p.1 q.1,
+      A.joined a.ask.now b.ask.now c.ask.now p.2 q.2,
+    ) };
 }
 
 // A request for a block.

@@ -125,22 +125,14 @@ fn add_given(
 }
 
 // `blocks N`: rows for N blocks, of which the one with the number I, from 0, has the digits of I.
-fn add_blocks(
-    alloc: Global,
-    rows: &mut Items<(Request, Reply)>,
-    count: u64,
-) -> Result<(), Fault> {
+fn add_blocks(alloc: Global, rows: &mut Items<(Request, Reply)>, count: u64) -> Result<(), Fault> {
     for number in 0..count {
         add_block(alloc, rows, number)?;
     }
     Ok(())
 }
 
-fn add_block(
-    alloc: Global,
-    rows: &mut Items<(Request, Reply)>,
-    number: u64,
-) -> Result<(), Fault> {
+fn add_block(alloc: Global, rows: &mut Items<(Request, Reply)>, number: u64) -> Result<(), Fault> {
     let request = block_asked(alloc, number)?;
     match number.to_string(alloc) {
         Ok(digits) => push_row(rows, request, digits),

@@ -104,12 +104,7 @@ impl CopyLines {
         Ok(rows)
     }
 
-    fn other_turn(
-        &mut self,
-        alloc: Global,
-        line: &str,
-        answer: &mut Answer,
-    ) -> Result<(), Fault> {
+    fn other_turn(&mut self, alloc: Global, line: &str, answer: &mut Answer) -> Result<(), Fault> {
         let (keyword, rest) = line.split_once(' ').ok_or(Fault::BadLine)?;
         match keyword {
             "command" => self.begin(alloc, rest),

@@ -166,7 +166,11 @@ impl Topic for TerminalLines {
     }
 }
 
-pub(crate) fn add_text(alloc: Global, texts: &mut Vec<String>, text: &str) -> Result<(), AllocError> {
+pub(crate) fn add_text(
+    alloc: Global,
+    texts: &mut Vec<String>,
+    text: &str,
+) -> Result<(), AllocError> {
     texts.push(text.to_string(alloc)?)?;
     Ok(())
 }
