@@ -23,7 +23,7 @@ pub struct Audit {
 }
 
 /// Goes through the logs of trees, and through the blocks that a store holds. No old tree is made, and no disk is called.
-#[tactic(auto, using(crate::proofs::AuditLemmas::audits))]
+#[tactic(auto, using(crate::proofs::NoteLemmas::audit_is))]
 pub fn audit_of<D: Disk>(
     alloc: Global,
     trees: &[TreeState<D>],
@@ -74,11 +74,11 @@ fn add_loose(
     ensures { OnOk result (loose.new ≡ loose.old
         ++ filter (is_loose used.now.noted.entries) (option_to_list (option_copied reference.entry))) }
 {
-    match reference {
-        Some(reference) if !used.has(reference) => {
-            loose.push(*reference)?;
-            Ok(())
-        }
-        Some(_) | None => Ok(()),
+    let Some(reference) = reference else {
+        return Ok(());
+    };
+    if !used.has(reference) {
+        loose.push(*reference)?;
     }
+    Ok(())
 }

@@ -31,30 +31,35 @@ fn note_told(used: &mut Used, tree: &MemTree, n: u64, snap: u64) -> Result<(), A
         (told_at tree.now.log n)) }
 {
     note_gone(used, tree, n, snap)?;
-    note_standing(used, tree, n)
+    note_standing(used, tree, n)?;
+    Ok(())
 }
 
 // Notes the entry that stood where record `n` changes a path, where a snapshot was taken behind it.
+#[tactic(auto, using(crate::proofs::NoteLemmas::gones))]
 fn note_gone(used: &mut Used, tree: &MemTree, n: u64, snap: u64) -> Result<(), AllocError>
     ensures { OnOk result (Notes used.old.noted.entries used.new.noted.entries
         (gone_at tree.now.log snap n)) }
 {
-    match tree.change_before(n) {
-        Some(before) if before < snap => used.note_put(tree.rec_at(before)),
-        Some(_) | None => Ok(()),
+    let Some(before) = tree.change_before(n) else {
+        return Ok(());
+    };
+    if before < snap {
+        used.note_put(tree.rec_at(before))?;
     }
+    Ok(())
 }
 
 // Notes the entry that record `n` puts, where no later record changes its path.
+#[tactic(auto, using(crate::proofs::NoteLemmas::standings))]
 fn note_standing(used: &mut Used, tree: &MemTree, n: u64) -> Result<(), AllocError>
     ensures { OnOk result (Notes used.old.noted.entries used.new.noted.entries
         (standing_at tree.now.log n)) }
 {
     if stands_at(tree, n) {
-        used.note_put(tree.rec_at(n))
-    } else {
-        Ok(())
+        used.note_put(tree.rec_at(n))?;
     }
+    Ok(())
 }
 
 // Whether record `n` changes a path, and no later one changes it.

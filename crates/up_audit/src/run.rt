@@ -72,9 +72,37 @@ pub fn audit_run<D: Disk + Drop, K: Sink>(
     }
 }
 
-/// Does what [`audit_run`] does once the words were read, with any limits of the trees.
-#[tactic(auto, using(crate::proofs::RunLemmas::withins))]
+/// Does what [`audit_run`] does once the words were read, with any limits of the trees. The statuses are the same but for 64.
 pub fn audit_within<D: Disk + Drop, K: Sink>(
+    alloc: Global,
+    sink: &mut K,
+    disks: &mut Disks<D>,
+    owners: Items<User>,
+    limits: Limits,
+) -> u8
+    requires limits { AreLimits limits }
+    requires plain { AllByRecursion (λ owner. owns_snapshots owner ≡ false) owners }
+    requires disks { length disks.old.disks ≡ length owners + 1 }
+    ensures audits { Audits D.Disk limits owners disks.old.disks disks.new.disks
+        (K.held sink.old) (K.held sink.new) result }
+    ensures statuses { IsOneOf (0 ∷ 3 ∷ 4 ∷ 6 ∷ 8 ∷ []) result }
+    ensures write_fault { result ≡ 3 → Rose (K.faults sink.old) (K.faults sink.new) }
+    ensures disk_fault { result ≡ 6
+        → Rose (sum_by D.faults disks.old.disks) (sum_by D.faults disks.new.disks) }
+    ensures disk_counts { sum_by D.faults disks.old.disks ≤ sum_by D.faults disks.new.disks }
+    ensures sink_counts { K.faults sink.old ≤ K.faults sink.new }
+    ensures spare { disks.new.spare ≡ disks.old.spare }
+    ensures complete { AreLogs D.Disk limits (logs_of owners) disks.old.disks
+        → Stays (K.faults sink.old) (K.faults sink.new)
+        → Stays (sum_by D.faults disks.old.disks) (sum_by D.faults disks.new.disks)
+        → IsOneOf (0 ∷ 4 ∷ []) result }
+{
+    audit_logs(alloc, sink, disks, owners, limits)
+}
+
+// The same, with what its status says of the sink alone.
+#[tactic(auto, using(crate::proofs::RunLemmas::cases))]
+fn audit_logs<D: Disk + Drop, K: Sink>(
     alloc: Global,
     sink: &mut K,
     disks: &mut Disks<D>,

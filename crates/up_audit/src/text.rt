@@ -20,45 +20,54 @@ pub(crate) fn print_audit<K: Sink>(alloc: Global, sink: &mut K, audit: &Audit) -
     ensures cause { IsErrOf result Stop.WriteFault → Rose (K.faults sink.old) (K.faults sink.new) }
     ensures later { K.faults sink.old ≤ K.faults sink.new }
 {
-    let mut gathered = held_line(alloc, audit.held, audit.loose.len())?;
-    print_loose(sink, &mut gathered, audit.loose.as_slice())?;
-    finish(sink, &mut gathered, b"")
+    let mut gathered = first_line(alloc, audit)?;
+    print_lines(sink, &mut gathered, audit.loose.as_slice())?;
+    Ok(())
 }
 
 // `held H loose L`
-fn held_line(alloc: Global, held: u64, loose: u64) -> Result<Vec<u8>, AllocError>
-    ensures { IfOk result (λ line. line.items ≡ held_line held loose) }
+fn first_line(alloc: Global, audit: &Audit) -> Result<Vec<u8>, AllocError>
+    ensures { IfOk result (λ line. line.items
+        ≡ held_line audit.now.held (length audit.now.loose)) }
 {
-    let digits = held.to_string(alloc)?;
     let mut line = Vec::new(alloc);
-    line.extend_from_slice(b"held ")?;
-    line.extend_from_slice(digits.as_bytes())?;
-    say_count(&mut line, b" loose ", loose)?;
+    add_number(&mut line, b"held ", audit.held)?;
+    say_count(&mut line, b" loose ", audit.loose.len())?;
     Ok(line)
 }
 
-// Adds a line for each loose block to what is gathered, which goes to the sink once it is long.
-fn print_loose<K: Sink>(
+// Adds words and a number to a line.
+fn add_number(line: &mut Vec<u8>, words: &[u8], number: u64) -> Result<(), AllocError>
+    ensures { OnOk result (line.new.items ≡ line.old.items ++ (words.now ++ decimal number)) }
+{
+    let digits = number.to_string(*line.allocator())?;
+    line.extend_from_slice(words)?;
+    line.extend_from_slice(digits.as_bytes())
+}
+
+// Adds a line for each loose block to what is gathered, and writes all of it.
+#[tactic(auto, using(crate::proofs::TextLemmas::endings))]
+fn print_lines<K: Sink>(
     sink: &mut K,
     gathered: &mut Vec<u8>,
     loose: &[Reference],
 ) -> Result<(), Stop>
-    ensures ok { OnOk result (Going (K.held sink.old) (K.held sink.new) gathered.new.items
+    ensures ok { OnOk result (Appends (K.held sink.old) (K.held sink.new)
         (gathered.old.items ++ flat_map loose_line loose.now)) }
     ensures part { WritesPart (K.held sink.old) (K.held sink.new)
         (gathered.old.items ++ flat_map loose_line loose.now) }
     ensures cause { IsErrOf result Stop.WriteFault → Rose (K.faults sink.old) (K.faults sink.new) }
     ensures later { K.faults sink.old ≤ K.faults sink.new }
 {
-    let mut left = loose;
-    while let Some((reference, rest)) = left.split_first() {
+    for reference in loose {
         print_one(sink, gathered, reference)?;
-        left = rest;
     }
+    finish(sink, gathered, b"")?;
     Ok(())
 }
 
-// Adds the line of one.
+// Adds the line of one; what is gathered goes to the sink once it is long.
+#[tactic(auto, using(crate::proofs::TextLemmas::nothing_written))]
 fn print_one<K: Sink>(
     sink: &mut K,
     gathered: &mut Vec<u8>,
@@ -71,14 +80,7 @@ fn print_one<K: Sink>(
     ensures cause { IsErrOf result Stop.WriteFault → Rose (K.faults sink.old) (K.faults sink.new) }
     ensures later { K.faults sink.old ≤ K.faults sink.new }
 {
-    say_loose(gathered, reference)?;
+    let text = reference.text(*gathered.allocator())?;
+    say(gathered, b"loose ", text.as_bytes())?;
     flush(sink, gathered)
-}
-
-// `loose REF`
-fn say_loose(out: &mut Vec<u8>, reference: &Reference) -> Result<(), AllocError>
-    ensures { OnOk result (out.new.items ≡ out.old.items ++ loose_line reference.now) }
-{
-    let text = reference.text(*out.allocator())?;
-    say(out, b"loose ", text.as_bytes())
 }

@@ -1,11 +1,11 @@
 //! References that were noted.
-ghost use Rattle.std.specs.Prelude.{◌≡◌, ◌∷◌, [], OnOk};
+ghost use Rattle.std.specs.Prelude.{◌≡◌, ◌∷◌, [], map, OnOk};
 ghost use Rattle.up_audit.specs.Audits.{references_of};
 ghost use Rattle.up_audit.specs.Marks.{Notes, has_noted, put_references};
 ghost use Rattle.std.specs.Option.{option_copied};
 
 use std::alloc::{AllocError, Global};
-use up_entry::{Entry, Rec};
+use up_entry::{Block, Entry, Rec};
 use up_maps::OrderedMap;
 use up_refs::Reference;
 
@@ -47,10 +47,26 @@ impl Used {
         ensures { OnOk result (Notes self.old.noted.entries self.new.noted.entries
             (references_of entry.now)) }
     {
-        for block in entry.blocks.as_slice() {
-            self.note(block.location.reference)?;
+        self.note_blocks(entry.blocks.as_slice())
+    }
+
+    // Notes those of blocks.
+    fn note_blocks(&mut self, blocks: &[Block]) -> Result<(), AllocError>
+        ensures { OnOk result (Notes self.old.noted.entries self.new.noted.entries
+            (map (λ block. block.location.reference) blocks.now)) }
+    {
+        for block in blocks {
+            self.note_block(block)?;
         }
         Ok(())
+    }
+
+    // Notes that of a block, wherever it is kept.
+    fn note_block(&mut self, block: &Block) -> Result<(), AllocError>
+        ensures { OnOk result (Notes self.old.noted.entries self.new.noted.entries
+            (block.now.location.reference ∷ [])) }
+    {
+        self.note(block.location.reference)
     }
 
     /// Notes those of the entry that a record puts.
