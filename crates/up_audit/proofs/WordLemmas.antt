@@ -1,7 +1,7 @@
 -- The owners that words name are no snapshot users.
-use Rattle.std.proofs.Common.{◌≡◌, ◌∙◌, ◌+◌, ℕ, Bool, true, false, List, [], ◌∷◌, length, Option, Some, None, Result, Ok, Err, refl, sym, ap, subst}
+use Rattle.std.proofs.Common.{◌≡◌, ◌≢◌, ◌∙◌, ◌+◌, ◌-◌, ℕ, Bool, true, false, List, [], ◌∷◌, length, Option, Some, None, Result, Ok, Err, refl, sym, ap, subst, arith}
 use Rattle.std.specs.List.{AllByRecursion, slice_split}
-use Rattle.std.proofs.lemmas.Bool.{eqb-true}
+use Rattle.std.proofs.lemmas.Bool.{eqb-false, eqb-true}
 use Rattle.std.specs.Prelude.{◌==◌, if◌then◌else◌, IfSome}
 use Rattle.std.specs.Result.{result_ok}
 use Rattle.up_audit.specs.Words.{audit_plan, if_different, if_so_many, are_different, owners_for, owners_named, trees_named, trees_word}
@@ -85,5 +85,25 @@ many_so disks (Some owners) = go (length owners + 1 == disks) refl
 pub so_many : (words : List Text) (disks : ℕ) (owners : List UserName) → Some owners ≡ owners_for words disks → disks ≡ length owners + 1
 unfolding owners_for
 so_many words disks owners is = subst (λ f. IfSome f (λ os. disks ≡ length os + 1)) (sym is) (many_so disks (audit_plan words))
+
+-- ---- one disk more than trees
+
+pub no_more : (trees disks : ℕ) → disks ≡ 0 → false ≡ (trees + 1 == disks)
+no_more trees disks none = go (trees + 1 == disks) refl
+  where
+    go : (b : Bool) → (trees + 1 == disks) ≡ b → false ≡ b
+    go true is = let e = eqb-true (trees + 1) disks is in absurd (omega (arith, e, none))
+    go false is = refl
+
+pub one_less : (trees disks : ℕ) → disks ≢ 0 → (disks - 1 == trees) ≡ (trees + 1 == disks)
+one_less trees disks some = go (disks - 1 == trees) (trees + 1 == disks) refl refl
+  where
+    go : (a b : Bool) → (disks - 1 == trees) ≡ a → (trees + 1 == disks) ≡ b → a ≡ b
+    go true true one two = refl
+    go false false one two = refl
+    go true false one two = let e = eqb-true (disks - 1) trees one in absurd (eqb-false (trees + 1) disks two (omega (arith, e, some)))
+    go false true one two = let e = eqb-true (trees + 1) disks two in absurd (eqb-false (disks - 1) trees one (omega (arith, e)))
+
+pub ruleset one_more = (no_more, one_less)
 
 pub ruleset plains = (found_plain, owners_plain)

@@ -31,13 +31,12 @@ if_different users = if are_different users then Some users else None
 unfoldable pub trees_named : Text → Option (List UserName)
 trees_named word = if length word == 0 then Some [] else owners_named (slice_split is_comma word) >>= if_different
 
--- the word of the trees: the third, behind `audit` and a folder
+-- the word of the trees: the third of three, behind `audit` and a folder
 abbrev pub trees_word : List Text → Option Text
 trees_word [] = None
 trees_word (command ∷ []) = None
 trees_word (command ∷ folder ∷ []) = None
-trees_word (command ∷ folder ∷ trees ∷ []) = if bytes_eq command (codes "audit") then Some trees else None
-trees_word (command ∷ folder ∷ trees ∷ other ∷ more) = None
+trees_word (command ∷ folder ∷ trees ∷ more) = if bytes_eq command (codes "audit") && length more == 0 then Some trees else None
 
 -- the owners of the trees that the words name; none where they do not fit
 unfoldable pub audit_plan : List Text → Option (List UserName)

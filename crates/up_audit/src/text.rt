@@ -8,7 +8,7 @@ ghost use Rattle.up_lists.specs.Counts.{Rose};
 
 use crate::audit::Audit;
 use std::alloc::{AllocError, Global};
-use up_command::{Stop, finish, flush, say, say_count};
+use up_command::{Stop, finish, flush, say};
 use up_ends::Sink;
 use up_refs::Reference;
 
@@ -32,7 +32,8 @@ fn first_line(alloc: Global, audit: &Audit) -> Result<Vec<u8>, AllocError>
 {
     let mut line = Vec::new(alloc);
     add_number(&mut line, b"held ", audit.held)?;
-    say_count(&mut line, b" loose ", audit.loose.len())?;
+    add_number(&mut line, b" loose ", audit.loose.len())?;
+    line.push(b'\n')?;
     Ok(line)
 }
 

@@ -24,7 +24,8 @@ pub fn audit_words(alloc: Global, words: &[String]) -> Result<Option<Items<User>
     let Some(trees) = trees_word(words) else {
         return Ok(None);
     };
-    trees_named(alloc, trees.as_bytes())
+    let found = trees_named(alloc, trees.as_bytes())?;
+    Ok(found)
 }
 
 /// The same for so many disks: one for each tree, and one for the store.
@@ -50,19 +51,27 @@ pub(crate) fn owners_for(
 }
 
 // Whether there is one disk more than trees.
+#[tactic(auto, using(crate::proofs::WordLemmas::one_more))]
 fn is_one_more(trees: u64, disks: u64) -> bool
     ensures { result ≡ (trees + 1 == disks) }
 {
-    disks > 0 && disks - 1 == trees
+    if disks == 0 {
+        return false;
+    }
+    disks - 1 == trees
 }
 
 // The word of the trees.
 fn trees_word(words: &[String]) -> Option<&str>
     ensures { option_copied result ≡ trees_word (map string_bytes words.now) }
 {
-    match words {
-        [command, _, trees] if command.as_str() == "audit" => Some(trees.as_str()),
-        _ => None,
+    let (command, rest) = words.split_first()?;
+    let (_, rest) = rest.split_first()?;
+    let (trees, rest) = rest.split_first()?;
+    if command.as_str() == "audit" && rest.is_empty() {
+        Some(trees.as_str())
+    } else {
+        None
     }
 }
 

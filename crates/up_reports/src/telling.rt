@@ -3,7 +3,7 @@ ghost use Rattle.std.specs.Prelude.{◌≡◌, ◌≤◌, ◌++◌, [], codes, d
 ghost use Rattle.up_command.specs.Statuses.{code_of};
 ghost use Rattle.up_lists.specs.Counts.{Rose};
 ghost use Rattle.up_refs.specs.References.{text_of};
-ghost use Rattle.up_reports.specs.Telling.{AnswersOne, IsLast, TellsLast, chain_at, damaged_at, old_format_at, told_of};
+ghost use Rattle.up_reports.specs.Telling.{AnswersOne, IsLast, TellsLast, chain_at, damaged_at, old_format_at, refused_by, told_of};
 
 use crate::refused::Refused;
 use std::alloc::{AllocError, Global};
@@ -27,7 +27,7 @@ pub fn tell_refused<K: Sink>(alloc: Global, sink: &mut K, refused: Refused) -> u
     ensures cause { result ≡ 3 → Rose (K.faults sink.old) (K.faults sink.new) }
     ensures later { K.faults sink.old ≤ K.faults sink.new }
 {
-    let last = refused_line(alloc, refused);
+    let last = refused_line(alloc, refused.which, refused.why);
     tell(sink, last)
 }
 
@@ -49,13 +49,13 @@ fn tell<K: Sink>(sink: &mut K, last: Result<Last, AllocError>) -> u8
 }
 
 // What is printed of a log that does not open.
-fn refused_line(alloc: Global, refused: Refused) -> Result<Last, AllocError>
-    ensures { IsLast result (told_of refused) }
+fn refused_line(alloc: Global, which: u64, why: OpenWhy) -> Result<Last, AllocError>
+    ensures { IsLast result (refused_by which why) }
 {
-    match refused.why {
-        OpenWhy::Damaged(gate) => damaged_line(alloc, refused.which, gate),
-        OpenWhy::Chain(gate, wanted, got) => chain_line(alloc, refused.which, gate, &wanted, &got),
-        OpenWhy::OldFormat => old_line(alloc, refused.which),
+    match why {
+        OpenWhy::Damaged(gate) => damaged_line(alloc, which, gate),
+        OpenWhy::Chain(gate, wanted, got) => chain_line(alloc, which, gate, &wanted, &got),
+        OpenWhy::OldFormat => old_line(alloc, which),
         OpenWhy::Fault => Ok(silent(alloc, Status::DiskFault)),
         OpenWhy::OutOfMemory => Ok(silent(alloc, Status::OutOfMemory)),
     }

@@ -21,5 +21,6 @@ returns-in-Err-clause-spare g c =
     let back = c.give_back.ensures.spare in
     omega (arith, room, back)
 
-pub returns-clause-room : goal.returns-clause-room
-returns-clause-room g c = takes_spare g.D.Disk c.args.limits c.args.owners c.args.disks.now.disks c.open_each.new.disks.disks c.open_each.new.trees.items c.args.disks.now.spare c.open_each.new.disks.spare _ _
+pub returns-in-Ok-clause-room : goal.returns-in-Ok-clause-room
+returns-in-Ok-clause-room g c =
+    takes_spare g.D.Disk c.args.limits c.args.owners c.args.disks.now.disks c.open_each.new.disks.disks c.open_each.new.trees.items c.args.disks.now.spare c.open_each.new.disks.spare c.in-Ok.ensures.opens c.open_each.ensures.spare
