@@ -49,6 +49,12 @@ trees_plain word = go (length word == 0)
     go true = tt
     go false = different_plain (owners_named (slice_split is_comma word)) (named_plain (slice_split is_comma word))
 
+pub trees_found : (word : Text) (found : Option (List UserName)) → found ≡ trees_named word → IfSome found ArePlain
+trees_found word found is = subst (λ f. IfSome f ArePlain) (sym is) (trees_plain word)
+
+pub plain_some : (found : Option (List UserName)) (owners : List UserName) → found ≡ Some owners → IfSome found ArePlain → AllByRecursion (λ owner. owns_snapshots owner ≡ false) owners
+plain_some found owners is all = subst (λ f. IfSome f ArePlain) is all
+
 plan_plain : (words : List Text) → IfSome (audit_plan words) ArePlain
 unfolding audit_plan
 plan_plain words = go (trees_word words)
@@ -106,4 +112,4 @@ one_less trees disks some = go (disks - 1 == trees) (trees + 1 == disks) refl re
 
 pub ruleset one_more = (no_more, one_less)
 
-pub ruleset plains = (found_plain, owners_plain)
+pub ruleset plains = (owners_plain, plain_some)
