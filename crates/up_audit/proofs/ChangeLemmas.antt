@@ -150,4 +150,3 @@ module _ (records : List Rec) (path : PathName) where
       go (Some rec) is so_far =
           ap (λ rs. node_at (tree_of rs) path) (take_next n records rec is) ∙ ap (λ t. node_at t path) (tree_of-push (take n records) rec)
           ∙ by rec is (changes rec) refl so_far ∙ sym (ap left (last_next n rec is))
-
