@@ -1,23 +1,21 @@
 -- What a log's records tell to be used is what the trees that it shows use.
-use Rattle.std.proofs.Common.{◌≡◌, ◌∙◌, ℕ, zero, suc, ◌+◌, ◌-◌, ◌<◌, ◌≤◌, ◌⊎◌, inl, inr, Bool, true, false, cond, ◌||◌, List, [], ◌∷◌, ◌++◌, length, map, take, Option, Some, None, refl, sym, ap, subst, arith}
+use Rattle.std.proofs.Common.{◌≡◌, ◌∙◌, ℕ, zero, suc, ◌+◌, ◌-◌, ◌<◌, ◌⊎◌, inl, inr, Bool, true, false, cond, ◌||◌, List, [], ◌∷◌, length, take, Option, Some, None, refl, sym, ap, arith}
 use Rattle.std.proofs.lemmas.Bool.{cases_lt, eqb-false, eqb-true, false≢true, lt-ltb, ltb-true}
-use Rattle.std.proofs.lemmas.List.{length-take-le, take_all}
+use Rattle.std.proofs.lemmas.List.{take_all}
 use Rattle.std.proofs.lemmas.List.Folds.{list_any-append}
 use Rattle.std.proofs.lemmas.Option.{slice_get_within}
-use Rattle.std.specs.FinMap.Entries.{find}
-use Rattle.std.specs.List.{flat_map, list_any}
+use Rattle.std.specs.List.{list_any}
 use Rattle.std.specs.Option.{option_and_then}
 use Rattle.std.specs.Prelude.{◌==◌, if◌then◌else◌, nat_lt, slice_get}
 use Rattle.std.specs.Str.{bytes_eq}
 use Rattle.up_audit.proofs.ChangeLemmas as changes
 use Rattle.up_audit.proofs.ChangeLemmas.{put_by}
-use Rattle.up_audit.proofs.ListLemmas.{Found, alike, any_at, any_flat, any_map, found_in, found_listed, listed_found}
+use Rattle.up_audit.proofs.ListLemmas.{alike, any_at, any_flat, any_map, found_in, found_listed, listed_found}
 use Rattle.up_audit.specs.Audits.{Ref, is_among, is_snap, references_of, shown_trees, tree_references, used_in}
 use Rattle.up_audit.specs.Marks.{gone_at, gone_by, is_position, last_snap, put_references, snap_after, standing_at, stands_at, told_at, told_by}
 use Rattle.up_entry.specs.declared.records.Rec.{Rec}
 use Rattle.up_entry.specs.declared.records.Rec.TheVariants.{Put, Delete, Snap}
 use Rattle.up_names.specs.PathNames.{PathName}
-use Rattle.up_names.specs.PathOrder.{path_cmp}
 use Rattle.up_replay.proofs.Paths.{some_none, some_same}
 use Rattle.up_replay.proofs.Trees.{tree_sorted}
 use Rattle.up_replay.specs.Changes.{change_before, last_change, path_of_change, positions_of, record_at}
