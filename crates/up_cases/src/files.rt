@@ -3,6 +3,7 @@ use std::hash::RandomState;
 use std::random::RandomSource;
 use std::rt::Files;
 use std::{fs, io};
+use up_case_audits::Audits;
 use up_case_files::{CacheLines, ClientLines, CopyLines, TerminalLines};
 use up_case_hosts::Hosts;
 use up_case_lines::{File, Tally, run_lines};
@@ -98,6 +99,7 @@ fn run_other_topic<R: RandomSource + AllocGlobal + Print>(
         "logs" => run_lines(rt, file, Logs::new(), tally),
         "moves" => run_lines(rt, file, Moves, tally),
         "crashes" => run_lines(rt, file, Crashes, tally),
+        "audits" => run_lines(rt, file, Audits, tally),
         _ => run_hashed(rt, file, RandomState::new(rt)?, tally),
     }
 }
