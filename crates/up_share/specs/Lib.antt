@@ -1,0 +1,5 @@
+pub mod Orders
+pub mod OrderLaws
+pub mod Readers
+pub mod Report
+pub mod Known
