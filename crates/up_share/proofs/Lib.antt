@@ -5,3 +5,4 @@ pub mod MeetLemmas
 pub mod ReaderLemmas
 pub mod PathLemmas
 pub mod KnownLemmas
+pub mod ToldLemmas
