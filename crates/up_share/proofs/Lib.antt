@@ -6,3 +6,4 @@ pub mod ReaderLemmas
 pub mod PathLemmas
 pub mod KnownLemmas
 pub mod ToldLemmas
+pub mod ShareLemmas
