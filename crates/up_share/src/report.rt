@@ -1,7 +1,8 @@
 //! The report on a tree.
-ghost use Rattle.std.specs.Prelude.{◌≡◌, ◌++◌, [], codes, true, Some, None, IfOk, OnOk};
+ghost use Rattle.std.specs.Prelude.{◌≡◌, ◌++◌, [], codes, true, Some, None, IfOk, OnOk, slice_get};
 ghost use Rattle.std.specs.List.{flat_map};
 ghost use Rattle.std.specs.Map.{keys_of};
+ghost use Rattle.std.specs.Option.{option_copied};
 ghost use Rattle.up_names.specs.PathNames.{canonical};
 ghost use Rattle.up_replay.specs.Rights.{governing_prefix};
 ghost use Rattle.up_replay.specs.Trees.{Tree as OneTree, after_record, tree_of};
@@ -110,12 +111,19 @@ fn tell_paths<D: Disk>(
         ≡ unread_in state.now.owner (tree_of state.now.log)) }
 {
     for i in 0..paths.len() {
-        let Some(path) = paths.key_at(i) else {
+        let Some(path) = path_at(paths, i) else {
             unreachable!()
         };
         tell_path(alloc, state, path, known, text)?;
     }
     Ok(())
+}
+
+/// The path at a place, in order.
+fn path_at(paths: &PathSet, place: u64) -> Option<&Path>
+    ensures { option_copied result ≡ slice_get (keys_of paths.now.entries) place }
+{
+    paths.key_at(place)
 }
 
 /// Adds the line of a path, where a file stands there.
