@@ -10,6 +10,7 @@ use up_case_lines::{File, Tally, run_lines};
 use up_case_logs::{Crashes, Fields, Logs, Moves, Records};
 use up_case_scripts::{Command, run_scripts};
 use up_case_serves::Serves;
+use up_case_shares::Shares;
 use up_case_texts::{
     Ends, Messages, Names, Patterns, PeerLines, References, Replies, Requests, Rights, Signing,
     Streams, Texts,
@@ -119,6 +120,7 @@ fn run_hashed<R: AllocGlobal + Print>(
         "globs" | "steps" | "watches" => run_lines(rt, file, Asked::new(random), tally),
         "rights" => run_lines(rt, file, Rights::new(random), tally),
         "serves" => run_lines(rt, file, Serves::new(random), tally),
+        "shares" => run_lines(rt, file, Shares::new(rt.alloc(), random), tally),
         "worlds" => run_lines(rt, file, Worlds::new(random), tally),
         _ => {
             tally.fail();

@@ -1,0 +1,7 @@
+pub mod Orders
+pub mod OrderLaws
+pub mod Readers
+pub mod Report
+pub mod Known
+pub mod Plans
+pub mod Sharing
