@@ -1,0 +1,4 @@
+pub mod BatchLemmas
+pub mod PullLemmas
+pub mod TakingLemmas
+pub mod ReadLemmas
