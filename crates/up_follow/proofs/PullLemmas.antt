@@ -114,9 +114,10 @@ module _ {D : Type 0} (disks : Ghosts D) where
 
     -- ---- a leader whose records all fit
 
-    get_at : {X : Type 0} (front rest : List X) (x : X) → slice_get (front ++ x ∷ rest) (length front) ≡ Some x
-    get_at [] rest x = refl
-    get_at (y ∷ front) rest x = get_at front rest x
+    get_at : {X : Type 0} (front rest : List X) (x : X) (n : ℕ) → n ≡ length front → slice_get (front ++ x ∷ rest) n ≡ Some x
+    get_at [] rest x n is = ap (λ k. slice_get (x ∷ rest) k) is
+    get_at (y ∷ front) rest x zero is = absurd (omega (arith, is))
+    get_at (y ∷ front) rest x (suc n) is = get_at front rest x n (omega (arith, is))
 
     take_at : {X : Type 0} (front rest : List X) → take (length front) (front ++ rest) ≡ front
     take_at front rest = take-append-le (length front) front rest (omega arith) ∙ take_all (length front) front (omega arith)
@@ -135,7 +136,7 @@ module _ {D : Type 0} (disks : Ghosts D) where
         let same : cut.firsts ≡ log = (let e = sym cut.one ∙ first.spelled in cc) in
         let all : log ++ head.rec ∷ head.more ≡ of_tree.records =
         ap (λ (l : List Rec). l ++ head.rec ∷ head.more) (sym same) ∙ ap (λ (l : List Rec). cut.firsts ++ l) head.whole ∙ cut.whole in
-        let there : slice_get of_tree.records (length log) ≡ Some head.rec = ap (λ (l : List Rec). slice_get l (length log)) (sym all) ∙ get_at log head.more head.rec in
+        let there : slice_get of_tree.records (length log) ≡ Some head.rec = ap (λ (l : List Rec). slice_get l (length log)) (sym all) ∙ get_at log head.more head.rec (length log) refl in
         let front : take (length log) of_tree.records ≡ log = ap (take (length log)) (sym all) ∙ take_at log (head.rec ∷ head.more) in
         let fitted : fits owner log head.rec ≡ true = ap (λ (l : List Rec). fits owner l head.rec) (sym front) ∙ of_tree.fitting.each (length log) head.rec there in
         let found = fitting_is owner log text head.rec head.decoded fitted in

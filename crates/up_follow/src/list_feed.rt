@@ -1,5 +1,5 @@
 //! A feed over records in memory.
-ghost use Rattle.std.specs.Prelude.{◌≡◌, ◌≤◌, length, true, Err, Ok, IfOk, IsErrOf, IsOk, Some, ◌↔◌};
+ghost use Rattle.std.specs.Prelude.{◌≡◌, ◌≤◌, ◌++◌, ◌∷◌, [], length, true, Err, IfOk, OnOk, Some, ◌↔◌};
 ghost use Rattle.up_follow.specs.Feeds.{IsBatch, OnlyLonger, batch_limit};
 ghost use Rattle.up_follow.specs.ListLogs.{after_pull, batch_of};
 ghost use Rattle.up_follow.specs.declared.fault.FeedFault.TheVariants as feed_fault;
@@ -95,15 +95,15 @@ fn copied(alloc: Global, records: &[Bytes]) -> Result<Batch, AllocError>
     ensures { IfOk result (λ copy. copy ≡ records.now) }
 {
     let mut copy = Items::new(alloc);
-    for record in records {
-        add_copy(alloc, &mut copy, record.as_slice())?;
+    for text in records {
+        add_copy(alloc, &mut copy, text.as_slice())?;
     }
     Ok(copy)
 }
 
-fn add_copy(alloc: Global, copy: &mut Batch, record: &[u8]) -> Result<(), AllocError>
-    ensures { OnOk result (copy.new ≡ copy.old ++ record.now ∷ []) }
+fn add_copy(alloc: Global, copy: &mut Batch, text: &[u8]) -> Result<(), AllocError>
+    ensures { OnOk result (copy.new ≡ copy.old ++ text.now ∷ []) }
 {
-    copy.push(copy_of(alloc, record)?)?;
+    copy.push(copy_of(alloc, text)?)?;
     Ok(())
 }

@@ -110,9 +110,12 @@ fn add<D: Disk>(tree: &mut TreeState<D>, rec: Rec) -> Result<(), FollowWhy>
         (result ≡ Err why.Io) }
     ensures grows { OnlyGrows entries_of (λ state. D.faults state.disk) fixed_of tree.old tree.new }
 {
-    if rec_size(&rec) > tree.largest() {
+    // That the limits are those of a journal is told here.
+    let records = tree.position();
+    let size = rec_size(&rec);
+    if size > tree.largest() {
         drop(rec);
-        return Err(FollowWhy::Full(tree.position()));
+        return Err(FollowWhy::Full(records));
     }
     match tree.apply(rec) {
         Ok(_position) => Ok(()),

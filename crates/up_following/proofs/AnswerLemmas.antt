@@ -1,0 +1,1 @@
+-- What is left behind once an input was read, or was not.

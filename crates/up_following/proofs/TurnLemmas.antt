@@ -1,0 +1,30 @@
+-- How a line ends, by what its parts answered.
+use Rattle.std.proofs.Common.{◌≡◌, ℕ, List, [], ◌++◌, ◌⊎◌, inl, inr, Option, Some, None, Result, Ok, Err, refl, sym, ap, subst, append-nil}
+use Rattle.std.specs.Result.{IsErrAnd}
+use Rattle.up_names.specs.Texts.{Text}
+use Rattle.up_following.specs.FollowTurns.{Came, Did, Turned, said}
+use Rattle.up_following.specs.declared.stop.LineStop.{LineStop}
+use Rattle.up_following.specs.declared.stop.LineStop.TheVariants as stop
+
+-- there was no memory to do it
+pub unmade : (came : Came → Type 0) (old new : Text) (result : Result (Unit {0}) LineStop) → came (Err stop.OutOfMemory) → IsErrAnd result (λ why. why ≡ stop.OutOfMemory) → Turned came old result new
+unmade came old new (Ok done) made is = absurd is
+unmade came old new (Err stop.OutOfMemory) made is = inl made
+unmade came old new (Err stop.Malformed) made is = absurd (cc)
+
+-- or none for the text of what it did
+pub unsaid : (came : Came → Type 0) (did : Did) (old new : Text) (result : Result (Unit {0}) LineStop) → came (Ok did) → IsErrAnd result (λ why. why ≡ stop.OutOfMemory) → Turned came old result new
+unsaid came did old new (Ok done) made is = absurd is
+unsaid came did old new (Err stop.OutOfMemory) made is = inr (did, made)
+unsaid came did old new (Err stop.Malformed) made is = absurd (cc)
+
+-- what is said of a part is said of the whole
+pub weaker : (one two : Came → Type 0) (old new : Text) (result : Result (Unit {0}) LineStop) → ((came : Came) → one came → two came) → Turned one old result new → Turned two old result new
+weaker one two old new (Ok done) each turned = (turned.0, (each (Ok turned.0) turned.1.0, turned.1.1))
+weaker one two old new (Err stop.OutOfMemory) each (inl came) = inl (each (Err stop.OutOfMemory) came)
+weaker one two old new (Err stop.OutOfMemory) each (inr made) = inr (made.0, each (Ok made.0) made.1)
+weaker one two old new (Err stop.Malformed) each turned = (each (Err stop.Malformed) turned.0, turned.1)
+
+-- nothing was done, and nothing is printed
+pub silent : (came : Came → Type 0) (text : Text) → came (Ok Did.Nothing) → Turned came text (Ok tt) text
+silent came text is = (Did.Nothing, (is, sym (append-nil text)))
