@@ -1,8 +1,11 @@
 -- Texts and the records that they spell.
-use Rattle.std.proofs.Common.{◌≡◌, ◌≤◌, ◌+◌, ℕ, zero, suc, List, [], ◌∷◌, ◌++◌, length, drop, Option, Some, None, option_map, refl, sym, ap, subst, ◌∙◌, append_assoc, append-nil, length-append, arith}
+use Rattle.std.proofs.Common.{◌≡◌, ◌≤◌, ◌+◌, ◌-◌, ℕ, min, zero, suc, List, [], ◌∷◌, ◌++◌, length, drop, Option, Some, None, option_map, refl, sym, ap, subst, ◌∙◌, append_assoc, append-nil, length-append, arith}
 use Rattle.std.specs.Option.{option_and_then}
 use Rattle.up_entry.specs.declared.records.Rec.{Rec}
-use Rattle.up_follow.specs.Feeds.{AreFirst, Follows, IsAllOf, IsBatch}
+use Rattle.std.proofs.lemmas.List.{length-drop, length-take}
+use Rattle.up_follow.specs.Feeds.{AreFirst, Follows, IsAllOf, IsBatch, batch_limit}
+use Rattle.up_follow.specs.ListLogs.{batch_of}
+use Rattle.up_lists.proofs.BeginsLemmas.{Begins-take}
 use Rattle.up_journal.specs.Records.{records_of}
 use Rattle.up_lists.specs.Begins.{Begins}
 use Rattle.up_tree.specs.States.{record_in}
@@ -111,6 +114,12 @@ follows_more log added leader batch taken left first behind cut spelled = record
   spelled = records_append record_in first.front taken log added first.spelled spelled;
 }
 
+-- what is left behind it then
+pub more_rest : (log added : List Rec) (leader batch taken left : List (List ℕ)) (first : Follows log leader) (behind : Begins batch (drop (length log) leader))
+    (cut : taken ++ left ≡ batch) (spelled : records_of record_in taken ≡ Some added) → (follows_more log added leader batch taken left first behind cut spelled).rest ≡ left ++ behind.rest
+unfolding follows_more
+more_rest log added leader batch taken left first behind cut spelled = refl
+
 none_of : {X : Type 0} (xs : List X) → length xs ≡ 0 → xs ≡ []
 none_of [] is = refl
 none_of (x ∷ xs) is = absurd (omega (arith, is))
@@ -126,3 +135,17 @@ follows_whole log leader first short =
 
 pub whole_length : (log : List Rec) (leader : List (List ℕ)) → IsAllOf log leader → length leader ≤ length log
 whole_length log leader whole = omega (arith, records_length record_in leader log whole)
+
+-- ---- what a list in memory gives
+
+taken_length : (from : ℕ) (log : List (List ℕ)) → length (batch_of from log) ≡ min 64 (length log - from)
+taken_length from log = length-take 64 (drop from log) ∙ ap (min 64) (length-drop from log)
+
+pub few_taken : (from : ℕ) (log : List (List ℕ)) → length (batch_of from log) ≤ batch_limit
+few_taken from log = omega (arith, taken_length from log)
+
+pub batch_taken : (from : ℕ) (log : List (List ℕ)) → IsBatch from (batch_of from log) log
+batch_taken from log = record {
+  behind = Begins-take 64 (drop from log);
+  none = ((λ none. omega (arith, taken_length from log, ap length none)), (λ no_more. none_of (batch_of from log) (omega (arith, taken_length from log, no_more))));
+}

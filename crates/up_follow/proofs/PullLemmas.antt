@@ -1,5 +1,6 @@
 -- What a pull means for a log that follows the leader's.
 use Rattle.std.proofs.Common.{◌≡◌, ◌≢◌, ◌≤◌, ◌<◌, ◌+◌, ◌↔◌, ℕ, zero, suc, Bool, true, false, cond, List, [], ◌∷◌, ◌++◌, length, take, drop, slice_get, Option, Some, None, Result, Ok, Err, IfOk, IfSome, IsOk, refl, sym, ap, subst, ◌∙◌, append_assoc, append-nil, length-append, inl, inr, arith}
+use Rattle.std.proofs.lemmas.Bool.{false≢true}
 use Rattle.std.proofs.lemmas.List.{take-append-le, take_all}
 use Rattle.std.specs.Option.{option_and_then}
 use Rattle.up_dir.specs.Crashes.{image_log}
@@ -7,7 +8,7 @@ use Rattle.up_disk.proofs.Moments.{started}
 use Rattle.up_disk.specs.Leaving.{LeavesNow}
 use Rattle.up_disk.specs.declared.disk.Disk.{Ghosts}
 use Rattle.up_entry.specs.declared.records.Rec.{Rec}
-use Rattle.up_follow.proofs.BatchLemmas.{follows_longer, follows_more, follows_whole, records_headed, records_split, whole_length}
+use Rattle.up_follow.proofs.BatchLemmas.{follows_longer, follows_more, follows_whole, more_rest, records_headed, records_split, whole_length}
 use Rattle.up_follow.specs.Feeds.{AreFirst, Follows, IsAllOf, IsBatch, IsTreeLog, OnlyLonger, batch_limit}
 use Rattle.up_follow.specs.Pulls.{IsStrange, MayHaveSome, Pulls, StopsAt, Takes}
 use Rattle.up_follow.specs.Taking.{fitting_in, if_fits}
@@ -63,14 +64,14 @@ module _ {D : Type 0} (disks : Ghosts D) where
       batch = [];
       few = omega arith;
       behind = no_batch leader (length state.log);
-      none = λ ok. absurd ok;
+      none = λ ok. absurd (false≢true ok);
       takes = none_taken state (Err why.Failed) safe refl tt;
     }
     pulls_none leader state feed_fault.OutOfMemory safe = record {
       batch = [];
       few = omega arith;
       behind = no_batch leader (length state.log);
-      none = λ ok. absurd ok;
+      none = λ ok. absurd (false≢true ok);
       takes = none_taken state (Err why.OutOfMemory) safe tt tt;
     }
 
@@ -92,7 +93,7 @@ module _ {D : Type 0} (disks : Ghosts D) where
     count_of : (after : List (List ℕ)) → Pulls disks (Some after) old new result → (count : ℕ) → result ≡ Ok count → Follows old.log after → (count ≡ 0) ↔ IsAllOf old.log after
     count_of after pulls count is first =
         let counted : count ≡ length pulls.batch = subst (λ (r : Result ℕ FollowWhy). IfOk r (λ n. n ≡ length pulls.batch)) is pulls.takes.count in
-        let none = pulls.none (subst (λ (r : Result ℕ FollowWhy). IsOk r) (sym is) tt) in (
+        let none = pulls.none (subst (λ (r : Result ℕ FollowWhy). IsOk r) (sym is) refl) in (
           (λ zero_is. follows_whole old.log after first (none.0 (empty_of pulls.batch (sym counted ∙ zero_is)))),
           (λ whole. counted ∙ ap length (none.1 (whole_length old.log after whole))),
         )
@@ -147,7 +148,8 @@ module _ {D : Type 0} (disks : Ghosts D) where
     behind_taken : (log added : List Rec) (leader batch taken left : List (List ℕ)) (text : List ℕ) (more : List (List ℕ)) (first : Follows log leader) (behind : Begins batch (drop (length log) leader))
         (cut : taken ++ left ≡ batch) (spelled : records_of record_in taken ≡ Some added) → left ≡ text ∷ more
         → (follows_more log added leader batch taken left first behind cut spelled).rest ≡ text ∷ (more ++ behind.rest)
-    behind_taken log added leader batch taken left text more first behind cut spelled is = ap (λ (l : List (List ℕ)). l ++ behind.rest) is
+    behind_taken log added leader batch taken left text more first behind cut spelled is =
+        more_rest log added leader batch taken left first behind cut spelled ∙ ap (λ (l : List (List ℕ)). l ++ behind.rest) is
 
     not_strange : (owner : UserName) (leader : List (List ℕ)) → old.owner ≡ owner → new.owner ≡ owner → Follows old.log leader → Pulls disks (Some leader) old new result → IsTreeLog owner leader
         → (position : ℕ) → result ≡ Err (why.Strange position) → ⊥

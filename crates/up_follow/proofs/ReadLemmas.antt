@@ -1,6 +1,6 @@
 -- A request that only looks leads to no record, and its answer is no position.
 use Rattle.std.proofs.Common.{◌≡◌, ◌≢◌, ℕ, Bool, true, false, not, List, [], ◌∷◌, ◌++◌, refl, sym, ap, subst, ◌∙◌, ◌⊎◌, inl, inr, ⊎_elim, Result, Ok, Err}
-use Rattle.std.specs.Prelude.{if◌then◌else◌, nat_lt, int_le, negsuc, is_err}
+use Rattle.std.specs.Prelude.{if◌then◌else◌, nat_lt, int_le, negsuc}
 use Rattle.std.specs.Prelude as std
 use Rattle.std.specs.Str.{bytes_eq}
 use Rattle.std.proofs.lemmas.Bool.{false≢true}
@@ -16,9 +16,11 @@ use Rattle.up_entry.specs.declared.fault.EntryFault.TheVariants as fault
 use Rattle.up_entry.specs.declared.records.Rec.{Rec}
 use Rattle.up_entry.specs.declared.what.What.TheVariants as what
 use Rattle.up_follow.specs.Reads.{is_read}
-use Rattle.up_laws.proofs.QuietLemmas.{asked_quiet, is_odd, leads_odd}
 use Rattle.up_list.specs.Asking.{asked_of, owner_asked, pattern_or_fault}
 use Rattle.up_list.specs.Changes.{added_by, answer_of}
+use Rattle.up_list.specs.Looks.{look_now}
+use Rattle.up_answers.specs.SnapshotTrees.{snapshot_look}
+use Rattle.up_follow.proofs.QuietLemmas.{access_quiet, glob_quiet, lookup_quiet, tells_position, text_quiet, watch_quiet}
 use Rattle.up_list.specs.declared.asking.Asked.{Asked}
 use Rattle.up_list.specs.declared.asking.Asked.TheVariants.{Lookup, WhichAccess, GroupText, Delete, Put, Glob, Watch}
 use Rattle.up_policy.specs.Loadings.{Loading}
@@ -69,34 +71,39 @@ look_read user (request.StoreDelete text) asked read h = absurd (false≢true re
 look_read user (request.KeyLookup text) asked read h = absurd (false≢true read)
 look_read user (request.KeyPut card) asked read h = absurd (false≢true read)
 
--- ---- it leads to a reply, and not to a record
+-- ---- it leads to a reply that is no position, and not to a record
+
+-- a request leads to such a reply
+abbrev pub IsQuiet : Result Rec Reply → Type 0
+IsQuiet (Ok rec) = ⊥
+IsQuiet (Err given) = tells_position given ≡ false
 
 module _ (log : Log) (loaded : Loading) (fetched : Fetched) (user : List ℕ) (now : ℕ) where
-  look_tree : (asked : Asked) → Looks asked → is_err (tree_outcome log loaded fetched user asked) ≡ true
+  look_tree : (asked : Asked) → Looks asked → IsQuiet (tree_outcome log loaded fetched user asked)
   unfolding tree_outcome
-  look_tree (Lookup path) looks = refl
-  look_tree (WhichAccess path) looks = refl
-  look_tree (GroupText path) looks = refl
-  look_tree (Glob pattern) looks = refl
-  look_tree (Watch path sequence) looks = refl
+  look_tree (Lookup path) looks = lookup_quiet (look_now log loaded user) path
+  look_tree (WhichAccess path) looks = access_quiet (look_now log loaded user) path
+  look_tree (GroupText path) looks = text_quiet (look_now log loaded user) path
+  look_tree (Glob pattern) looks = glob_quiet (look_now log loaded user) pattern
+  look_tree (Watch path sequence) looks = watch_quiet log loaded user path sequence
   look_tree (Delete path) looks = absurd (false≢true looks)
   look_tree (Put put) looks = absurd (false≢true looks)
 
-  look_snapshots : (asked : Asked) → Looks asked → is_err (snapshot_outcome log user asked now) ≡ true
+  look_snapshots : (asked : Asked) → Looks asked → IsQuiet (snapshot_outcome log user asked now)
   unfolding snapshot_outcome
-  look_snapshots (Lookup path) looks = refl
-  look_snapshots (WhichAccess path) looks = refl
-  look_snapshots (GroupText path) looks = refl
-  look_snapshots (Glob pattern) looks = refl
+  look_snapshots (Lookup path) looks = lookup_quiet (snapshot_look log user) path
+  look_snapshots (WhichAccess path) looks = access_quiet (snapshot_look log user) path
+  look_snapshots (GroupText path) looks = text_quiet (snapshot_look log user) path
+  look_snapshots (Glob pattern) looks = glob_quiet (snapshot_look log user) pattern
   look_snapshots (Watch path sequence) looks = refl
   look_snapshots (Delete path) looks = absurd (false≢true looks)
   look_snapshots (Put put) looks = absurd (false≢true looks)
 
-  look_asked : (asked : Asked) → Looks asked → is_err (asked_outcome log loaded fetched user asked now) ≡ true
+  look_asked : (asked : Asked) → Looks asked → IsQuiet (asked_outcome log loaded fetched user asked now)
   unfolding asked_outcome
   look_asked asked looks = go (bytes_eq (owner_asked asked) log.owner) (bytes_eq (log_owner (owner_asked asked)) log.owner)
     where
-      go : (a b : Bool) → is_err (if a then tree_outcome log loaded fetched user asked else if b then snapshot_outcome log user asked now else std.Err reply.WrongHost) ≡ true
+      go : (a b : Bool) → IsQuiet (if a then tree_outcome log loaded fetched user asked else if b then snapshot_outcome log user asked now else std.Err reply.WrongHost)
       go true b = look_tree asked looks
       go false true = look_snapshots asked looks
       go false false = refl
@@ -105,29 +112,21 @@ module _ (log : Log) (loaded : Loading) (fetched : Fetched) (user : List ℕ) (n
   led (Ok asked) = asked_outcome log loaded fetched user asked now
   led (Err fault) = Err (fault_reply fault)
 
-  look_outcome : (request' : Request) → is_read request' ≡ true → is_err (outcome log loaded fetched user request' now) ≡ true
-  unfolding outcome
-  look_outcome request' read = go (asked_of user request') refl
-    where
-      go : (r : Result Asked EntryFault) → asked_of user request' ≡ r → is_err (led r) ≡ true
-      go (Ok asked) is = look_asked asked (look_read user request' asked read is)
-      go (Err fault) is = refl
-
-  fault_quiet : (fault : EntryFault) → is_odd false (fault_reply fault) ≡ false
+  fault_quiet : (fault : EntryFault) → tells_position (fault_reply fault) ≡ false
   fault_quiet (fault.Invalid what) = refl
   fault_quiet fault.OutOfMemory = refl
 
-  quiet_outcome : (request' : Request) → leads_odd false (outcome log loaded fetched user request' now) ≡ false
+  look_outcome : (request' : Request) → is_read request' ≡ true → IsQuiet (outcome log loaded fetched user request' now)
   unfolding outcome
-  quiet_outcome request' = go (asked_of user request')
+  look_outcome request' read = go (asked_of user request') refl
     where
-      go : (r : Result Asked EntryFault) → leads_odd false (led r) ≡ false
-      go (Ok asked) = asked_quiet false log loaded fetched user now asked (λ counts. absurd (false≢true counts))
-      go (Err fault) = fault_quiet fault
+      go : (r : Result Asked EntryFault) → asked_of user request' ≡ r → IsQuiet (led r)
+      go (Ok asked) is = look_asked asked (look_read user request' asked read is)
+      go (Err fault) is = fault_quiet fault
 
 -- ---- a reply that is no position
 
-no_position : (given : Reply) → is_odd false given ≡ false → is_changed (bounded given) ≡ false
+no_position : (given : Reply) → tells_position given ≡ false → is_changed (bounded given) ≡ false
 no_position (reply.Ok d) h = go (nat_lt 67108864 (reply_size (reply.Ok d)))
   where
     go : (b : Bool) → is_changed (if b then reply.TooLarge (reply_size (reply.Ok d)) else reply.Ok d) ≡ false
@@ -151,10 +150,10 @@ no_position (reply.Full n) h = refl
 no_position reply.Io h = refl
 no_position reply.OutOfMemory h = refl
 
-told_by : (log : Log) (leads : Result Rec Reply) → is_err leads ≡ true → leads_odd false leads ≡ false → (added_by log leads ≡ []) × (is_changed (answer_of log leads) ≡ false)
+told_by : (log : Log) (leads : Result Rec Reply) → IsQuiet leads → (added_by log leads ≡ []) × (is_changed (answer_of log leads) ≡ false)
 unfolding added_by answer_of
-told_by log (Ok rec) err quiet = absurd (false≢true err)
-told_by log (Err given) err quiet = (refl, no_position given quiet)
+told_by log (Ok rec) quiet = absurd quiet
+told_by log (Err given) quiet = (refl, no_position given quiet)
 
 -- ---- what a step does that answers it
 
@@ -197,5 +196,5 @@ unfolding answer added
 read_steps disks loaded fetched user request' now old new answered read steps =
     let log = log_of old in
     let leads = outcome log loaded fetched user request' now in
-    let known = told_by log leads (look_outcome log loaded fetched user now request' read) (quiet_outcome log loaded fetched user now request') in
+    let known = told_by log leads (look_outcome log loaded fetched user now request' read) in
     (stays disks (answer_of log leads) (added_by log leads) old new answered known.0 steps, told_as disks (answer_of log leads) (added_by log leads) old new answered known.1 steps)

@@ -25,7 +25,9 @@ use Rattle.up_journal.specs.declared.limits.Limits.{Limits}
 use Rattle.up_replay.specs.Fits.{fits}
 use Rattle.up_replay.specs.Sizes.{size_of, sizes_of}
 use Rattle.up_follow.specs.Whys.{why_of_append}
-use Rattle.up_tree.specs.States.{Applies, State, fixed_of, record_in, records_in}
+use Rattle.up_ends.specs.Growing.{OnlyGrows}
+use Rattle.up_lists.proofs.BeginsLemmas.{Begins-self, Begins-trans}
+use Rattle.up_tree.specs.States.{Applies, State, entries_of, fixed_of, record_in, records_in}
 
 -- ---- one record
 
@@ -48,6 +50,14 @@ module _ {D : Type 0} (disks : Ghosts D) where
   takes_text text rec old new (Err why.OutOfMemory) decoded fitted takes = takes
   takes_text text rec old new (Err (why.Strange position)) decoded fitted takes = absurd takes
   takes_text text rec old new (Err why.Failed) decoded fitted takes = absurd takes
+
+  -- one that is strange, unless there are more records than memory holds
+  pub takes_strange : (state : State D) (text : List ℕ) (reason : FollowWhy) (records : ℕ) → records ≡ length state.log → (reason ≡ why.Strange (records + 1)) ⊎ (reason ≡ why.OutOfMemory)
+      → fitting_in state.owner state.log text ≡ None → TakesText disks text state state (Err reason)
+  takes_strange state text reason records count which none = ⊎_elim
+      (λ (is : reason ≡ why.Strange (records + 1)). subst (λ (r : FollowWhy). TakesText disks text state state (Err r)) (sym is) (refl, none, ap (λ n. n + 1) count))
+      (λ (is : reason ≡ why.OutOfMemory). subst (λ (r : FollowWhy). TakesText disks text state state (Err r)) (sym is) refl)
+      which
 
   -- what the tree answered
   passes_as : (a b : Bool) → a ≡ false → b ≡ false → (a || b) ≡ false
@@ -146,7 +156,7 @@ module _ {D : Type 0} (disks : Ghosts D) where
         grown has = record {
           some = so_far.added ++ rec ∷ [];
           first = one_more batch left more text so_far.added so_far.taken rec so_far.cut next so_far.spelled decoded;
-          has = as_old (Ok (old.log ++ so_far.added ++ rec ∷ [])) (has ∙ ap (λ (l : List Rec). Ok (l ++ rec ∷ [])) so_far.log ∙ ap Ok (append_assoc old.log so_far.added (rec ∷ [])));
+          has = as_old (Ok (old.log ++ (so_far.added ++ rec ∷ []))) (has ∙ ap (λ (l : List Rec). Ok (l ++ rec ∷ [])) so_far.log ∙ ap Ok (append_assoc old.log so_far.added (rec ∷ [])));
         }
 
         further : HasOneMore (image_log mid) mid.log mid.further image → MayHaveSome old batch image
@@ -275,3 +285,34 @@ module _ {D : Type 0} (disks : Ghosts D) where
   takes_given text old new why.Io took is = absurd (cc)
   takes_given text old new why.OutOfMemory took is = absurd (cc)
   takes_given text old new why.Failed took is = took
+
+-- ---- on the way
+
+-- it is no fault of the disk
+pub strange_not_io : (reason : FollowWhy) (records : ℕ) → (reason ≡ why.Strange (records + 1)) ⊎ (reason ≡ why.OutOfMemory) → ◌≡◌ {A = Result (Unit {0}) FollowWhy} (Err reason) (Err why.Io) → ⊥
+strange_not_io reason records which io = ⊎_elim (λ is. let e : why.Strange (records + 1) ≡ why.Io = (let k : reason ≡ why.Io = cc in sym is ∙ k) in cc) (λ is. let e : why.OutOfMemory ≡ why.Io = (let k : reason ≡ why.Io = cc in sym is ∙ k) in cc) which
+
+pub io_of : (reason : FollowWhy) (result : Result (Unit {0}) FollowWhy) → result ≡ Err reason → ◌≡◌ {A = Result ℕ FollowWhy} (Err reason) (Err why.Io) → result ≡ Err why.Io
+io_of reason result is io = let k : reason ≡ why.Io = cc in is ∙ ap (λ (r : FollowWhy). Err r) k
+
+pub io_to : (reason : FollowWhy) (result : Result (Unit {0}) FollowWhy) → result ≡ Err reason → result ≡ Err why.Io → ◌≡◌ {A = Result ℕ FollowWhy} (Err reason) (Err why.Io)
+io_to reason result is io = let both : ◌≡◌ {A = Result (Unit {0}) FollowWhy} (Err reason) (Err why.Io) = sym is ∙ io in let k : reason ≡ why.Io = cc in ap (λ (r : FollowWhy). Err r) k
+
+pub done_not_io : (result : Result (Unit {0}) FollowWhy) → result ≡ Ok tt → result ≡ Err why.Io → ⊥
+done_not_io result is io = let both : ◌≡◌ {A = Result (Unit {0}) FollowWhy} (Ok tt) (Err why.Io) = sym is ∙ io in cc
+
+pub not_failed : (reason : FollowWhy) → ◌≡◌ {A = Result ℕ FollowWhy} (Err reason) (Err why.Failed) → reason ≡ why.Failed
+not_failed reason is = cc
+
+pub counted_not_io : (count : ℕ) → ◌≡◌ {A = Result ℕ FollowWhy} (Ok count) (Err why.Io) → ⊥
+counted_not_io count is = cc
+
+module _ {D : Type 0} (disks : Ghosts D) where
+  abbrev pub Grows : State D → State D → Type 0
+  Grows old new = OnlyGrows entries_of (λ (state : State D). disks.faults state.disk) fixed_of old new
+
+  pub grows_same : (state : State D) → Grows state state
+  grows_same state = record { begins = Begins-self state.log; later = omega arith; stays = refl }
+
+  pub grows_then : (old mid new : State D) → Grows old mid → Grows mid new → Grows old new
+  grows_then old mid new one two = record { begins = Begins-trans one.begins two.begins; later = omega (arith, one.later, two.later); stays = two.stays ∙ one.stays }

@@ -1,5 +1,5 @@
 //! A follower.
-ghost use Rattle.std.specs.Prelude.{◌≡◌, ◌≢◌, ◌↔◌, [], ℕ, Err, IfErr, IfOk, IfSome, false, is_some};
+ghost use Rattle.std.specs.Prelude.{◌≡◌, ◌≢◌, ◌↔◌, [], ℕ, Err, IfErr, IfOk, IfSome, false, true, is_some};
 ghost use Rattle.up_adding.specs.Steps.{IsTold};
 ghost use Rattle.up_answers.specs.Answers.{answer};
 ghost use Rattle.up_dir.specs.Crashes.{image_log};
@@ -20,7 +20,7 @@ ghost use Rattle.up_tree.specs.States.{Opens, disk_after, entries_of, fixed_of, 
 use crate::fault::FollowWhy;
 use crate::feed::Feed;
 use crate::reading::is_read;
-use crate::taking::add_all;
+use crate::taking::pull_into;
 use std::alloc::Global;
 use std::hash::RandomState;
 use std::marker::Model;
@@ -114,17 +114,7 @@ impl<D: Disk> Follower<D> {
         ensures feed_grows { OnlyLonger (F.leader feed.old) (F.leader feed.new) }
         ensures tie { F.tied feed.old feed.new }
     {
-        // That a crash now leaves the log is told of each tree.
-        let from = self.tree.position();
-        match feed.pull(alloc, from) {
-            Ok(batch) => {
-                let added = add_all(alloc, &mut self.tree, batch.as_slice());
-                let _records = self.tree.position();
-                drop(batch);
-                added
-            }
-            Err(fault) => Err(FollowWhy::from(fault)),
-        }
+        pull_into(alloc, &mut self.tree, feed)
     }
 
     /// The reply to a user's request that only looks, over the follower's log with nothing loaded; want of memory may come in its place.

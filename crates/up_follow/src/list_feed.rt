@@ -1,5 +1,5 @@
 //! A feed over records in memory.
-ghost use Rattle.std.specs.Prelude.{◌≡◌, ◌≤◌, ◌++◌, ◌∷◌, [], length, true, Err, IfOk, OnOk, Some, ◌↔◌};
+ghost use Rattle.std.specs.Prelude.{◌≡◌, ◌≤◌, ◌++◌, ◌∷◌, [], length, take, drop, true, Err, IfOk, OnOk, Some, ◌↔◌};
 ghost use Rattle.up_follow.specs.Feeds.{IsBatch, OnlyLonger, batch_limit};
 ghost use Rattle.up_follow.specs.ListLogs.{after_pull, batch_of};
 ghost use Rattle.up_follow.specs.declared.fault.FeedFault.TheVariants as feed_fault;
@@ -71,10 +71,8 @@ impl Feed for ListFeed {
         if self.calls.next_fails() {
             return Err(FeedFault::Failed);
         }
-        match copied(alloc, batch_of(self.records.as_slice(), from)) {
-            Ok(batch) => Ok(batch),
-            Err(AllocError) => Err(FeedFault::OutOfMemory),
-        }
+        let batch = copied(alloc, batch_of(self.records.as_slice(), from))?;
+        Ok(batch)
     }
 
     ghost same = { λ _. tt };
@@ -86,8 +84,23 @@ impl Feed for ListFeed {
 fn batch_of(records: &[Bytes], from: u64) -> &[Bytes]
     ensures { result.now ≡ batch_of from records.now }
 {
-    let behind = records.get(from as usize..).unwrap_or(&[]);
-    behind.get(..MOST_RECORDS).unwrap_or(behind)
+    first_of(behind(records, from))
+}
+
+// The records behind the first `from`.
+fn behind(records: &[Bytes], from: u64) -> &[Bytes]
+    ensures { result.now ≡ drop from records.now }
+{
+    let (_, behind) = records.split_at((from as usize).min(records.len()));
+    behind
+}
+
+// The first 64, or all.
+fn first_of(records: &[Bytes]) -> &[Bytes]
+    ensures { result.now ≡ take batch_limit records.now }
+{
+    let (batch, _) = records.split_at(MOST_RECORDS.min(records.len()));
+    batch
 }
 
 // These records, in memory of their own.

@@ -2,7 +2,9 @@
 use Rattle.std.proofs.Common.{◌≡◌, ℕ, List, [], ◌++◌, ◌⊎◌, inl, inr, Option, Some, None, Result, Ok, Err, refl, sym, ap, subst, append-nil}
 use Rattle.std.specs.Result.{IsErrAnd}
 use Rattle.up_names.specs.Texts.{Text}
-use Rattle.up_following.specs.FollowTurns.{Came, Did, Turned, said}
+use Rattle.up_wire.specs.declared.replies.Reply.{Reply}
+use Rattle.up_wire.specs.declared.replies.Reply.TheVariants as reply
+use Rattle.up_following.specs.FollowTurns.{Came, Did, Turned, reply_said, said}
 use Rattle.up_following.specs.declared.stop.LineStop.{LineStop}
 use Rattle.up_following.specs.declared.stop.LineStop.TheVariants as stop
 
@@ -28,3 +30,28 @@ weaker one two old new (Err stop.Malformed) each turned = (each (Err stop.Malfor
 -- nothing was done, and nothing is printed
 pub silent : (came : Came → Type 0) (text : Text) → came (Ok Did.Nothing) → Turned came text (Ok tt) text
 silent came text is = (Did.Nothing, (is, sym (append-nil text)))
+
+-- something was done and said
+pub says : (came : Came) (did : Did) (old new : Text) → came ≡ Ok did → new ≡ old ++ said did → (x : Did) × ((Ok x ≡ came) × (new ≡ old ++ said x))
+says came did old new is text = (did, (sym is, text))
+
+-- what is said of a reply that is not want of memory
+pub replied_so : (given : Reply) → (given ≡ reply.OutOfMemory → ⊥) → reply_said given ≡ Ok (Did.Replied given)
+replied_so reply.OutOfMemory not = absurd (not refl)
+replied_so (reply.Ok what) not = refl
+replied_so (reply.Invalid what) not = refl
+replied_so reply.WrongHost not = refl
+replied_so (reply.FollowLink entry) not = refl
+replied_so reply.Private not = refl
+replied_so (reply.Permission right) not = refl
+replied_so reply.NotExist not = refl
+replied_so reply.NotDir not = refl
+replied_so reply.IsDir not = refl
+replied_so reply.Exist not = refl
+replied_so (reply.BadSequence n) not = refl
+replied_so reply.NotEmpty not = refl
+replied_so (reply.BadBlock reference) not = refl
+replied_so (reply.BadText line) not = refl
+replied_so (reply.TooLarge size) not = refl
+replied_so (reply.Full records) not = refl
+replied_so reply.Io not = refl
