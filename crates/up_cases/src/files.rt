@@ -3,6 +3,7 @@ use std::hash::RandomState;
 use std::random::RandomSource;
 use std::rt::Files;
 use std::{fs, io};
+use up_case_audits::Audits;
 use up_case_files::{ClientLines, TerminalLines};
 use up_case_follows::Follows;
 use up_case_hosts::Hosts;
@@ -97,6 +98,7 @@ fn run_other_topic<R: RandomSource + AllocGlobal + Print>(
         "logs" => run_lines(rt, file, Logs::new(), tally),
         "moves" => run_lines(rt, file, Moves, tally),
         "crashes" => run_lines(rt, file, Crashes, tally),
+        "audits" => run_lines(rt, file, Audits, tally),
         _ => run_hashed(rt, file, RandomState::new(rt)?, tally),
     }
 }
