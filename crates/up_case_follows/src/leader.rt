@@ -12,7 +12,7 @@ pub fn add_record(
     alloc: Global,
     records: &mut Items<Bytes>,
     keyword: &str,
-    words: Words<'_>,
+    mut words: Words<'_>,
 ) -> Result<(), Fault> {
     match keyword {
         "bytes" => add(records, bytes_of_digits(alloc, words.one()?)?),
@@ -88,11 +88,7 @@ fn entry_of(alloc: Global, path: &str, kind: Kind, sequence: u64) -> Result<Entr
 }
 
 // Files `0`, `1` and so on of a directory.
-fn add_many(
-    alloc: Global,
-    records: &mut Items<Bytes>,
-    mut words: Words<'_>,
-) -> Result<(), Fault> {
+fn add_many(alloc: Global, records: &mut Items<Bytes>, mut words: Words<'_>) -> Result<(), Fault> {
     let dir = words.word()?;
     let (first, count) = words.two_numbers()?;
     for i in 0..count {

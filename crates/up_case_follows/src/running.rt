@@ -68,9 +68,26 @@ impl Run {
         let status = match (stage.limits, owner) {
             (Some(limits), Some(owner)) => {
                 let owner = owner_of(alloc, owner.as_str())?;
-                within(alloc, stage, limits, owner, &mut feed, &mut disks, &mut source, &mut sink)
+                within(
+                    alloc,
+                    stage,
+                    limits,
+                    owner,
+                    &mut feed,
+                    &mut disks,
+                    &mut source,
+                    &mut sink,
+                )
             }
-            _ => usual(alloc, stage, &words, &mut feed, &mut disks, &mut source, &mut sink),
+            _ => usual(
+                alloc,
+                stage,
+                &words,
+                &mut feed,
+                &mut disks,
+                &mut source,
+                &mut sink,
+            ),
         };
         if let Some(disk) = disks.take() {
             drop(mem::replace(&mut stage.disk, disk));

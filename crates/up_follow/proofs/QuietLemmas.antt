@@ -126,4 +126,3 @@ watch_quiet log loaded user path sequence = go (int_le (negsuc 1) sequence)
     go : (b : Bool) → tells_position (if not b then reply.Invalid what.Sequence else unwrap_or (check (look_now log loaded user) (ways path) path None) (watched log loaded user path sequence)) ≡ false
     go false = refl
     go true = behind_quiet (check (look_now log loaded user) (ways path) path None) (watched log loaded user path sequence) (check_quiet (look_now log loaded user) (ways path) path None) (told sequence)
-

@@ -92,11 +92,7 @@ fn next_text(batch: &[Bytes]) -> Option<(&[u8], &[Bytes])>
 }
 
 /// Adds the record that a text spells.
-fn add_next<D: Disk>(
-    alloc: Global,
-    tree: &mut TreeState<D>,
-    text: &[u8],
-) -> Result<(), FollowWhy>
+fn add_next<D: Disk>(alloc: Global, tree: &mut TreeState<D>, text: &[u8]) -> Result<(), FollowWhy>
     ensures takes { TakesText D.Disk text.now tree.old tree.new result }
     ensures cause { HasCause (D.faults tree.old.disk) (D.faults tree.new.disk) (result ≡ Err why.Io) }
     ensures quiet { StaysUnless (D.faults tree.old.disk) (D.faults tree.new.disk)

@@ -1,5 +1,6 @@
 -- What `upspin follow` leaves behind, and answers. This project's own.
 use Rattle.std.specs.Prelude.{◌≡◌, ◌⊎◌, ℕ, List, [], ◌∷◌, Option, IfSome}
+use Rattle.up_command.specs.Statuses.{IsOneOf}
 use Rattle.up_disk.specs.Leaving.{LeavesNow}
 use Rattle.up_disk.specs.declared.disk.Disk as disk
 use Rattle.up_follow.specs.declared.feed.Feed as feed
@@ -30,6 +31,7 @@ module _ {D F : Type 0} (disks : disk.Ghosts D) (feeds : feed.Ghosts F) (limits 
     pub given_is : given ≡ disk ∷ []
     pub opens : Opens disks owner limits disk opened
     pub counts : HasCause (disks.faults disk) (disks.faults opened.disk) ⊥
+    pub code : IsOneOf (0 ∷ 1 ∷ 3 ∷ 4 ∷ []) status
     pub followed : Followed disks feeds old new (world opened before) (script_lines input) status (world last after)
     pub back_is : back ≡ last.disk ∷ []
     pub safe : LeavesNow disks last.disk (StandsForLog (records_in owner limits.largest) last.log last.further)
