@@ -1,5 +1,5 @@
 -- What is left behind once an input was read, or was not.
-use Rattle.std.proofs.Common.{◌≡◌, ◌+◌, ◌++◌, ◌∷◌, [], ◌⊎◌, inl, inr, ⊎_elim, ℕ, List, length, Option, Some, None, IfSome, Result, Ok, Err, refl, sym, ap, subst, ◌∙◌, option_to_list, sum_by, arith}
+use Rattle.std.proofs.Common.{◌≡◌, ◌+◌, ◌++◌, ◌∷◌, [], inl, inr, ℕ, List, length, Option, Some, None, IfSome, Result, Ok, Err, refl, ap, subst, ◌∙◌, option_to_list, sum_by, arith}
 use Rattle.std.proofs.lemmas.List.Sums.{sum_by-cons}
 use Rattle.up_command.specs.Statuses.{IsOneOf}
 use Rattle.up_disk.specs.Leaving.{LeavesNow}
@@ -13,11 +13,11 @@ use Rattle.up_journal.specs.declared.fault.OpenWhy.TheVariants as why
 use Rattle.up_journal.specs.declared.limits.Limits.{Limits}
 use Rattle.up_lists.specs.Counts.{HasCause, Rose}
 use Rattle.up_names.specs.Texts.{Text, UserName}
-use Rattle.up_reports.proofs.TellLemmas.{refused_codes, refused_six}
+use Rattle.up_reports.proofs.TellLemmas.{refused_six}
 use Rattle.up_reports.specs.Telling.{AnswersOne, refused_by}
 use Rattle.up_text.specs.Lines.{script_lines}
 use Rattle.up_tree.specs.States.{Opens, State, disk_after, fixed_of, records_in}
-use Rattle.up_following.specs.FollowAnswers.{FollowsInput, FollowsNothing, FollowsSource, Means, RefusesDisk, RunsLines}
+use Rattle.up_following.specs.FollowAnswers.{FollowsInput, Means}
 use Rattle.up_following.specs.FollowRuns.{Followed}
 use Rattle.up_following.specs.FollowTurns.{world}
 
@@ -81,7 +81,7 @@ module _ {D F : Type 0} (disks : disk.Ghosts D) (feeds : feed.Ghosts F) (limits 
 
   -- 6 is that of a disk that failed at opening
   pub input_six : FollowsInput disks feeds limits owner input old new given back before after status → status ≡ 6 → Rose (sum_by disks.faults given) (sum_by disks.faults back)
-  input_six (inl runs) six = absurd (not_six status runs.code six)
+  input_six (inl runs) six below = absurd (not_six status runs.code six)
     where
       not_six : (n : ℕ) → IsOneOf (0 ∷ 1 ∷ 3 ∷ 4 ∷ []) n → n ≡ 6 → ⊥
       not_six n is six = grind (arith)
@@ -121,3 +121,7 @@ unread_is_4 status unread run = grind (arith)
 module _ {D F : Type 0} (disks : disk.Ghosts D) (feeds : feed.Ghosts F) (limits : Limits) (owner : UserName) (left held : Option Text) (given : List D) (before : F) (status : ℕ) where
   pub means_nothing : status ≡ 4 → Means disks feeds limits owner left held held given given before before status
   means_nothing is = inr (record { wanting = is; sink = refl; disks = refl; feed = refl })
+
+-- there was no memory to read the words
+pub four_or_usage : (n : ℕ) → n ≡ 4 → IsOneOf (3 ∷ 4 ∷ 64 ∷ []) n
+four_or_usage n is = grind (arith)

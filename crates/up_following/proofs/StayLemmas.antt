@@ -1,15 +1,13 @@
 -- What a line leaves of a log that follows another.
-use Rattle.std.proofs.Common.{◌≡◌, ℕ, List, Option, Some, None, IfSome, Result, Ok, Err, refl, sym, subst, ◌∙◌, arith}
+use Rattle.std.proofs.Common.{◌≡◌, ℕ, List, Option, Some, None, IfSome, refl, sym, subst, ◌∙◌, arith}
 use Rattle.up_disk.specs.declared.disk.Disk as disk
 use Rattle.up_ends.specs.Growing.{OnlyGrows}
 use Rattle.up_entry.specs.declared.records.Rec.{Rec}
-use Rattle.up_follow.proofs.BatchLemmas.{follows_longer}
 use Rattle.up_follow.proofs.PullLemmas.{pull_follows}
 use Rattle.up_follow.specs.Feeds.{Follows, OnlyLonger}
 use Rattle.up_follow.specs.declared.feed.Feed as feed
 use Rattle.up_lists.proofs.BeginsLemmas.{Begins-self, Begins-trans}
 use Rattle.up_tree.specs.States.{State, entries_of, fixed_of}
-use Rattle.up_following.specs.FollowLines.{line_of}
 use Rattle.up_following.specs.FollowRuns.{Stays}
 use Rattle.up_following.specs.FollowTurns.{Came, LineCame, PullCame, SaysCame, World}
 use Rattle.up_following.specs.declared.line.FollowLine.{FollowLine}

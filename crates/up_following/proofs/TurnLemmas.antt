@@ -1,5 +1,5 @@
 -- How a line ends, by what its parts answered.
-use Rattle.std.proofs.Common.{◌≡◌, ℕ, List, [], ◌++◌, ◌⊎◌, inl, inr, Option, Some, None, Result, Ok, Err, refl, sym, ap, subst, append-nil}
+use Rattle.std.proofs.Common.{◌≡◌, ◌++◌, inl, inr, Result, Ok, Err, refl, sym, ap, append-nil}
 use Rattle.std.specs.Result.{IsErrAnd}
 use Rattle.up_names.specs.Texts.{Text}
 use Rattle.up_wire.specs.declared.replies.Reply.{Reply}

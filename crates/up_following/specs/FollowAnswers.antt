@@ -15,7 +15,7 @@ use Rattle.up_reports.specs.Telling.{AnswersOne, refused_by}
 use Rattle.up_text.specs.Lines.{script_lines}
 use Rattle.up_tree.specs.States.{Opens, State, records_in}
 use Rattle.up_following.specs.FollowRuns.{Followed}
-use Rattle.up_following.specs.FollowTurns.{World, world}
+use Rattle.up_following.specs.FollowTurns.{world}
 
 -- the limits of a follower's log: those of a server's trees
 abbrev pub follow_limits : Limits

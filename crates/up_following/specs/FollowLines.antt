@@ -1,6 +1,6 @@
 -- What the words of `upspin follow` and each line of its input say. This project's own. The word `pull` is read as it stands; the user of
 -- a line stands coded in its word, as the words of a request do, and the owner among the command's words stands for itself.
-use Rattle.std.specs.Prelude.{◌≡◌, true, List, [], ◌∷◌, codes, Option, Some, None, is_some, if◌then◌else◌}
+use Rattle.std.specs.Prelude.{List, [], ◌∷◌, codes, Option, Some, None, if◌then◌else◌}
 use Rattle.std.specs.Str.{bytes_eq}
 use Rattle.up_command.specs.Words.{◌>>=◌, user_named}
 use Rattle.up_names.specs.Texts.{Text, UserName}
@@ -35,7 +35,3 @@ words_line (first ∷ words) = if bytes_eq first (codes "pull") then pull_line w
 -- what a line says; none where it is malformed
 unfoldable pub line_of : Text → Option FollowLine
 line_of line = if is_silent line then Some lines.Silent else words_line (line_words line)
-
--- it says something
-abbrev pub IsGoodLine : Text → Type 0
-IsGoodLine line = is_some (line_of line) ≡ true

@@ -1,12 +1,12 @@
 //! `upspin follow`: lines in, replies out, and a second log of a tree.
-ghost use Rattle.std.specs.Prelude.{◌≡◌, ◌+◌, ◌-◌, ◌<◌, ◌≤◌, ◌^◌, ◌↔◌, ◌⊎◌, ◌∷◌, [], false, length, map, string_bytes, IfSome, None, Some};
+ghost use Rattle.std.specs.Prelude.{◌≡◌, ◌+◌, ◌-◌, ◌<◌, ◌≤◌, ◌^◌, ◌↔◌, ◌∷◌, [], false, length, map, string_bytes, IfSome, None, Some};
 ghost use Rattle.std.specs.Io.KnownBytes.{Appends, IsAtEnd};
-ghost use Rattle.std.specs.List.{AllByRecursion, sum_by};
+ghost use Rattle.std.specs.List.{sum_by};
 ghost use Rattle.up_command.specs.Statuses.{IsOneOf, input_limit, usage_line};
 ghost use Rattle.up_ends.specs.Writing.{WritesPart};
 ghost use Rattle.up_follow.specs.declared.feed.Feed as feeds;
 ghost use Rattle.up_following.specs.FollowAnswers.{FollowsInput, Means, follow_limits};
-ghost use Rattle.up_following.specs.FollowLines.{IsGoodLine, follow_owner};
+ghost use Rattle.up_following.specs.FollowLines.{follow_owner};
 ghost use Rattle.up_journal.specs.Journal.{AreLimits};
 ghost use Rattle.up_lists.specs.Counts.{Rose};
 ghost use Rattle.up_policy.specs.Trees.{owns_snapshots};

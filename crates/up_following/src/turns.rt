@@ -1,5 +1,5 @@
 //! What comes of a line.
-ghost use Rattle.std.specs.Prelude.{◌≡◌, ◌++◌, OnOk, codes};
+ghost use Rattle.std.specs.Prelude.{◌≡◌, ◌++◌, OnOk};
 ghost use Rattle.std.specs.List.{flat_map};
 ghost use Rattle.up_command.specs.Printed.{ended};
 ghost use Rattle.up_follow.specs.declared.feed.Feed as feeds;
@@ -12,7 +12,7 @@ use std::alloc::{AllocError, Global};
 use up_bytes::Bytes;
 use up_command::{say, say_count};
 use up_disk::Disk;
-use up_follow::{Feed, Follower, FollowWhy};
+use up_follow::{Feed, FollowWhy, Follower};
 use up_names::User;
 use up_text::reply_lines;
 use up_wire::{Reply, Request};

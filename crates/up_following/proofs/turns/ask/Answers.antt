@@ -1,5 +1,5 @@
 -- What comes of a request is what is said of its answer.
-use Rattle.std.proofs.Common.{◌≡◌, None, Some, Ok, ap, sym, ◌∙◌}
+use Rattle.std.proofs.Common.{◌≡◌, None, Some, ap, sym, ◌∙◌}
 use Rattle.up_following.specs.FollowTurns.{AskCame, Did, answer_said, reply_said}
 use Rattle.up_following.proofs.TurnLemmas.{unsaid, weaker}
 use Rattle.up_following.proofs.turns.ask.Goals as goal
@@ -25,10 +25,15 @@ returns-in_err-say-in-None-clause-came g c =
     }) c.from_residual.ensures.1
 
 pub returns-in_ok-say-in-None-clause-came : goal.returns-in_ok-say-in-None-clause-came
-returns-in_ok-say-in-None-clause-came g c =
-    (Did.ReadOnly, (record {
+returns-in_ok-say-in-None-clause-came g c = (
+  Did.ReadOnly,
+  (
+    record {
       given = c.answer.result;
       answers = c.answer.ensures.answers;
       told = c.answer.ensures.answer;
       came_is = ap answer_said (sym c.in-None.is);
-    }, c.in_ok-say-in-None.ensures))
+    },
+    c.in_ok-say-in-None.ensures,
+  ),
+)
