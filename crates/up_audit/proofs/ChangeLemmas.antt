@@ -1,5 +1,5 @@
 -- What stood at a path, by the last change of it, and when that change was followed by another.
-use Rattle.std.proofs.Common.{◌≡◌, ℕ, zero, suc, ◌+◌, ◌-◌, ◌<◌, ◌≤◌, Bool, true, false, cond, List, [], ◌∷◌, ◌++◌, length, take, refl, sym, ap, ◌∙◌, arith, Option, Some, None, ◌⊎◌, inl, inr}
+use Rattle.std.proofs.Common.{◌≡◌, ℕ, zero, suc, ◌+◌, ◌-◌, ◌≤◌, Bool, true, false, cond, List, length, take, refl, sym, ap, ◌∙◌, arith, Option, Some, None, ◌⊎◌, inl, inr}
 use Rattle.std.specs.Prelude.{slice_get}
 use Rattle.std.specs.Option.{option_and_then}
 use Rattle.std.proofs.lemmas.Bool.{false≢true}
@@ -150,4 +150,3 @@ module _ (records : List Rec) (path : PathName) where
       go (Some rec) is so_far =
           ap (λ rs. node_at (tree_of rs) path) (take_next n records rec is) ∙ ap (λ t. node_at t path) (tree_of-push (take n records) rec)
           ∙ by rec is (changes rec) refl so_far ∙ sym (ap left (last_next n rec is))
-

@@ -1,5 +1,5 @@
 -- Lists in which something passes a test, and the items of an ordered list of entries.
-use Rattle.std.proofs.Common.{◌≡◌, ◌∙◌, ℕ, zero, suc, ◌+◌, ◌<◌, Bool, true, false, cond, ◌||◌, ◌&&◌, not, T, List, [], ◌∷◌, ◌++◌, length, map, take, Option, Some, None, refl, sym, ap, subst, arith}
+use Rattle.std.proofs.Common.{◌≡◌, ◌∙◌, ℕ, zero, suc, Bool, true, false, cond, ◌||◌, ◌&&◌, T, List, [], ◌∷◌, map, Some, refl, sym, ap}
 use Rattle.std.proofs.lemmas.Bool.{false≢true}
 use Rattle.std.proofs.lemmas.List.Folds.{list_any-append}
 use Rattle.std.specs.FinMap.Entries.{below_all, find, is_sorted}
@@ -10,7 +10,7 @@ use Rattle.std.specs.declared.cmp.Ordering.TheVariants.{Less, Equal, Greater}
 use Rattle.std.specs.Prelude.{slice_get}
 use Rattle.up_names.specs.PathNames.{PathName}
 use Rattle.up_names.specs.PathOrder.{path_cmp, path_eq}
-use Rattle.up_names.specs.PathOrderLaws.{path_cmp_eq, path_cmp_total, path_exact}
+use Rattle.up_names.specs.PathOrderLaws.{path_cmp_eq}
 use Rattle.up_replay.proofs.Paths.{path_eq_itself, path_same, some_none, some_same}
 
 module _ {X : Type 0} where

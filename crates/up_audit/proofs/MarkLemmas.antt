@@ -1,23 +1,21 @@
 -- What a log's records tell to be used is what the trees that it shows use.
-use Rattle.std.proofs.Common.{◌≡◌, ◌∙◌, ℕ, zero, suc, ◌+◌, ◌-◌, ◌<◌, ◌≤◌, ◌⊎◌, inl, inr, Bool, true, false, cond, ◌||◌, List, [], ◌∷◌, ◌++◌, length, map, take, Option, Some, None, refl, sym, ap, subst, arith}
+use Rattle.std.proofs.Common.{◌≡◌, ◌∙◌, ℕ, zero, suc, ◌+◌, ◌-◌, ◌<◌, ◌⊎◌, inl, inr, Bool, true, false, cond, ◌||◌, List, [], ◌∷◌, length, take, Option, Some, None, refl, sym, ap, arith}
 use Rattle.std.proofs.lemmas.Bool.{cases_lt, eqb-false, eqb-true, false≢true, lt-ltb, ltb-true}
-use Rattle.std.proofs.lemmas.List.{length-take-le, take_all}
+use Rattle.std.proofs.lemmas.List.{take_all}
 use Rattle.std.proofs.lemmas.List.Folds.{list_any-append}
 use Rattle.std.proofs.lemmas.Option.{slice_get_within}
-use Rattle.std.specs.FinMap.Entries.{find}
-use Rattle.std.specs.List.{flat_map, list_any}
+use Rattle.std.specs.List.{list_any}
 use Rattle.std.specs.Option.{option_and_then}
 use Rattle.std.specs.Prelude.{◌==◌, if◌then◌else◌, nat_lt, slice_get}
 use Rattle.std.specs.Str.{bytes_eq}
 use Rattle.up_audit.proofs.ChangeLemmas as changes
 use Rattle.up_audit.proofs.ChangeLemmas.{put_by}
-use Rattle.up_audit.proofs.ListLemmas.{Found, alike, any_at, any_flat, any_map, found_in, found_listed, listed_found}
+use Rattle.up_audit.proofs.ListLemmas.{alike, any_at, any_flat, any_map, found_in, found_listed, listed_found}
 use Rattle.up_audit.specs.Audits.{Ref, is_among, is_snap, references_of, shown_trees, tree_references, used_in}
 use Rattle.up_audit.specs.Marks.{gone_at, gone_by, is_position, last_snap, put_references, snap_after, standing_at, stands_at, told_at, told_by}
 use Rattle.up_entry.specs.declared.records.Rec.{Rec}
 use Rattle.up_entry.specs.declared.records.Rec.TheVariants.{Put, Delete, Snap}
 use Rattle.up_names.specs.PathNames.{PathName}
-use Rattle.up_names.specs.PathOrder.{path_cmp}
 use Rattle.up_replay.proofs.Paths.{some_none, some_same}
 use Rattle.up_replay.proofs.Trees.{tree_sorted}
 use Rattle.up_replay.specs.Changes.{change_before, last_change, path_of_change, positions_of, record_at}
@@ -153,9 +151,9 @@ module _ (records : List Rec) (r : Ref) where
   used_names among = elim (either _ _ (sym among_used ∙ among)) [
     | inl now ↦ inl (names_tree whole (ap (λ tree. is_among (tree_references tree) r) (sym now_is) ∙ now))
     | inr past ↦ (
-      let placed = placed_in is_snap (λ position. is_among (tree_references (tree_at records (position - 1))) r) 0 records past in
-      let n : 0 + suc placed.place - 1 ≡ placed.place = omega arith in
-      inr (placed.place, record { rec = placed.rec; there = placed.there; is = placed.is }, names_tree placed.place (ap (λ m. is_among (tree_references (tree_at records m)) r) (sym n) ∙ placed.passes)))
+        let placed = placed_in is_snap (λ position. is_among (tree_references (tree_at records (position - 1))) r) 0 records past in
+        let n : 0 + suc placed.place - 1 ≡ placed.place = omega arith in
+        inr (placed.place, record { rec = placed.rec; there = placed.there; is = placed.is }, names_tree placed.place (ap (λ m. is_among (tree_references (tree_at records m)) r) (sym n) ∙ placed.passes)))
   ]
 
   names_used : Names whole ⊎ ((n : ℕ) × Snapped n × Names n) → is_among (used_in records) r ≡ true
@@ -164,7 +162,7 @@ module _ (records : List Rec) (r : Ref) where
       let n : 0 + suc past.0 - 1 ≡ past.0 = omega arith in
       among_used
       ∙ or_right _ _ (any_placed is_snap (λ position. is_among (tree_references (tree_at records (position - 1))) r) 0 records past.0 past.1.rec past.1.there past.1.is
-        (ap (λ m. is_among (tree_references (tree_at records m)) r) n ∙ tree_names past.0 past.2))
+      (ap (λ m. is_among (tree_references (tree_at records m)) r) n ∙ tree_names past.0 past.2))
 
   -- ---- the last snapshot
 
@@ -240,13 +238,16 @@ module _ (records : List Rec) (r : Ref) where
           let within = snap.within in
           let place = snap.position in
           let on = change_path i before is in
-          let more : i ≡ snap.place + (i - snap.place) = omega (arith, within) in
-          (snap.place, snap.snapped, record {
-            path = on.0;
-            at = before;
-            last = changes.last_kept records on.0 snap.place (i - snap.place) before (ap (changes.Last records on.0) (sym more) ∙ on.1) (omega (arith, above, place));
-            named = named;
-          })
+          let more : i ≡ snap.place + (i - snap.place) = omega (arith, within) in (
+            snap.place,
+            snap.snapped,
+            record {
+              path = on.0;
+              at = before;
+              last = changes.last_kept records on.0 snap.place (i - snap.place) before (ap (changes.Last records on.0) (sym more) ∙ on.1) (omega (arith, above, place));
+              named = named;
+            },
+          )
 
       by_test : (before : ℕ) → change_before records (suc i) ≡ Some before → (b : Bool) → nat_lt before (last_snap records i) ≡ b → is_among (if b then put_references (record_at records before) else []) r ≡ true → (n : ℕ) × Snapped n × Names n
       by_test before is true above named = shown before is (ltb-true before (last_snap records i) above) named
@@ -255,9 +256,6 @@ module _ (records : List Rec) (r : Ref) where
       by_change : (o : Option ℕ) → change_before records (suc i) ≡ o → is_among (gone_by records (last_snap records i) o) r ≡ true → (n : ℕ) × Snapped n × Names n
       by_change None is named = absurd (false≢true named)
       by_change (Some before) is named = by_test before is (nat_lt before (last_snap records i)) refl named
-
-
-
 
   standing_names : (i : ℕ) → is_among (standing_at records (suc i)) r ≡ true → Names whole
   standing_names i among = by_test (stands_at records (suc i)) refl among
@@ -327,9 +325,9 @@ module _ (records : List Rec) (r : Ref) where
       behind followed = elim (cases_lt n followed.place) [
         | inl above ↦ above
         | inr below ↦ (
-          let same : followed.place ≡ n = (let b = followed.behind in omega (arith, b, below)) in
-          let rec_is : snapped.rec ≡ followed.rec = some_same snapped.rec followed.rec (sym snapped.there ∙ ap (slice_get records) (sym same) ∙ followed.there) in
-          absurd (other followed.rec names.path (ap is_snap (sym rec_is) ∙ snapped.is) followed.changes_it))
+            let same : followed.place ≡ n = (let b = followed.behind in omega (arith, b, below)) in
+            let rec_is : snapped.rec ≡ followed.rec = some_same snapped.rec followed.rec (sym snapped.there ∙ ap (slice_get records) (sym same) ∙ followed.there) in
+            absurd (other followed.rec names.path (ap is_snap (sym rec_is) ∙ snapped.is) followed.changes_it))
       ]
 
       by_after : (changes.Last records names.path (n + (whole - n)) ≡ Some names.at) ⊎ changes.Followed records names.path n names.at → (i : ℕ) × (i < whole) × (is_among (told_at records (suc i)) r ≡ true)

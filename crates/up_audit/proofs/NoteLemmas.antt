@@ -7,7 +7,7 @@ use Rattle.std.proofs.lemmas.List.{take_all}
 use Rattle.std.proofs.lemmas.List.Folds.{list_any-append}
 use Rattle.std.proofs.lemmas.Map.Text.{is_eq-slice_cmp}
 use Rattle.std.specs.FinMap.Entries.{find, find-put, put}
-use Rattle.std.specs.List.{filter, flat_map, list_any}
+use Rattle.std.specs.List.{filter, flat_map}
 use Rattle.std.specs.Ordering.{eq_by_cmp}
 use Rattle.std.specs.Prelude.{if◌then◌else◌, option_to_list, slice_get}
 use Rattle.std.specs.Str.{bytes_eq}
@@ -15,7 +15,6 @@ use Rattle.up_audit.proofs.ListLemmas.{filter_same}
 use Rattle.up_audit.proofs.MarkLemmas.{all_told}
 use Rattle.up_audit.specs.Audits.{Ref, audit_of, held_in, is_among, loose_in, used_in}
 use Rattle.up_audit.specs.Marks.{Notes, gone_at, gone_by, has_noted, is_loose, last_snap, put_references, snap_after, standing_at, stands_at, told_at, told_by}
-use Rattle.up_audit.specs.declared.audit.Audit.{Audit}
 use Rattle.up_blocks.specs.Records.{reference_cmp}
 use Rattle.up_blocks.specs.declared.record.BlockRecord.{BlockRecord}
 use Rattle.up_entry.specs.declared.entries.Block.{Block}

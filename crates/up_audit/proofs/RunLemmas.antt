@@ -1,5 +1,5 @@
 -- What follows from what came of an audit.
-use Rattle.std.proofs.Common.{◌≡◌, ◌∙◌, ◌≤◌, ◌++◌, ℕ, List, [], ◌∷◌, Option, Some, None, length, refl, sym, ap, subst, inl, arith}
+use Rattle.std.proofs.Common.{◌≡◌, ◌∙◌, ◌≤◌, ◌++◌, ℕ, List, [], ◌∷◌, Option, Some, None, refl, sym, ap, subst, inl, arith}
 use Rattle.std.specs.List.{sum_by}
 use Rattle.std.specs.Prelude.{IfSome}
 use Rattle.up_audit.specs.Runs.{Audits}
@@ -34,16 +34,16 @@ not_six n one six = grind (arith)
 audited_well : (n : ℕ) → IsOneOf (3 ∷ 4 ∷ 0 ∷ []) n → (n ≡ 3 → ⊥) → IsOneOf (0 ∷ 4 ∷ []) n
 audited_well n one write = grind (arith)
 
-more_64 : (n : ℕ) → IsOneOf (0 ∷ 3 ∷ 4 ∷ 6 ∷ 8 ∷ []) n → IsOneOf (0 ∷ 3 ∷ 4 ∷ 6 ∷ 8 ∷ 64 ∷ []) n
+pub more_64 : (n : ℕ) → IsOneOf (0 ∷ 3 ∷ 4 ∷ 6 ∷ 8 ∷ []) n → IsOneOf (0 ∷ 3 ∷ 4 ∷ 6 ∷ 8 ∷ 64 ∷ []) n
 more_64 n one = grind (arith)
 
 pub never_64 : (n : ℕ) → IsOneOf (0 ∷ 3 ∷ 4 ∷ 6 ∷ 8 ∷ []) n → n ≡ 64 → ⊥
 never_64 n one is = grind (arith)
 
-usage_codes : (n : ℕ) → IsOneOf (3 ∷ 64 ∷ []) n → IsOneOf (0 ∷ 3 ∷ 4 ∷ 6 ∷ 8 ∷ 64 ∷ []) n
+pub usage_codes : (n : ℕ) → IsOneOf (3 ∷ 64 ∷ []) n → IsOneOf (0 ∷ 3 ∷ 4 ∷ 6 ∷ 8 ∷ 64 ∷ []) n
 usage_codes n one = grind (arith)
 
-usage_or_4 : (n : ℕ) → IsOneOf (3 ∷ 64 ∷ []) n → IsOneOf (3 ∷ 4 ∷ 64 ∷ []) n
+pub usage_or_4 : (n : ℕ) → IsOneOf (3 ∷ 64 ∷ []) n → IsOneOf (3 ∷ 4 ∷ 64 ∷ []) n
 usage_or_4 n one = grind (arith)
 
 pub usage_not_6 : (n : ℕ) → IsOneOf (3 ∷ 64 ∷ []) n → n ≡ 6 → ⊥

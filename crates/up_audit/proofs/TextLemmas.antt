@@ -1,5 +1,5 @@
 -- How an audit is printed.
-use Rattle.std.proofs.Common.{◌≡◌, ◌∙◌, ℕ, zero, suc, ◌+◌, ◌<◌, ◌≤◌, List, [], ◌∷◌, ◌++◌, length, map, drop, Option, refl, sym, ap, subst, arith, append_assoc, append-nil}
+use Rattle.std.proofs.Common.{◌≡◌, ◌∙◌, ℕ, zero, suc, ◌+◌, ◌<◌, ◌≤◌, List, [], ◌∷◌, ◌++◌, length, map, drop, Option, sym, ap, subst, arith, append_assoc, append-nil}
 use Rattle.std.proofs.Math.ListN.{get_or}
 use Rattle.std.proofs.lemmas.List.{drop_all}
 use Rattle.std.specs.Io.KnownBytes.{Appends}
@@ -52,8 +52,8 @@ line_part {old = old} {mid = mid} {all = all} gathered loose i reference within 
 none_left : (gathered : Text) (loose : List Ref) (i : ℕ) → length loose ≤ i → gathered ++ lines (drop i loose) ≡ (gathered ++ []) ++ []
 none_left gathered loose i past = ap (λ rs. gathered ++ lines rs) (drop_all i loose past) ∙ sym (append-nil (gathered ++ []))
 
-pub lines_all : {old mid now : Option Text} {all : Text} (gathered : Text) (loose : List Ref) (i : ℕ) → length loose ≤ i → Going old mid (gathered ++ lines (drop i loose)) all → Appends mid now (gathered ++ []) → Appends old now all
-lines_all {old = old} {mid = mid} {all = all} gathered loose i past before written = Going-all (Going-more (gathered ++ []) [] (subst (λ xs. Going old mid xs all) (none_left gathered loose i past) before) written)
+pub lines_all : (old mid now : Option Text) (all gathered : Text) (loose : List Ref) (i : ℕ) → length loose ≤ i → Going old mid (gathered ++ lines (drop i loose)) all → Appends mid now (gathered ++ []) → Appends old now all
+lines_all old mid now all gathered loose i past before written = Going-all (Going-more (gathered ++ []) [] (subst (λ xs. Going old mid xs all) (none_left gathered loose i past) before) written)
 
 pub lines_part : {old mid now : Option Text} {all : Text} (gathered : Text) (loose : List Ref) (i : ℕ) → length loose ≤ i → Going old mid (gathered ++ lines (drop i loose)) all → WritesPart mid now (gathered ++ []) → WritesPart old now all
 lines_part {old = old} {mid = mid} {all = all} gathered loose i past before part = WritesPart-step (gathered ++ []) [] (subst (λ xs. Going old mid xs all) (none_left gathered loose i past) before) part
@@ -83,8 +83,8 @@ module _ {D : Type 0} (held held_now : Option Text) (trees seen : List (tree.Sta
   same_text audit same is = ap audit_text (is ∙ ap (λ ts. audit_of (map tree.entries_of ts) store.log) same)
 
   pub report_whole : (audit : Audit) (code : ℕ) → seen ≡ trees → audit ≡ audit_of (map tree.entries_of seen) store.log → Appends held held_now (audit_text audit) → WritesPart held held_now (audit_text audit) → code ≡ 0 → AnswersOne held held_now (audit_answer trees store) code
-  report_whole audit code same is whole part zero =
-      subst (AnswersOne held held_now (audit_answer trees store)) (sym zero) (told_whole held held_now printed 0 (subst (Appends held held_now) (same_text audit same is) whole) (subst (WritesPart held held_now) (same_text audit same is) part))
+  report_whole audit code same is whole part done =
+      subst (AnswersOne held held_now (audit_answer trees store)) (sym done) (told_whole held held_now printed 0 (subst (Appends held held_now) (same_text audit same is) whole) (subst (WritesPart held held_now) (same_text audit same is) part))
 
   pub report_part : (audit : Audit) (code : ℕ) → seen ≡ trees → audit ≡ audit_of (map tree.entries_of seen) store.log → WritesPart held held_now (audit_text audit) → code ≡ 3 → AnswersOne held held_now (audit_answer trees store) code
   report_part audit code same is part three = subst (AnswersOne held held_now (audit_answer trees store)) (sym three) (told_part held held_now printed 0 (subst (WritesPart held held_now) (same_text audit same is) part))

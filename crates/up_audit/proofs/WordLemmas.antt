@@ -1,5 +1,5 @@
 -- The owners that words name are no snapshot users.
-use Rattle.std.proofs.Common.{◌≡◌, ◌≢◌, ◌∙◌, ◌+◌, ◌-◌, ℕ, Bool, true, false, List, [], ◌∷◌, length, Option, Some, None, Result, Ok, Err, refl, sym, ap, subst, arith}
+use Rattle.std.proofs.Common.{◌≡◌, ◌≢◌, ◌+◌, ◌-◌, ℕ, Bool, true, false, List, [], ◌∷◌, length, Option, Some, None, refl, sym, subst, arith}
 use Rattle.std.specs.List.{AllByRecursion, slice_split}
 use Rattle.std.proofs.lemmas.Bool.{eqb-false, eqb-true}
 use Rattle.std.specs.Prelude.{◌==◌, if◌then◌else◌, IfSome}
@@ -48,6 +48,12 @@ trees_plain word = go (length word == 0)
     go : (b : Bool) → IfSome (if b then Some [] else owners_named (slice_split is_comma word) >>= if_different) ArePlain
     go true = tt
     go false = different_plain (owners_named (slice_split is_comma word)) (named_plain (slice_split is_comma word))
+
+pub trees_found : (word : Text) (found : Option (List UserName)) → found ≡ trees_named word → IfSome found ArePlain
+trees_found word found is = subst (λ f. IfSome f ArePlain) (sym is) (trees_plain word)
+
+pub plain_some : (found : Option (List UserName)) (owners : List UserName) → found ≡ Some owners → IfSome found ArePlain → AllByRecursion (λ owner. owns_snapshots owner ≡ false) owners
+plain_some found owners is all = subst (λ f. IfSome f ArePlain) is all
 
 plan_plain : (words : List Text) → IfSome (audit_plan words) ArePlain
 unfolding audit_plan
@@ -106,4 +112,4 @@ one_less trees disks some = go (disks - 1 == trees) (trees + 1 == disks) refl re
 
 pub ruleset one_more = (no_more, one_less)
 
-pub ruleset plains = (found_plain, owners_plain)
+pub ruleset plains = (owners_plain, plain_some)

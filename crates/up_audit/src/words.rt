@@ -15,7 +15,7 @@ use up_reports::owner_in;
 
 /// The owners of the trees that the words name: `audit`, a folder, and the owners joined by commas, all different and no snapshot user
 /// among them; the empty word names none. `None` exactly where the words do not fit.
-#[tactic(auto, unfolding(crate::specs::Words::audit_plan), using(crate::proofs::WordLemmas::plains))]
+#[tactic(auto, unfolding(crate::specs::Words::audit_plan))]
 pub fn audit_words(alloc: Global, words: &[String]) -> Result<Option<Items<User>>, AllocError>
     ensures plan { IfOk result (λ found. found ≡ audit_plan (map string_bytes words.now)) }
     ensures plain { IfOk result (λ found. IfSome found
@@ -29,7 +29,7 @@ pub fn audit_words(alloc: Global, words: &[String]) -> Result<Option<Items<User>
 }
 
 /// The same for so many disks: one for each tree, and one for the store.
-#[tactic(auto, unfolding(crate::specs::Words::owners_for))]
+#[tactic(auto, unfolding(crate::specs::Words::owners_for), using(crate::proofs::WordLemmas::plains))]
 pub(crate) fn owners_for(
     alloc: Global,
     words: &[String],

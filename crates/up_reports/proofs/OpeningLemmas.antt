@@ -7,7 +7,7 @@ use Rattle.up_journal.specs.Logs.{LogState}
 use Rattle.up_journal.specs.declared.fault.OpenFault.{OpenFault}
 use Rattle.up_journal.specs.declared.limits.Limits.{Limits}
 use Rattle.up_names.specs.Texts.{UserName}
-use Rattle.up_reports.specs.Opens.{IsNoLog, LogKind, OpensLogs, OpensStore, OpensTree, OpensTrees, RefusesLogs, StopsAtTree, TakesOne, TakesTrees, WasOpenedAs, WereOpened, disk_of, logs_of, store_limits, trees_of}
+use Rattle.up_reports.specs.Opens.{IsNoLog, LogKind, OpensLogs, OpensStore, OpensTree, OpensTrees, RefusesLogs, StopsAtTree, TakesOne, TakesTrees, WereOpened, disk_of, logs_of, store_limits, trees_of}
 use Rattle.up_reports.specs.declared.refused.Refused.{Refused}
 use Rattle.up_tree.specs.States as tree
 

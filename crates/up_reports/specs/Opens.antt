@@ -1,13 +1,11 @@
 -- How the logs of a stopped server are opened, one after the other. This project's own.
 use Rattle.std.specs.Prelude.{◌≡◌, ◌⊎◌, ℕ, List, [], ◌∷◌, ◌++◌, length, map, Some, Result, Ok, IfErr, IfOk}
-use Rattle.std.specs.List.{AllByRecursion}
 use Rattle.up_blocks.specs.Records as blocks
 use Rattle.up_blocks.specs.declared.record.BlockRecord.{BlockRecord}
 use Rattle.up_disk.specs.Leaving.{LeavesNow}
 use Rattle.up_disk.specs.declared.disk.Disk.{Ghosts}
 use Rattle.up_journal.specs.Crashes.{IsOpened}
 use Rattle.up_journal.specs.Damages.{Damage}
-use Rattle.up_journal.specs.Journal.{AreLimits}
 use Rattle.up_journal.specs.Logs.{LogState, OpensLog, RefusesLog, StandsForLog}
 use Rattle.up_journal.specs.declared.fault.OpenFault.{OpenFault}
 use Rattle.up_journal.specs.declared.fault.OpenWhy.TheVariants as why

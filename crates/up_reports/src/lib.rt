@@ -19,7 +19,6 @@ pub use opening::{open_trees, put_back, put_trees};
 pub use owners::{owner_in, owns_snapshots};
 pub use refused::Refused;
 pub use telling::tell_refused;
-
 use up_journal::Limits;
 
 /// The limits of the trees and the store of the servers whose logs are read. A record of the store may have 1,048,640 bytes.

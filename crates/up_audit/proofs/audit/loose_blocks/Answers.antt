@@ -1,4 +1,4 @@
-use Rattle.std.proofs.Common.{◌≡◌, ◌≤◌, length, arith}
+use Rattle.std.proofs.Common.{◌≤◌, length, arith}
 use Rattle.std.specs.Option.{option_copied}
 use Rattle.up_audit.proofs.NoteLemmas.{loose_end, loose_step}
 use Rattle.up_audit.proofs.audit.loose_blocks.Goals as goal

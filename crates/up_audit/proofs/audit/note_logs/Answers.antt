@@ -1,4 +1,4 @@
-use Rattle.std.proofs.Common.{◌≡◌, List, subst, arith}
+use Rattle.std.proofs.Common.{List, subst, arith}
 use Rattle.up_audit.proofs.NoteLemmas.{logs_all, logs_next, notes_none}
 use Rattle.up_audit.proofs.audit.note_logs.Goals as goal
 use Rattle.up_audit.specs.Audits.{used_in}

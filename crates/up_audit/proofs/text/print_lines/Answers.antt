@@ -20,7 +20,8 @@ pub returns-in_err-finish-clause-part : goal.returns-in_err-finish-clause-part
 returns-in_err-finish-clause-part g c = lines_part c.loop-reference.gathered.items c.args.loose.now c.loop-reference.reference-index (omega arith) c.loop-reference.invariant.going c.finish.ensures.part
 
 pub returns-clause-ok : goal.returns-clause-ok
-returns-clause-ok g c = lines_all c.loop-reference.gathered.items c.args.loose.now c.loop-reference.reference-index (omega arith) c.loop-reference.invariant.going c.in_ok-finish.ensures.ok
+returns-clause-ok g c =
+    lines_all (g.K.Sink.held c.args.sink.now) (g.K.Sink.held c.loop-reference.sink) (g.K.Sink.held c.finish.new.sink) (c.args.gathered.now.items ++ lines c.args.loose.now) c.loop-reference.gathered.items c.args.loose.now c.loop-reference.reference-index (omega arith) c.loop-reference.invariant.going c.in_ok-finish.ensures.ok
 
 pub returns-clause-part : goal.returns-clause-part
 returns-clause-part g c = lines_part c.loop-reference.gathered.items c.args.loose.now c.loop-reference.reference-index (omega arith) c.loop-reference.invariant.going c.finish.ensures.part

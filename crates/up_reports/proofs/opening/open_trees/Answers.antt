@@ -1,4 +1,4 @@
-use Rattle.std.proofs.Common.{ap, arith, inl, refl}
+use Rattle.std.proofs.Common.{arith}
 use Rattle.std.proofs.lemmas.Grind.{common_steps}
 use Rattle.up_reports.proofs.OpeningLemmas.{stops_spare, takes_spare, tree_refused}
 use Rattle.up_reports.proofs.opening.open_trees.Goals as goal
