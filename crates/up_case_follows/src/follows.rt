@@ -66,9 +66,9 @@ impl Stage {
         Ok(())
     }
 
-    // `fails N`, `source N` and `sink N` have such a call of the feed, the source or the sink fail; `disk N M` makes an empty disk of which the
-    // calls N to N + M - 1 fail; `crash N` puts the crash image N in its place, `write BYTES` fills one and syncs it; `limits R D L` are those
-    // of the log.
+    // `fails N`, `source N` and `sink N` have such a call of the feed, the source or the sink fail; `disk N M` makes an empty disk of
+    // which the calls N to N + M - 1 fail; `crash N` puts the crash image N in its place, `write BYTES` fills one and syncs it;
+    // `limits R D L` are those of the log.
     fn turn(
         &mut self,
         alloc: Global,
@@ -87,9 +87,9 @@ impl Stage {
         }
     }
 
-    // `run WORDS` runs the command over lines that are parted by `|`, `in OWNER LINES` the same with the usual words; they answer the status and
-    // the lines that are printed. `log OWNER` answers how many records the disk has, `images OWNER` the same of each of its crash images.
-    // Another line is a record of the leader.
+    // `run WORDS` runs the command over lines that are parted by `|`, `in OWNER LINES` the same with the usual words; they answer the
+    // status and the lines that are printed. `log OWNER` answers how many records the disk has, `images OWNER` the same of each of its
+    // crash images. Another line is a record of the leader.
     fn ask(
         &mut self,
         alloc: Global,
