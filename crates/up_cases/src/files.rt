@@ -5,6 +5,7 @@ use std::rt::Files;
 use std::{fs, io};
 use up_case_audits::Audits;
 use up_case_files::{CacheLines, ClientLines, CopyLines, TerminalLines};
+use up_case_follows::Follows;
 use up_case_hosts::Hosts;
 use up_case_lines::{File, Tally, run_lines};
 use up_case_logs::{Crashes, Fields, Logs, Moves, Records};
@@ -116,6 +117,7 @@ fn run_hashed<R: AllocGlobal + Print>(
     match topic_of(name) {
         "scripts" => run_scripts(rt, file, Command::Can, random, tally),
         "sessions" => run_scripts(rt, file, Command::Script, random, tally),
+        "follows" => run_lines(rt, file, Follows::new(random), tally),
         "hosts" => run_lines(rt, file, Hosts::new(rt.alloc(), random), tally),
         "globs" | "steps" | "watches" => run_lines(rt, file, Asked::new(random), tally),
         "rights" => run_lines(rt, file, Rights::new(random), tally),

@@ -1,0 +1,5 @@
+pub mod BatchLemmas
+pub mod PullLemmas
+pub mod TakingLemmas
+pub mod QuietLemmas
+pub mod ReadLemmas

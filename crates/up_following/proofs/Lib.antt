@@ -1,0 +1,4 @@
+pub mod TurnLemmas
+pub mod StayLemmas
+pub mod RunLemmas
+pub mod AnswerLemmas

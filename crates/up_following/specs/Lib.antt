@@ -1,0 +1,4 @@
+pub mod FollowLines
+pub mod FollowTurns
+pub mod FollowRuns
+pub mod FollowAnswers
