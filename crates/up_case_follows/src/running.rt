@@ -9,7 +9,6 @@ use std::alloc::{AllocError, Global};
 use std::mem;
 use up_case_asks::{WIDE, owner_of};
 use up_case_lines::{Answer, Fault};
-use up_case_logs::add_open_fault;
 use up_disk::{Disks, MemDisk};
 use up_ends::{MemSink, MemSource};
 use up_follow::ListFeed;
@@ -148,7 +147,7 @@ fn within(
     )
 }
 
-/// How many records the disk has, or why it does not open.
+/// How many records the disk has, or that it does not open.
 pub fn open_log(
     alloc: Global,
     stage: &mut Stage,
@@ -171,7 +170,7 @@ fn add_opened(alloc: Global, disk: MemDisk, owner: User, answer: &mut Answer) ->
             tree.into_disk()
         }
         Err(fault) => {
-            add_open_fault(fault.why, answer);
+            answer.word("unopened");
             fault.disk
         }
     }
