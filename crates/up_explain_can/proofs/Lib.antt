@@ -1,0 +1,2 @@
+mod CanNumberLemmas
+mod TellingLemmas
