@@ -109,6 +109,11 @@ unfolding behind
 owner_alike None line = map_map owner_in (λ e. e.tree) (effect_of None line)
 owner_alike (Some files) line = map_map owner_in (λ e. e.tree) (effect_of (Some files) line) ∙ (line_alike files line ∙ sym (line_alike (bare_tree files.tree.owner) line))
 
+-- a tree that is named by its owner alone has that owner
+pub owner_named : (owner : Option UserName) → owner_in (tree_of owner) ≡ owner
+owner_named None = refl
+owner_named (Some name) = refl
+
 const_some : {X Y : Type 0} (y : Y) (x : Option X) → is_some x ≡ true → option_map (λ e. y) x ≡ Some y
 const_some y None is = absurd (cc)
 const_some y (Some x) is = refl

@@ -1,2 +1,3 @@
 mod CanNumberLemmas
+mod LineLemmas
 mod TellingLemmas

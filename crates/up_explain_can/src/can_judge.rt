@@ -45,7 +45,7 @@ impl CanJudge {
 impl Judge for CanJudge {
     ghost step = { owner_behind };
 
-    #[tactic(auto, using(crate::proofs::CanNumberLemmas::owner_stays), unfolding(up_can::specs::CanLines::effect_of, up_can::specs::CanLines::words_effect))]
+    #[tactic(auto, using(crate::proofs::CanNumberLemmas::owner_named, crate::proofs::CanNumberLemmas::owner_stays), unfolding(up_can::specs::CanLines::effect_of, up_can::specs::CanLines::words_effect))]
     fn judge(&mut self, alloc: Global, line: &[u8]) -> Result<(), Why> {
         if is_silent(line) {
             return Ok(());

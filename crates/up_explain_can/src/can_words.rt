@@ -5,8 +5,7 @@ ghost use Rattle.std.specs.Result.{result_ok};
 ghost use Rattle.up_can.specs.CanFiles.{bare_tree};
 ghost use Rattle.up_can.specs.CanLines.{access_dir, access_line, access_set, answer_to, can_line, files_effect, group_line, group_set, kind_of};
 ghost use Rattle.up_can.specs.declared.can_files.CanFiles.{CanFiles};
-ghost use Rattle.up_command.specs.Words.{user_named};
-ghost use Rattle.up_explain_can.specs.Judging.{Judges};
+ghost use Rattle.up_explain_can.specs.Judging.{IsMeant, Judges};
 ghost use Rattle.up_group.specs.GroupTexts.{group_of};
 ghost use Rattle.up_names.specs.PathNames.{PathName};
 ghost use Rattle.up_names.specs.Texts.{UserName};
@@ -21,7 +20,7 @@ use std::alloc::Global;
 use up_access::parse_access;
 use up_can::CanKind;
 use up_command::is;
-use up_group::parse_group;
+use up_group::{GroupText, parse_group};
 use up_names::{Control, Path, TextFault, User};
 use up_rights::Right;
 use up_text::{three_words, two_words};
@@ -125,20 +124,21 @@ fn group_line(alloc: Global, arguments: Option<&[u8]>) -> Result<(), Why>
 fn group_at(alloc: Global, path: Path, text: &[u8]) -> Result<(), Why>
     ensures { (files : CanFiles) → Judges result (group_set files path text.now) }
 {
+    let _items = group_text(alloc, path.owner(), text)?;
     if path.control_kind() != Control::Group {
         return Err(bad_path(alloc, &path, Flaw::NoGroupPath));
     }
-    group_text(alloc, path.owner(), text)
+    Ok(())
 }
 
-/// Judges the text of a Group file of an owner.
-fn group_text(alloc: Global, owner: &User, word: &[u8]) -> Result<(), Why>
-    ensures { Judges result
+/// The Group text that a word stands for, in this owner's tree.
+fn group_text(alloc: Global, owner: &User, word: &[u8]) -> Result<GroupText, Why>
+    ensures { IsMeant (λ items. items) result
         (option_and_then (λ text. result_ok (group_of owner.now text)) (decoded word.now)) }
 {
     let text = text_named(alloc, word)?;
     match parse_group(owner, text.as_slice()) {
-        Ok(_) => Ok(()),
+        Ok(items) => Ok(items),
         Err(TextFault::OutOfMemory) => Err(Why::OutOfMemory),
         Err(TextFault::BadText(number)) => Err(bad_group(owner, text.as_slice(), number)),
     }
@@ -153,20 +153,12 @@ fn can_line(alloc: Global, owner: &User, arguments: Option<&[u8]>) -> Result<(),
     let Some((user, right, path)) = three_words(arguments) else {
         return Err(Why::Line(Flaw::CanWords));
     };
-    is_user(alloc, user)?;
-    if Right::from_word(right).is_none() {
+    let _user = user_named(alloc, user)?;
+    let Some(_right) = Right::from_word(right) else {
         return Err(bad_word(alloc, right, Flaw::Right));
-    }
+    };
     let path = path_named(alloc, path)?;
     asked_at(alloc, owner, &path)
-}
-
-/// Judges the user of a question.
-fn is_user(alloc: Global, word: &[u8]) -> Result<(), Why>
-    ensures { Judges result (user_named word.now) }
-{
-    let _user = user_named(alloc, word)?;
-    Ok(())
 }
 
 /// Judges the path of a question about an owner's tree.

@@ -104,10 +104,12 @@ impl Flaw {
             Flaw::Right => "is no right (read, write, list, create, delete)",
             Flaw::OtherOwner => "is a path of another owner than the tree's",
             Flaw::NoAccessPath => "is no Access path: its last element is not \"Access\"",
-            Flaw::NoGroupPath => "is no Group path: those are below the directory \"Group\" of a root",
+            Flaw::NoGroupPath =>
+                "is no Group path: those are below the directory \"Group\" of a root",
             Flaw::NoColon => "no \":\"",
             Flaw::NoRight => "no right before the \":\"",
-            Flaw::ControlRight => "is no right (read, write, list, create, delete, or r, w, l, c, d, *)",
+            Flaw::ControlRight =>
+                "is no right (read, write, list, create, delete, or r, w, l, c, d, *)",
             Flaw::ControlName => "is no user, no group, no domain behind \"*@\", and not \"all\"",
             Flaw::ScriptKeyword => "is no keyword (host, enrol, open), and no number of a session",
             Flaw::NoSession => "has no number of a session (0 to 99) before it",
@@ -141,9 +143,11 @@ impl Flaw {
             Flaw::RequestWords => "has words that do not fit",
             Flaw::Number => "is no number",
             Flaw::NumberZero => "is no number: it begins with a zero, or is -0",
-            Flaw::NumberSize => "does not fit: numbers are -9223372036854775808 to 9223372036854775807",
+            Flaw::NumberSize =>
+                "does not fit: numbers are -9223372036854775808 to 9223372036854775807",
             Flaw::Packing => "is no packing (0 to 255)",
-            Flaw::Reference => "is no reference of a block (64 of 0-9 A-F, a colon and a size behind it)",
+            Flaw::Reference =>
+                "is no reference of a block (64 of 0-9 A-F, a colon and a size behind it)",
             Flaw::BlockSize => "is no size of a block",
             Flaw::BlockEnd => "has blocks that end behind 2^64 - 1",
             Flaw::UserLong => "is no user: over 254 bytes",
@@ -151,14 +155,16 @@ impl Flaw {
             Flaw::UserAts => "is no user: more than one \"@\"",
             Flaw::UserLocal => "is no user: before the \"@\" stand 1 to 64 of A-Z a-z 0-9 . _ -",
             Flaw::UserSuffix => "is no user: behind the \"+\" stand 1 to 32 of A-Z a-z 0-9 _ -",
-            Flaw::UserDomain => "is no user: behind the \"@\" stands no domain of two labels or more",
+            Flaw::UserDomain =>
+                "is no user: behind the \"@\" stands no domain of two labels or more",
             Flaw::PathLong => "is no path: over 4,096 bytes",
             Flaw::PathUserLong => "is no path: its owner has over 254 bytes",
             Flaw::PathNoAt => "is no path: no \"@\" before its first \"/\"",
             Flaw::PathAts => "is no path: more than one \"@\" before its first \"/\"",
             Flaw::PathLocal => "is no path: before the \"@\" stand 1 to 64 of A-Z a-z 0-9 . _ -",
             Flaw::PathSuffix => "is no path: behind the \"+\" stand 1 to 32 of A-Z a-z 0-9 _ -",
-            Flaw::PathDomain => "is no path: behind the \"@\" stands no domain of two labels or more",
+            Flaw::PathDomain =>
+                "is no path: behind the \"@\" stands no domain of two labels or more",
             Flaw::PathElement => "is no path: an element is not UTF-8, or has a control character",
         }
     }

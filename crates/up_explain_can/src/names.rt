@@ -1,5 +1,5 @@
 //! The texts and names that words stand for, or why they stand for none.
-ghost use Rattle.std.specs.Prelude.{◌≡◌};
+ghost use Rattle.std.specs.Prelude.{◌≡◌, None};
 ghost use Rattle.std.specs.Cow.{cow_slice_items};
 ghost use Rattle.up_can.specs.CanLines.{path_named};
 ghost use Rattle.up_command.specs.Words.{user_named};
@@ -41,16 +41,25 @@ pub fn user_named(alloc: Global, word: &[u8]) -> Result<User, Why>
 fn no_user(alloc: Global, text: &[u8], fault: NameFault) -> Why
     ensures { fault ≡ NameFault.OutOfMemory → result ≡ Why.OutOfMemory }
 {
-    let flaw = match fault {
-        NameFault::TooLong(_) => Flaw::UserLong,
-        NameFault::AtSigns(0) => Flaw::UserNoAt,
-        NameFault::AtSigns(_) => Flaw::UserAts,
-        NameFault::Local => Flaw::UserLocal,
-        NameFault::Suffix => Flaw::UserSuffix,
-        NameFault::Domain | NameFault::Element(_) => Flaw::UserDomain,
-        NameFault::OutOfMemory => return Why::OutOfMemory,
-    };
-    bad_word(alloc, text, flaw)
+    match user_flaw(fault) {
+        Some(flaw) => bad_word(alloc, text, flaw),
+        None => Why::OutOfMemory,
+    }
+}
+
+/// What is wrong with a text that names no user; `None` for want of memory.
+fn user_flaw(fault: NameFault) -> Option<Flaw>
+    ensures { fault ≡ NameFault.OutOfMemory → result ≡ None }
+{
+    match fault {
+        NameFault::TooLong(_) => Some(Flaw::UserLong),
+        NameFault::AtSigns(0) => Some(Flaw::UserNoAt),
+        NameFault::AtSigns(_) => Some(Flaw::UserAts),
+        NameFault::Local => Some(Flaw::UserLocal),
+        NameFault::Suffix => Some(Flaw::UserSuffix),
+        NameFault::Domain | NameFault::Element(_) => Some(Flaw::UserDomain),
+        NameFault::OutOfMemory => None,
+    }
 }
 
 /// The path that a word names.
@@ -69,16 +78,25 @@ pub(crate) fn path_named(alloc: Global, word: &[u8]) -> Result<Path, Why>
 fn no_path(alloc: Global, text: &[u8], fault: NameFault) -> Why
     ensures { fault ≡ NameFault.OutOfMemory → result ≡ Why.OutOfMemory }
 {
-    let flaw = match fault {
-        NameFault::TooLong(_) if text.len() > 4096 => Flaw::PathLong,
-        NameFault::TooLong(_) => Flaw::PathUserLong,
-        NameFault::AtSigns(0) => Flaw::PathNoAt,
-        NameFault::AtSigns(_) => Flaw::PathAts,
-        NameFault::Local => Flaw::PathLocal,
-        NameFault::Suffix => Flaw::PathSuffix,
-        NameFault::Domain => Flaw::PathDomain,
-        NameFault::Element(_) => Flaw::PathElement,
-        NameFault::OutOfMemory => return Why::OutOfMemory,
-    };
-    bad_word(alloc, text, flaw)
+    match path_flaw(text, fault) {
+        Some(flaw) => bad_word(alloc, text, flaw),
+        None => Why::OutOfMemory,
+    }
+}
+
+/// What is wrong with a text that names no path; `None` for want of memory.
+fn path_flaw(text: &[u8], fault: NameFault) -> Option<Flaw>
+    ensures { fault ≡ NameFault.OutOfMemory → result ≡ None }
+{
+    match fault {
+        NameFault::TooLong(_) if text.len() > 4096 => Some(Flaw::PathLong),
+        NameFault::TooLong(_) => Some(Flaw::PathUserLong),
+        NameFault::AtSigns(0) => Some(Flaw::PathNoAt),
+        NameFault::AtSigns(_) => Some(Flaw::PathAts),
+        NameFault::Local => Some(Flaw::PathLocal),
+        NameFault::Suffix => Some(Flaw::PathSuffix),
+        NameFault::Domain => Some(Flaw::PathDomain),
+        NameFault::Element(_) => Some(Flaw::PathElement),
+        NameFault::OutOfMemory => None,
+    }
 }

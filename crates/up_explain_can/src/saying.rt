@@ -60,6 +60,7 @@ fn cut_flaw(line: &[u8]) -> Option<Flaw> {
 }
 
 /// Adds why a line is malformed.
+#[tactic(auto, using(crate::proofs::LineLemmas::joined_line))]
 fn push_why(out: &mut Vec<u8>, why: &Why) -> Result<(), AllocError>
     requires { IsOneLine out.old.items }
     ensures { OnOk result (IsOneLine out.new.items) }
@@ -80,6 +81,7 @@ fn push_why(out: &mut Vec<u8>, why: &Why) -> Result<(), AllocError>
 }
 
 /// Adds a flaw.
+#[tactic(auto, using(crate::proofs::LineLemmas::joined_line))]
 fn push_flaw(out: &mut Vec<u8>, flaw: Flaw) -> Result<(), AllocError>
     requires { IsOneLine out.old.items }
     ensures { OnOk result (IsOneLine out.new.items) }
@@ -88,6 +90,7 @@ fn push_flaw(out: &mut Vec<u8>, flaw: Flaw) -> Result<(), AllocError>
 }
 
 /// Adds a word and its flaw.
+#[tactic(auto, using(crate::proofs::LineLemmas::joined_line))]
 fn push_of_word(out: &mut Vec<u8>, word: &[u8], flaw: Flaw) -> Result<(), AllocError>
     requires { IsOneLine out.old.items }
     ensures { OnOk result (IsOneLine out.new.items) }
@@ -99,6 +102,7 @@ fn push_of_word(out: &mut Vec<u8>, word: &[u8], flaw: Flaw) -> Result<(), AllocE
 }
 
 /// Adds as much of a word as is shown, coded as words of output are.
+#[tactic(auto, using(crate::proofs::LineLemmas::coded_line, crate::proofs::LineLemmas::decimal_line, crate::proofs::LineLemmas::joined_line))]
 fn push_front(out: &mut Vec<u8>, word: &[u8]) -> Result<(), AllocError>
     requires { IsOneLine out.old.items }
     ensures { OnOk result (IsOneLine out.new.items) }
@@ -111,6 +115,7 @@ fn push_front(out: &mut Vec<u8>, word: &[u8]) -> Result<(), AllocError>
 }
 
 /// Adds the flaw of a line of a text; of a word in it, where it has one.
+#[tactic(auto, using(crate::proofs::LineLemmas::joined_line))]
 fn push_of_text(out: &mut Vec<u8>, word: &[u8], flaw: Flaw) -> Result<(), AllocError>
     requires { IsOneLine out.old.items }
     ensures { OnOk result (IsOneLine out.new.items) }
@@ -124,6 +129,7 @@ fn push_of_text(out: &mut Vec<u8>, word: &[u8], flaw: Flaw) -> Result<(), AllocE
 }
 
 /// Adds words and a number.
+#[tactic(auto, using(crate::proofs::LineLemmas::coded_line, crate::proofs::LineLemmas::decimal_line, crate::proofs::LineLemmas::joined_line))]
 fn push_number(out: &mut Vec<u8>, words: &[u8], number: u64) -> Result<(), AllocError>
     requires before { IsOneLine out.old.items }
     requires words { IsOneLine words.now }

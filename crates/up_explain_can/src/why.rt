@@ -3,7 +3,7 @@ ghost use Rattle.std.specs.Prelude.{◌≡◌};
 ghost use Rattle.up_explain_can.specs.declared.why.Why.TheVariants.{OutOfMemory};
 
 use crate::flaw::Flaw;
-use std::alloc::{AllocError, Global};
+use std::alloc::{AllocError, AllocFailed, Global};
 use up_bytes::{Bytes, copy_of};
 
 /// How many bytes of a word are kept to be shown, at most.
@@ -28,6 +28,14 @@ impl From<AllocError> for Why {
     ghost from_gives = { λ _ why. why ≡ OutOfMemory };
 
     fn from(_error: AllocError) -> Why {
+        Why::OutOfMemory
+    }
+}
+
+impl<T: Drop> From<AllocFailed<T>> for Why {
+    ghost from_gives = { λ _ why. why ≡ OutOfMemory };
+
+    fn from(_error: AllocFailed<T>) -> Why {
         Why::OutOfMemory
     }
 }
