@@ -18,8 +18,8 @@ use Rattle.up_rights.specs.Words.{right_named}
 use Rattle.up_text.specs.Lines.{is_silent, line_words, script_lines}
 use Rattle.up_text.specs.Words.{decoded}
 use Rattle.up_explain_can.specs.CanNumbers.{EndsAtFirst, bad_in_can, owner_behind, owner_in, tree_behind, tree_of}
-use Rattle.up_command.specs.Statuses.{AnswersWith, input_limit}
-use Rattle.up_explain_can.specs.Explaining.{ExplainsInput, Explanation, bad_from, number_if, stands}
+use Rattle.up_command.specs.Statuses.{input_limit}
+use Rattle.up_explain_can.specs.Explaining.{ExplainsInput, Explanation, InputMeans, bad_from, number_if, stands}
 
 -- ---- what is alike seen so stays alike
 
@@ -39,14 +39,14 @@ map_map f g (Some a) = refl
 
 -- ---- whose tree is named behind a line
 
-owner_of : CanFiles → Option UserName
+abbrev owner_of : CanFiles → Option UserName
 owner_of files = Some files.tree.owner
 
-behind : Effect → Option UserName
+abbrev behind : Effect → Option UserName
 behind e = owner_in e.tree
 
 -- the same owner's, whatever it is given
-kept : {X : Type 0} → CanFiles → X → Option UserName
+abbrev kept : {X : Type 0} → CanFiles → X → Option UserName
 kept files x = Some files.tree.owner
 
 text_owner_by : (files : CanFiles) (path : PathName) (items : List Item) (b : Bool) → bytes_eq path.owner files.tree.owner ≡ b → (with_text files path items).tree.owner ≡ files.tree.owner
@@ -54,7 +54,7 @@ text_owner_by files path items true is = rw is refl
 text_owner_by files path items false is = rw is refl
 
 access_alike : (files : CanFiles) (words : List Text) → option_map owner_of (access_line files words) ≡ option_map (kept files) (access_line (bare_tree files.tree.owner) words)
-unfolding access_line, access_dir, owner_of, kept
+unfolding access_line access_dir
 access_alike files [] = refl
 access_alike files (a ∷ []) = refl
 access_alike files (a ∷ b ∷ []) =
@@ -65,7 +65,7 @@ access_alike files (a ∷ b ∷ []) =
 access_alike files (a ∷ b ∷ c ∷ more) = refl
 
 group_alike : (files : CanFiles) (words : List Text) → option_map owner_of (group_line files words) ≡ option_map (kept files) (group_line (bare_tree files.tree.owner) words)
-unfolding group_line, owner_of, kept
+unfolding group_line
 group_alike files [] = refl
 group_alike files (a ∷ []) = refl
 group_alike files (a ∷ b ∷ []) =
@@ -76,7 +76,7 @@ group_alike files (a ∷ b ∷ []) =
 group_alike files (a ∷ b ∷ c ∷ more) = refl
 
 can_alike : (files : CanFiles) (words : List Text) → option_map (kept files) (can_line files words) ≡ option_map (kept files) (can_line (bare_tree files.tree.owner) words)
-unfolding can_line, kept
+unfolding can_line
 can_alike files [] = refl
 can_alike files (a ∷ []) = refl
 can_alike files (a ∷ b ∷ []) = refl
@@ -88,7 +88,7 @@ can_alike files (a ∷ b ∷ c ∷ []) =
 can_alike files (a ∷ b ∷ c ∷ d ∷ more) = refl
 
 kind_alike : (kind : CanKind) (files : CanFiles) (words : List Text) → option_map behind (files_effect kind files words) ≡ option_map (kept files) (files_effect kind (bare_tree files.tree.owner) words)
-unfolding files_effect, behind, owner_of, kept
+unfolding files_effect
 kind_alike kinds.Tree files words = refl
 kind_alike kinds.Access files words = map_map behind _ (access_line files words) ∙ (access_alike files words ∙ sym (map_map (kept files) _ (access_line (bare_tree files.tree.owner) words)))
 kind_alike kinds.Group files words = map_map behind _ (group_line files words) ∙ (group_alike files words ∙ sym (map_map (kept files) _ (group_line (bare_tree files.tree.owner) words)))
@@ -100,12 +100,11 @@ words_alike files [] = refl
 words_alike files (keyword ∷ words) = bind_alike behind (kept files) (kind_of keyword) _ _ (λ kind. kind_alike kind files words)
 
 line_alike : (files : CanFiles) (line : Text) → option_map behind (effect_of (Some files) line) ≡ option_map (kept files) (effect_of (Some (bare_tree files.tree.owner)) line)
-unfolding effect_of, behind, kept
+unfolding effect_of
 line_alike files line = if_alike behind (kept files) (is_silent line) _ _ _ _ refl (words_alike files (line_words line))
 
 -- a line has the same owner's tree named behind it, whatever files the tree has
 pub owner_alike : (tree : Tree) (line : Text) → option_map owner_in (tree_behind tree line) ≡ owner_behind (owner_in tree) line
-unfolding behind
 owner_alike None line = map_map owner_in (λ e. e.tree) (effect_of None line)
 owner_alike (Some files) line = map_map owner_in (λ e. e.tree) (effect_of (Some files) line) ∙ (line_alike files line ∙ sym (line_alike (bare_tree files.tree.owner) line))
 
@@ -120,7 +119,6 @@ const_some y (Some x) is = refl
 
 -- a line behind the one that names the tree leaves it named
 pub owner_stays : (owner : UserName) (kind : CanKind) (words : List Text) → is_some (files_effect kind (bare_tree owner) words) ≡ true → option_map (λ e. owner_in e.tree) (files_effect kind (bare_tree owner) words) ≡ Some (Some owner)
-unfolding behind, kept
 owner_stays owner kind words is = kind_alike kind (bare_tree owner) words ∙ const_some (Some owner) (files_effect kind (bare_tree owner) words) is
 
 -- ---- the numbers, by what is seen of what stands
@@ -143,11 +141,19 @@ bad_seen see one other alike number s (line ∷ lines) =
 pub can_seen : (input : Text) → bad_from owner_behind 1 None (script_lines input) ≡ bad_in_can input
 can_seen input = sym (bad_seen owner_in tree_behind owner_behind owner_alike 1 None (script_lines input))
 
--- what explains the lines by the tree's owner explains them
-pub can_meaning : (left old new : Option Text) (status : ℕ) → IfSome left (λ input. ExplainsInput owner_behind None input old new status) → IfSome left (λ input. ExplainsInput tree_behind None input old new status)
-can_meaning None old new status is = tt
-can_meaning (Some input) old new status is =
-    subst (λ numbers. if nat_lt input_limit (length input) then AnswersWith old new (record { text = []; status = 7 }) status else Explanation numbers old new status) (can_seen input) is
+seen_meaning : (left old new : Option Text) (status : ℕ) → IfSome left (λ input. ExplainsInput owner_behind None input old new status) → IfSome left (λ input. ExplainsInput tree_behind None input old new status)
+seen_meaning None old new status is = tt
+seen_meaning (Some input) old new status is = by (nat_lt input_limit (length input)) is
+  where
+    by : (b : Bool) → InputMeans b owner_behind None input old new status → InputMeans b tree_behind None input old new status
+    by true means = means
+    by false means = subst (λ numbers. Explanation numbers old new status) (can_seen input) means
+
+-- what explains the lines by the tree's owner, of whom none is named at first, explains them
+pub can_meaning : (left old new : Option Text) (status : ℕ) (first : Option UserName) → first ≡ None → IfSome left (λ input. ExplainsInput owner_behind first input old new status)
+    → IfSome left (λ input. ExplainsInput tree_behind None input old new status)
+can_meaning left old new status first none means =
+    seen_meaning left old new status (subst (λ owner. IfSome left (λ input. ExplainsInput owner_behind owner input old new status)) none means)
 
 -- ---- where a run ends
 

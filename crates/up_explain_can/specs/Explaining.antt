@@ -1,5 +1,5 @@
 -- Which lines of a script are malformed, by their numbers, and what is printed of them. This project's own.
-use Rattle.std.specs.Prelude.{◌≡◌, ℕ, ◌+◌, nat_lt, Bool, true, false, if◌then◌else◌, List, [], ◌∷◌, ◌++◌, length, codes, decimal, Option, Some, None, Result, Ok, Err}
+use Rattle.std.specs.Prelude.{◌≡◌, ℕ, ◌+◌, nat_lt, Bool, true, false, List, [], ◌∷◌, ◌++◌, length, codes, decimal, Option, Some, None, Result, Ok, Err}
 use Rattle.std.specs.List.{list_any}
 use Rattle.up_command.specs.Printed.{ended}
 use Rattle.up_command.specs.Statuses.{Answer, AnswersWith, code_of, input_limit}
@@ -40,7 +40,7 @@ explained number why = codes "line " ++ decimal number ++ codes ": " ++ ended wh
 -- A text explains the lines with these numbers, in order, and no others: for each it has its number and one line of words, which are free.
 pub data Explains : List ℕ → Text → Type 0 where
   nothing : Explains [] []
-  line : {number : ℕ} {numbers : List ℕ} {later : Text} (why : Text) → IsOneLine why → Explains numbers later → Explains (number ∷ numbers) (explained number why ++ later)
+  further : {number : ℕ} {numbers : List ℕ} {later : Text} (why : Text) → IsOneLine why → Explains numbers later → Explains (number ∷ numbers) (explained number why ++ later)
 
 -- the status where lines with these numbers are malformed
 abbrev pub status_for : List ℕ → ℕ
@@ -54,11 +54,13 @@ pub record Explanation (numbers : List ℕ) (old new : Option Text) (status : �
   pub explains : Explains numbers text
   pub answers : AnswersWith old new (record { text = text; status = status_for numbers }) status
 
--- the same of an input, which is not read where it is too long
+-- the same of an input, by whether it is too long: then it is not read
+abbrev pub InputMeans : {S : Type 0} → Bool → (S → Text → Option S) → S → Text → Option Text → Option Text → ℕ → Type 0
+InputMeans true step first input old new status = AnswersWith old new (record { text = []; status = 7 }) status
+InputMeans false step first input old new status = Explanation (bad_from step 1 first (script_lines input)) old new status
+
 abbrev pub ExplainsInput : {S : Type 0} → (S → Text → Option S) → S → Text → Option Text → Option Text → ℕ → Type 0
-ExplainsInput step first input old new status =
-    if nat_lt input_limit (length input) then AnswersWith old new (record { text = []; status = 7 }) status
-    else Explanation (bad_from step 1 first (script_lines input)) old new status
+ExplainsInput step first input old new status = InputMeans (nat_lt input_limit (length input)) step first input old new status
 
 -- ---- a line of it
 

@@ -107,10 +107,11 @@ fn push_front(out: &mut Vec<u8>, word: &[u8]) -> Result<(), AllocError>
     requires { IsOneLine out.old.items }
     ensures { OnOk result (IsOneLine out.new.items) }
 {
-    if word.len() <= MOST_SHOWN {
-        return push_word(out, word);
+    let (front, rest) = word.split_at(MOST_SHOWN.min(word.len()));
+    push_word(out, front)?;
+    if rest.is_empty() {
+        return Ok(());
     }
-    push_word(out, &word[..MOST_SHOWN])?;
     out.extend_from_slice(b"..")
 }
 

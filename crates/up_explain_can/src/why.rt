@@ -50,9 +50,6 @@ pub fn bad_word(alloc: Global, word: &[u8], flaw: Flaw) -> Why {
 
 /// As much of a word as is kept.
 pub(crate) fn kept(alloc: Global, word: &[u8]) -> Result<Bytes, AllocError> {
-    if word.len() > MOST_KEPT {
-        copy_of(alloc, &word[..MOST_KEPT])
-    } else {
-        copy_of(alloc, word)
-    }
+    let (front, _) = word.split_at(MOST_KEPT.min(word.len()));
+    copy_of(alloc, front)
 }

@@ -1,5 +1,6 @@
 -- The hosts that the good lines of a script have named are those that its run has opened.
-use Rattle.std.proofs.Common.{◌≡◌, ◌≢◌, ℕ, zero, suc, ◌+◌, Bool, true, false, not, ◌&&◌, ◌||◌, nat_lt, cond, List, [], ◌∷◌, ◌++◌, length, map, Option, Some, None, is_none, is_some, Result, Ok, Err, arith, refl, sym, ap, subst, ◌∙◌, append_assoc, length-map, map-append}
+use Rattle.std.proofs.Common.{◌≡◌, ◌≢◌, ℕ, zero, suc, ◌+◌, Bool, true, false, not, ◌&&◌, ◌||◌, nat_lt, cond, List, [], ◌∷◌, ◌++◌, length, map, Option, Some, None, is_none, is_some, Result, Ok, Err, arith, refl, sym, ap, subst, ◌∙◌, append_assoc}
+use Rattle.std.proofs.lemmas.List.{length-map, map-append}
 use Rattle.std.specs.List.{find, list_all, list_any, position, position_or_len}
 use Rattle.std.specs.Option.{option_and_then}
 use Rattle.std.specs.Prelude.{if◌then◌else◌, slice_get, slice_set}
@@ -94,29 +95,29 @@ not_not false = refl
 pair_of : {X Y : Type 0} {a b : X} {c d : Y} → a ≡ b → c ≡ d → (a, c) ≡ (b, d)
 pair_of {b = b} {c = c} one other = ap (λ x. (x, c)) one ∙ ap (λ y. (b, y)) other
 
-next_number : (n number : ℕ) → n + (number + 1) ≡ n + 1 + number
+next_number : (n number : ℕ) → n + (number + 1) ≡ suc n + number
 next_number n number = omega arith
 
 -- ---- what is seen of a host, and of one that is named
 
-Seen : Type 0
+abbrev Seen : Type 0
 Seen = Text × List UserName
 
-named : NewHost → Seen
+abbrev named : NewHost → Seen
 named host = (host.name, host.owners)
 
-has_name : List Seen → Text → Bool
+abbrev has_name : List Seen → Text → Bool
 has_name all name = list_any (λ one. bytes_eq one.0 name) all
 
-has_owner : List Seen → UserName → Bool
+abbrev has_owner : List Seen → UserName → Bool
 has_owner all owner = list_any (λ one. has_user one.1 owner) all
 
 module _ {D : Type 0} where
-  seen : HostState D → Seen
+  abbrev seen : HostState D → Seen
   seen host = (host.name, map owner_of host.trees)
 
   -- the hosts that were named are those that are open
-  Same : List NewHost → Hosts D → Type 0
+  abbrev Same : List NewHost → Hosts D → Type 0
   Same hosts x = map seen x.hosts ≡ map named hosts
 
   named_names : (hosts : List NewHost) (name : Text) → told.has_host hosts name ≡ has_name (map named hosts) name
@@ -183,19 +184,12 @@ module _ {D : Type 0} where
   -- ---- a line
 
   -- what came of a line agrees with what is found of it: the hosts behind it, or none
-  Agrees : Option (List NewHost) → Came → Hosts D → Type 0
+  abbrev Agrees : Option (List NewHost) → Came → Hosts D → Type 0
   Agrees found (Ok did) y = (next : List NewHost) × ((found ≡ Some next) × Same next y)
   Agrees found (Err stop.Malformed) y = found ≡ None
   Agrees found (Err stop.HelperFault) y = Unit {0}
   Agrees found (Err stop.DiskFault) y = Unit {0}
   Agrees found (Err stop.OutOfMemory) y = Unit {0}
-
-  -- a line that leaves the hosts as they are
-  Keeps : List NewHost → Came → Hosts D → Type 0
-  Keeps hosts came y = Agrees (Some hosts) came y
-
-  done_keeps : (hosts : List NewHost) (did : Did) (y : Hosts D) → Same hosts y → Agrees (Some hosts) (Ok did) y
-  done_keeps hosts did y same = (hosts, (refl, same))
 
   replied_keeps : (hosts : List NewHost) (number : ℕ) (given : Reply) (y : Hosts D) → Same hosts y → Agrees (Some hosts) (replied number given) y
   replied_keeps hosts number reply.OutOfMemory y same = tt

@@ -41,12 +41,11 @@ pub(crate) fn bad_owners(alloc: Global, owners: &[User]) -> Why {
 
 /// Why a word stands for no key.
 pub(crate) fn bad_key(alloc: Global, word: &[u8]) -> Why {
-    let flaw = if word.len() > 1024 {
-        Flaw::KeyLong
-    } else if word == b"-".as_slice() {
-        Flaw::KeyEmpty
+    if word == b"-".as_slice() {
+        bad_word(alloc, b"", Flaw::KeyEmpty)
+    } else if word.len() > 1024 {
+        bad_word(alloc, word, Flaw::KeyLong)
     } else {
-        Flaw::Percent
-    };
-    bad_word(alloc, word, flaw)
+        bad_word(alloc, word, Flaw::Percent)
+    }
 }

@@ -95,11 +95,11 @@ pub(crate) fn judge_words(
             is_text(alloc, path)?;
             return is_int(alloc, sequence);
         }
-        (Form::SetKey, [user, dirs, stores, key]) => {
+        (Form::SetKey, [user, _dirs, _stores, key]) => {
             is_text(alloc, user)?;
             is_text(alloc, key)?;
-            are_endpoints(alloc, dirs.as_slice())?;
-            return are_endpoints(alloc, stores.as_slice());
+            // Of lists of endpoints nothing else can be malformed.
+            Flaw::Percent
         }
         (Form::Text(flaw), _) => flaw,
         (Form::Mkdir, _) => Flaw::MkdirWords,
@@ -186,14 +186,4 @@ fn block_size(alloc: Global, piece: &[u8]) -> Result<u64, Why> {
         Some(size) => Ok(size),
         None => Err(bad_word(alloc, piece, Flaw::BlockSize)),
     }
-}
-
-/// Judges a list of endpoints.
-fn are_endpoints(alloc: Global, word: &[u8]) -> Result<(), Why> {
-    for piece in word.split(|b| *b == b',') {
-        if !piece.is_empty() {
-            let _text = text_named(alloc, piece)?;
-        }
-    }
-    Ok(())
 }
