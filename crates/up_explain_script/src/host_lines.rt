@@ -15,8 +15,9 @@ ghost use Rattle.up_text.specs.Lists.{is_comma};
 ghost use Rattle.up_text.specs.Words.{decoded};
 
 use crate::flaws::{bad_key, bad_owners, host_flaw};
-use crate::requests::is_session;
+use crate::requests::session_named;
 use std::alloc::Global;
+use up_bytes::Bytes;
 use up_command::key_named;
 use up_explain_can::{Flaw, Why, bad_word, text_named, user_named};
 use up_lists::Items;
@@ -207,8 +208,8 @@ fn enrol_at(
         (record { host = name.now; user = known; key = public }))) (key_named key.now))
         (user_named user.now))) }
 {
-    is_user(alloc, user)?;
-    is_key(alloc, key)?;
+    let _user = user_named(alloc, user)?;
+    let _key = key_of(alloc, key)?;
     is_host(alloc, hosts, name)
 }
 
@@ -221,9 +222,9 @@ pub(crate) fn open_line(alloc: Global, hosts: &[NewHost], words: Option<&[u8]>) 
     let Some((number, name, user, proof)) = four_words(words) else {
         return Err(Why::Line(Flaw::OpenWords));
     };
-    if !is_session(number) {
+    let Some(_number) = session_named(number) else {
         return Err(bad_word(alloc, number, Flaw::Session));
-    }
+    };
     let name = host_named(alloc, name)?;
     open_at(alloc, hosts, &name, user, proof)
 }
@@ -241,33 +242,17 @@ fn open_at(
         (record { number = session; host = name.now; user = signer; proof = signature })))
         (decoded proof.now)) (user_named user.now))) }
 {
-    is_user(alloc, user)?;
-    is_text(alloc, proof)?;
+    let _user = user_named(alloc, user)?;
+    let _proof = text_named(alloc, proof)?;
     is_host(alloc, hosts, name)
 }
 
-/// Judges a word that names a user.
-fn is_user(alloc: Global, word: &[u8]) -> Result<(), Why>
-    ensures { Judges result (user_named word.now) }
-{
-    let _user = user_named(alloc, word)?;
-    Ok(())
-}
-
-/// Judges a word that stands for a text.
-fn is_text(alloc: Global, word: &[u8]) -> Result<(), Why>
-    ensures { Judges result (decoded word.now) }
-{
-    let _text = text_named(alloc, word)?;
-    Ok(())
-}
-
-/// Judges a word that stands for a public key.
-fn is_key(alloc: Global, word: &[u8]) -> Result<(), Why>
-    ensures { Judges result (key_named word.now) }
+/// The public key that a word stands for.
+fn key_of(alloc: Global, word: &[u8]) -> Result<Bytes, Why>
+    ensures { IsMeant (λ key. key) result (key_named word.now) }
 {
     match key_named(alloc, word)? {
-        Some(_) => Ok(()),
+        Some(key) => Ok(key),
         None => Err(bad_key(alloc, word)),
     }
 }

@@ -1,5 +1,5 @@
 //! The lines of a session: a request, or what the client does.
-ghost use Rattle.std.specs.Prelude.{◌≡◌, is_some};
+ghost use Rattle.std.specs.Prelude.{◌≡◌};
 ghost use Rattle.std.specs.Option.{option_copied};
 ghost use Rattle.up_explain_can.specs.Judging.{Judges};
 ghost use Rattle.up_script.specs.ScriptLines.{session_line, session_named};
@@ -10,7 +10,7 @@ use std::alloc::Global;
 use up_bytes::Bytes;
 use up_command::words_of;
 use up_explain_can::{Flaw, Why, bad_word};
-use up_text::{is_request, read_num};
+use up_text::{is_request, read_client_line, read_num};
 
 /// The greatest number of a session.
 const LAST_SESSION: u64 = 99;
@@ -20,25 +20,29 @@ const LAST_SESSION: u64 = 99;
 pub(crate) fn session_line(alloc: Global, word: &[u8], words: Option<&[u8]>) -> Result<(), Why>
     ensures { Judges result (session_line word.now (words_left (option_copied words.entry))) }
 {
-    if !is_session(word) {
+    let Some(_session) = session_named(word) else {
         return Err(bad_word(alloc, word, first_flaw(word)));
-    }
+    };
     let words = words_of(alloc, words)?;
-    if is_request(words.as_slice()) {
+    if let Some(_call) = read_client_line(alloc, words.as_slice())? {
         return Ok(());
     }
-    Err(bad_request(alloc, words.as_slice()))
+    if !is_request(words.as_slice()) {
+        return Err(bad_request(alloc, words.as_slice()));
+    }
+    Ok(())
 }
 
-/// Whether a word is the number of a session.
+/// The number of a session that a word is.
 #[tactic(auto, unfolding(up_script::specs::ScriptLines::session_named))]
-pub(crate) fn is_session(word: &[u8]) -> bool
-    ensures { result ≡ is_some (session_named word.now) }
+pub(crate) fn session_named(word: &[u8]) -> Option<u64>
+    ensures { result ≡ session_named word.now }
 {
-    match read_num(word) {
-        Some(number) => number <= LAST_SESSION,
-        None => false,
+    let number = read_num(word)?;
+    if number > LAST_SESSION {
+        return None;
     }
+    Some(number)
 }
 
 /// What is wrong with the first word of a line that is no keyword and no number of a session.
