@@ -1,4 +1,4 @@
-//! Stored cases of whole scripts, through the top calls of `upspin can` and `upspin script`, over ends, disks and peers in memory.
+//! Stored cases of whole scripts, through the top calls of `upspin can`, `upspin script` and `upspin explain`, over ends, disks and peers in memory.
 //!
 //! This crate promises nothing: the program `up_cases` runs on it.
 #![tactic(auto)]

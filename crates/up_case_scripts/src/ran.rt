@@ -10,6 +10,7 @@ use std::alloc::{AllocError, Global};
 use up_case_lines::Fault;
 use up_disk::{Disk, Disks, MemDisk, blank_disks};
 use up_ends::{FixedClock, ListNonces, MemSink, MemSource};
+use up_explain_script::explain_run;
 use up_lists::Items;
 use up_peer::{Peer, Peers};
 use up_script::{can_run, script_run};
@@ -74,6 +75,7 @@ fn run_to(
             let status = can_run(alloc, script.random, words, source, sink);
             Ok((status, no_counts()))
         }
+        Command::Explain => Ok((explain_run(alloc, words, source, sink), no_counts())),
         Command::Script => run_around(alloc, script, words, source, sink),
     }
 }

@@ -11,6 +11,8 @@ use up_lists::Items;
 pub enum Command {
     Can,
     Script,
+    /// The malformed lines of a script are explained.
+    Explain,
 }
 
 /// A script so far.
@@ -149,6 +151,7 @@ impl<'a> Script<'a> {
             (Some(words), _) => words_again(alloc, words),
             (None, Command::Can) => texts_of(alloc, "can"),
             (None, Command::Script) => texts_of(alloc, "script helper"),
+            (None, Command::Explain) => texts_of(alloc, "explain can"),
         }
     }
 }

@@ -110,6 +110,7 @@ fn run_hashed<R: AllocGlobal + Print>(
     let name = file.name;
     match topic_of(name) {
         "scripts" => run_scripts(rt, file, Command::Can, random, tally),
+        "explains" => run_scripts(rt, file, Command::Explain, random, tally),
         "sessions" => run_scripts(rt, file, Command::Script, random, tally),
         "hosts" => run_lines(rt, file, Hosts::new(rt.alloc(), random), tally),
         "globs" | "steps" | "watches" => run_lines(rt, file, Asked::new(random), tally),
