@@ -13,6 +13,7 @@ use std::{env, io};
 use up_client::{Ask, TableAsk};
 use up_disk::blank_disks;
 use up_ends::{StdSink, StdSource};
+use up_explain_script::explain_run;
 use up_helper::{sign_run, verify_run};
 use up_lists::Items;
 use up_net::{HelperVerifier, HostClock, Machine, SeedNonces, SocketAsk, Waits};
@@ -26,6 +27,15 @@ const READ_FAULT: u8 = 2;
 
 /// The status for want of memory before a command runs.
 const OUT_OF_MEMORY: u8 = 4;
+
+/// The status where the words are not those of a command.
+const USAGE: u8 = 64;
+
+/// The version, which `--help` and `--version` tell.
+const VERSION: &str = "0.1";
+
+/// What is said behind the usage line: the commands, those too that it has not, and where to read on.
+const COMMANDS: &str = "can, script, serve, client, explain, verify, sign (README.md, docs/TOUR.md, docs/SERVING.md)";
 
 /// The words behind the program's name. One that is not UTF-8 is no word of a command, and then there is none at all.
 fn words(rt: &(impl Env + AllocGlobal)) -> Result<Vec<String>, AllocError> {
@@ -58,8 +68,16 @@ fn helper_status(rt: &HostRuntime, words: &[String]) -> Option<u8> {
 fn command_status(rt: &HostRuntime, words: &[String]) -> u8 {
     match words.first().map(|word| word.as_str()) {
         Some("client") => client_status(rt, words),
+        Some("explain") => explain_status(rt, words),
         _ => hashing_status(rt, words),
     }
+}
+
+/// Runs `upspin explain`, and answers its status.
+fn explain_status(rt: &HostRuntime, words: &[String]) -> u8 {
+    let mut source = StdSource::new(rt.stdin());
+    let mut sink = StdSink::new(rt.stdout());
+    explain_run(rt.alloc(), words, &mut source, &mut sink)
 }
 
 /// The server that the words of `upspin client` name, asked as the user whom they name. `None` where they are no such words.
@@ -198,7 +216,7 @@ fn serve_meaning(status: u8) -> Option<&'static str> {
 /// What a status of any other command means for people, and where to read on; nothing after 0, and after 64, whose usage line was printed.
 fn meaning(status: u8) -> Option<&'static str> {
     match status {
-        1 => Some("upspin: a line of the input is malformed (docs/MISTAKES.md, docs/SCRIPTS.md)"),
+        1 => Some("upspin: a line of the input is malformed: `upspin explain can` or `script` says why (docs/MISTAKES.md)"),
         2 => Some("upspin: no input, or no random bytes (README.md, Statuses)"),
         3 => Some("upspin: standard output failed, and not all was printed (README.md, Statuses)"),
         4 => Some("upspin: there was no memory, and not all was printed (README.md, Statuses)"),
@@ -208,6 +226,18 @@ fn meaning(status: u8) -> Option<&'static str> {
         11 => Some("upspin: the server gave no answer (README.md, Statuses)"),
         _ => None,
     }
+}
+
+/// Says in a line which commands there are, after 64 alone; to who asks for help or the version, with that.
+fn tell_commands(rt: &HostRuntime, words: &[String], status: u8) {
+    if status != USAGE {
+        return;
+    }
+    // Where even this line cannot be written, the usage line says the most of it.
+    let _ = match words.first().map(|word| word.as_str()) {
+        Some("--help" | "--version") => eprintln!(rt; "upspin {VERSION}: {COMMANDS}"),
+        _ => eprintln!(rt; "upspin: {COMMANDS}"),
+    };
 }
 
 /// Says in a line what a status means.
@@ -230,9 +260,11 @@ fn main(rt: HostRuntime) -> ExitCode {
     if is_serve(&words) {
         let status = serve_status(&rt, rt, &words);
         tell(&rt, serve_meaning(status));
+        tell_commands(&rt, &words, status);
         return ExitCode::from(status);
     }
     let status = command_status(&rt, &words);
     tell(&rt, meaning(status));
+    tell_commands(&rt, &words, status);
     ExitCode::from(status)
 }
