@@ -58,7 +58,7 @@ pub fn explain_run<S: Source, K: Sink>(
     ensures untouched { IsOneOf (2 ∷ 7 ∷ []) result → sink.new ≡ sink.old }
     ensures usage_written { result ≡ 64 → Appends (K.held sink.old) (K.held sink.new) usage_line }
 {
-    match explained(words) {
+    match scripts_named(words) {
         Some(Explained::Can) => explain_can(alloc, source, sink),
         Some(Explained::Script) => explain_script(alloc, source, sink),
         None => usage(sink).code(),
@@ -67,7 +67,7 @@ pub fn explain_run<S: Source, K: Sink>(
 
 /// Which scripts are explained by these words; `None` where they are not those of `upspin explain`.
 #[tactic(auto, unfolding(crate::specs::ExplainAnswers::explained_by))]
-fn explained(words: &[String]) -> Option<Explained>
+fn scripts_named(words: &[String]) -> Option<Explained>
     ensures { result ≡ explained_by (map string_bytes words.now) }
 {
     match words {
