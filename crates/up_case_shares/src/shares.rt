@@ -37,12 +37,7 @@ impl Shares {
     }
 
     // `share WORDS` reports on the tree's log, or on the image that was named since.
-    fn share(
-        &mut self,
-        alloc: Global,
-        words: Words<'_>,
-        answer: &mut Answer,
-    ) -> Result<(), Fault> {
+    fn share(&mut self, alloc: Global, words: Words<'_>, answer: &mut Answer) -> Result<(), Fault> {
         if let Some(stage) = self.stage.take() {
             self.report.disk = Some(disk_of(stage));
         }

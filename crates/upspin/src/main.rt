@@ -46,6 +46,7 @@ fn status_of<R: Threads + Wait + Clock + Sync>(
         Command::Audit => reports::audit_status(&rt, words),
         Command::Share => reports::share_status(&rt, words),
         Command::Can => scripts::can_status(&rt, words),
+        Command::Explain => scripts::explain_status(&rt),
         Command::Script => scripts::script_status(&rt, words),
     }
 }

@@ -6,7 +6,7 @@ const VERSION: &str = "0.1";
 
 /// The commands, those too that the usage line has not, and where to read on.
 const COMMANDS: &str =
-    "can, script, serve, client, copy, audit, share, verify, sign (README.md says what each does)";
+    "can, script, explain can, serve, client, copy, audit, share, verify, sign (README.md says what each does)";
 
 /// The status where the words are not those of a command; the usage line was printed.
 const USAGE: u8 = 64;
@@ -20,7 +20,8 @@ pub fn tell(rt: &HostRuntime, command: Command, words: &[String], status: u8) {
     let meaning = match command {
         Command::Serve => serve_meaning(status),
         Command::Audit | Command::Share => report_meaning(status),
-        Command::Client | Command::Copy | Command::Can | Command::Script => meaning(status),
+        Command::Can => can_meaning(status),
+        Command::Client | Command::Copy | Command::Explain | Command::Script => meaning(status),
     };
     if let Some(line) = meaning {
         // Where even this line cannot be written, the status says it.
@@ -72,6 +73,14 @@ fn report_meaning(status: u8) -> Option<&'static str> {
         ),
         8 => Some("upspin: a log is damaged, and was not opened (docs/REPORTS.md)"),
         _ => None,
+    }
+}
+
+/// What a status of `can` means for people.
+fn can_meaning(status: u8) -> Option<&'static str> {
+    match status {
+        1 => Some("upspin: a line is malformed: `upspin explain can` says why (docs/MISTAKES.md)"),
+        _ => meaning(status),
     }
 }
 

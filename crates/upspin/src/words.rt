@@ -12,6 +12,8 @@ pub enum Command {
     Audit,
     Share,
     Can,
+    /// The words `explain can`, and no others.
+    Explain,
     /// `script`, and the words of no command, which get the usage line from it.
     Script,
 }
@@ -36,9 +38,17 @@ pub fn words(rt: &(impl Env + AllocGlobal)) -> Result<Vec<String>, AllocError> {
 
 /// The command that the first word names.
 pub fn command_of(words: &[String]) -> Command {
-    match words.first() {
-        Some(word) => command_named(word.as_str()),
-        None => Command::Script,
+    match words {
+        [] => Command::Script,
+        [word, kind] if word.as_str() == "explain" => explained(kind.as_str()),
+        [word, ..] => command_named(word.as_str()),
+    }
+}
+
+fn explained(kind: &str) -> Command {
+    match kind {
+        "can" => Command::Explain,
+        _ => Command::Script,
     }
 }
 

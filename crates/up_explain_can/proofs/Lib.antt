@@ -1,0 +1,3 @@
+mod CanNumberLemmas
+mod LineLemmas
+mod TellingLemmas

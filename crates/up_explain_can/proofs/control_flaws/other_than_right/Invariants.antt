@@ -1,0 +1,6 @@
+-- What is left of the part gets shorter.
+use Rattle.std.proofs.Common.{length}
+use Rattle.up_explain_can.proofs.control_flaws.other_than_right.Given as goal
+
+abbrev pub decreases-loop-word : goal.decreases-loop-word
+decreases-loop-word l = length l.rest

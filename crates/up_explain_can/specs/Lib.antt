@@ -1,0 +1,3 @@
+pub mod Explaining
+pub mod Judging
+pub mod CanNumbers
