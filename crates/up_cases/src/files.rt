@@ -5,13 +5,11 @@ use std::rt::Files;
 use std::{fs, io};
 use up_case_audits::Audits;
 use up_case_files::{CacheLines, ClientLines, CopyLines, TerminalLines};
-use up_case_follows::Follows;
 use up_case_hosts::Hosts;
 use up_case_lines::{File, Tally, run_lines};
 use up_case_logs::{Crashes, Fields, Logs, Moves, Records};
 use up_case_scripts::{Command, run_scripts};
 use up_case_serves::Serves;
-use up_case_shares::Shares;
 use up_case_texts::{
     Ends, Messages, Names, Patterns, PeerLines, References, Replies, Requests, Rights, Signing,
     Streams, Texts,
@@ -117,12 +115,10 @@ fn run_hashed<R: AllocGlobal + Print>(
     match topic_of(name) {
         "scripts" => run_scripts(rt, file, Command::Can, random, tally),
         "sessions" => run_scripts(rt, file, Command::Script, random, tally),
-        "follows" => run_lines(rt, file, Follows::new(random), tally),
         "hosts" => run_lines(rt, file, Hosts::new(rt.alloc(), random), tally),
         "globs" | "steps" | "watches" => run_lines(rt, file, Asked::new(random), tally),
         "rights" => run_lines(rt, file, Rights::new(random), tally),
         "serves" => run_lines(rt, file, Serves::new(random), tally),
-        "shares" => run_lines(rt, file, Shares::new(rt.alloc(), random), tally),
         "worlds" => run_lines(rt, file, Worlds::new(random), tally),
         _ => {
             tally.fail();

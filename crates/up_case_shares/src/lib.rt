@@ -1,9 +1,0 @@
-//! Stored cases of who reads what: the readers of one path of a tree, and whole reports of `upspin share`, over ends and disks in memory.
-//!
-//! This crate promises nothing: the program `up_cases` runs on it.
-#![tactic(auto)]
-
-mod reports;
-mod shares;
-
-pub use shares::Shares;
