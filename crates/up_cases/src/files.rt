@@ -1,4 +1,6 @@
 //! The files of cases, and the topic of each.
+use crate::script_cases::{Command, run_scripts};
+use crate::serve_cases::Serves;
 use std::hash::RandomState;
 use std::random::RandomSource;
 use std::rt::Files;
@@ -8,8 +10,6 @@ use up_case_files::{CacheLines, ClientLines, CopyLines, TerminalLines};
 use up_case_hosts::Hosts;
 use up_case_lines::{File, Tally, run_lines};
 use up_case_logs::{Crashes, Fields, Logs, Moves, Records};
-use up_case_scripts::{Command, run_scripts};
-use up_case_serves::Serves;
 use up_case_texts::{
     Ends, Messages, Names, Patterns, PeerLines, References, Replies, Requests, Rights, Signing,
     Streams, Texts,

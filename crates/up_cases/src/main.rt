@@ -6,6 +6,8 @@
 #![tactic(auto)]
 
 mod files;
+mod script_cases;
+mod serve_cases;
 
 use std::rt::Env;
 use std::{env, io};

@@ -1,9 +1,5 @@
 //! Stored cases of what `upspin serve` does before it listens: the words, the logs that are opened, the users that are enrolled, and logs
 //! that are moved, over ends and disks in memory.
-//!
-//! This crate promises nothing: the program `up_cases` runs on it.
-#![tactic(auto)]
-
 mod plans;
 mod serves;
 

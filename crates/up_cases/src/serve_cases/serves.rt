@@ -2,7 +2,7 @@
 //! their answers.
 ghost use Rattle.up_serve.specs.Serving.{AreServeLimits};
 
-use crate::plans::{add_plan, words_of};
+use crate::serve_cases::plans::{add_plan, words_of};
 use std::alloc::{AllocError, Global};
 use std::hash::RandomState;
 use std::mem;

@@ -3,9 +3,9 @@ ghost use Rattle.std.specs.Prelude.{◌≡◌, length};
 ghost use Rattle.std.specs.List.{AllByRecursion};
 ghost use Rattle.up_disk.specs.Leaving.{IsBlank};
 
-use crate::around::ToldPeer;
-use crate::by_proof::ByProof;
-use crate::script::{Command, Script};
+use crate::script_cases::around::ToldPeer;
+use crate::script_cases::by_proof::ByProof;
+use crate::script_cases::script::{Command, Script};
 use std::alloc::{AllocError, Global};
 use up_case_lines::Fault;
 use up_disk::{Disk, Disks, MemDisk, blank_disks};

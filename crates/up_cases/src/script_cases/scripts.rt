@@ -1,7 +1,7 @@
 //! Whole scripts. A script is written line by line, and a line that prints has what it prints behind it; of one that prints several
 //! lines the further ones stand below. `end` runs what stands above it, and answers the status.
-use crate::ran::{Ran, run};
-use crate::script::{Command, Script};
+use crate::script_cases::ran::{Ran, run};
+use crate::script_cases::script::{Command, Script};
 use std::alloc::AllocError;
 use std::hash::RandomState;
 use std::io;

@@ -1,8 +1,4 @@
 //! Stored cases of whole scripts, through the top calls of `upspin can` and `upspin script`, over ends, disks and peers in memory.
-//!
-//! This crate promises nothing: the program `up_cases` runs on it.
-#![tactic(auto)]
-
 mod around;
 mod by_proof;
 mod ran;

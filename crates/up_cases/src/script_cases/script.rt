@@ -1,5 +1,5 @@
 //! A script, how its source and its sink behave, and what stands around it.
-use crate::around::Around;
+use crate::script_cases::around::Around;
 use std::alloc::{AllocError, Global};
 use std::hash::RandomState;
 use std::mem;
