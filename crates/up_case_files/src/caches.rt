@@ -193,10 +193,10 @@ fn fetches_line(
     answer: &mut Answer,
 ) -> Result<(), Fault> {
     let (from, to) = words.two_numbers()?;
-    let mut came = 0;
+    let mut came: u64 = 0;
     for number in from..to {
         if is_fetched(alloc, cache, number)? {
-            came += 1;
+            came = came.saturating_add(1);
         }
     }
     answer.number(came);
