@@ -86,7 +86,7 @@ fn empty_host(alloc: Global, random: RandomState) -> io::Result<Host<MemDisk>> {
     }
 }
 
-#[tactic(auto, unfolding(Rattle.std.specs.List.IsDistinct))]
+#[tactic(auto, using(crate::proofs::Owners::none_differ))]
 fn open(
     alloc: Global,
     random: RandomState,
