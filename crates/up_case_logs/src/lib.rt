@@ -1,16 +1,24 @@
-//! Topics of stored cases about the bytes of records, disks that crash, and the logs on them.
+//! Stored cases of entries and records, and of a disk in memory, and a journal, a store, a key server's log or a tree on it: calls that
+//! fail, crashes, and what is then opened.
 //!
 //! This crate promises nothing: the program `up_cases` runs on it.
 #![tactic(auto)]
 
-mod crashes;
-mod fields;
+mod disks;
 mod logs;
 mod moves;
+mod opening;
 mod records;
+mod services;
+mod stage;
+mod trees;
+mod watched;
 
-pub use crashes::{Crashes, add_appended, add_open_fault, limits_of};
-pub use fields::Fields;
+pub use disks::calls_at;
 pub use logs::Logs;
 pub use moves::Moves;
+pub use opening::{WIDE, add_open_fault, limits_of, owner_of};
 pub use records::Records;
+pub use services::add_position;
+pub use stage::{Crashes, Stage};
+pub use watched::Watched;

@@ -1,10 +1,10 @@
-//! Stored cases of whole scripts, through the top calls of `upspin can` and `upspin script`, over ends, disks and peers in memory.
+//! Stored cases of whole scripts of `upspin can` and `upspin script`, through the top calls, over ends, disks, helpers, clocks and peers
+//! that fail at told calls; and of the disks that a script leaves.
 //!
 //! This crate promises nothing: the program `up_cases` runs on it.
 #![tactic(auto)]
 
 mod around;
-mod by_proof;
 mod ran;
 mod script;
 mod scripts;

@@ -1,10 +1,11 @@
 //! A script, how its source and its sink behave, and what stands around it.
-use crate::around::Around;
-use std::alloc::{AllocError, Global};
+use std::alloc::Global;
 use std::hash::RandomState;
-use std::mem;
-use up_case_lines::{Case, Fault, Words, bytes_of};
+use up_case_logs::limits_of;
+use up_disk::DiskFault;
+use up_journal::Limits;
 use up_lists::Items;
+use up_topics::{Case, Words};
 
 /// Which command runs a script.
 #[derive(Clone, Copy, Debug, PartialEq, Eq)]
@@ -19,21 +20,30 @@ pub struct Script<'a> {
     pub command: Command,
     /// The keys that names are hashed with.
     pub random: RandomState,
-    input: Vec<u8>,
+    pub input: Vec<u8>,
     /// The lines that the script is to print.
     pub asked: Vec<Case<'a>>,
     /// The words of the command, where they are not the usual ones.
-    words: Option<Vec<String>>,
+    pub words: Option<&'a str>,
+    /// The limits of the hosts, where they are not the usual ones.
+    pub limits: Option<Limits>,
     /// How much the source gives at a time, and which of its calls fail.
-    pieces: Vec<u64>,
-    source_fails: Vec<u64>,
+    pub pieces: Items<u64>,
+    pub source_fails: Items<u64>,
     /// Which calls of the sink fail.
-    sink_fails: Vec<u64>,
-    pub around: Around<'a>,
+    pub sink_fails: Items<u64>,
+    /// What the clock tells, in turn.
+    pub moments: Vec<u64>,
+    pub nonces: Items<[u8; 32]>,
+    pub disk_faults: Vec<DiskFault>,
+    /// Before which calls of which disks the images are kept.
+    pub notes: Vec<DiskFault>,
+    /// The owners whose trees the peers have, and their answers.
+    pub peers: Vec<(&'a str, &'a str)>,
 }
 
 impl<'a> Script<'a> {
-    /// A script without a line, over ends that do not fail.
+    /// A script without a line, with nonces of zeros, ends and disks that do not fail, and no peer.
     pub fn new(alloc: Global, command: Command, random: RandomState) -> Script<'a> {
         Script {
             command,
@@ -41,145 +51,99 @@ impl<'a> Script<'a> {
             input: Vec::new(alloc),
             asked: Vec::new(alloc),
             words: None,
-            pieces: Vec::new(alloc),
-            source_fails: Vec::new(alloc),
-            sink_fails: Vec::new(alloc),
-            around: Around::new(alloc),
+            limits: None,
+            pieces: Items::new(alloc),
+            source_fails: Items::new(alloc),
+            sink_fails: Items::new(alloc),
+            moments: Vec::new(alloc),
+            nonces: Items::new(alloc),
+            disk_faults: Vec::new(alloc),
+            notes: Vec::new(alloc),
+            peers: Vec::new(alloc),
         }
     }
 
     /// Adds what a line says: `| LINE` is a line of the script as it stands, `= LINE` is a further line that it prints, `line WORD` one of
-    /// the bytes that the word stands for, `tail WORD` is such bytes with no end of line, `repeat N WORD` as many times such bytes.
-    /// `command WORDS`, `pieces N`, `source N` and `sink N` say what the words of the command are, how much the source gives next, and
-    /// which calls of the ends fail. Any other line is about what stands around the script.
-    pub fn add(&mut self, alloc: Global, case: Case<'a>) -> Result<(), Fault> {
-        if let Some(line) = case.question.strip_prefix("| ") {
-            return self.add_line(line.as_bytes(), case);
-        }
+    /// the bytes that the word stands for, `tail WORD` is such bytes with no end of line, `repeat N WORD` as many times such bytes. Any
+    /// other line is about what stands around the script.
+    pub fn add(&mut self, alloc: Global, case: Case<'a>) -> Option<()> {
         if let Some(wanted) = case.question.strip_prefix("= ") {
-            return self.add_wanted(wanted, case);
+            return self.asked.push(Case { wanted, ..case }).ok();
         }
-        self.add_by_word(alloc, case)
-    }
-
-    // The same of a line with a keyword.
-    fn add_by_word(&mut self, alloc: Global, case: Case<'a>) -> Result<(), Fault> {
+        if let Some(line) = case.question.strip_prefix("| ") {
+            return self.add_bytes(line.as_bytes(), b"\n", case);
+        }
         let mut words = Words::new(case.question);
         match words.word()? {
-            "|" => self.add_line(b"", case),
-            "line" => self.add_line(bytes_of(alloc, words.one()?)?.as_slice(), case),
-            "tail" => self.add_bytes(bytes_of(alloc, words.one()?)?.as_slice(), case),
-            "repeat" => self.repeat(alloc, words),
+            "|" => self.add_bytes(b"", b"\n", case),
+            "line" => self.add_bytes(words.bytes(alloc)?.as_slice(), b"\n", case),
+            "tail" => self.add_bytes(words.bytes(alloc)?.as_slice(), b"", case),
+            "repeat" => {
+                let count = words.number()?;
+                let bytes = words.bytes(alloc)?;
+                for _ in 0..count {
+                    self.input.extend_from_slice(bytes.as_slice()).ok()?;
+                }
+                words.end()
+            }
             keyword => self.set(alloc, keyword, words),
         }
     }
 
-    // The same of a line that adds nothing to the input.
-    fn set(&mut self, alloc: Global, keyword: &str, mut words: Words<'a>) -> Result<(), Fault> {
-        match keyword {
-            "command" => self.set_words(alloc, words),
-            "pieces" => push(&mut self.pieces, words.last_number()?),
-            "source" => push(&mut self.source_fails, words.last_number()?),
-            "sink" => push(&mut self.sink_fails, words.last_number()?),
-            _ => self.around.add(alloc, keyword, words),
-        }
-    }
-
-    fn add_line(&mut self, line: &[u8], case: Case<'a>) -> Result<(), Fault> {
-        self.add_bytes(line, case)?;
-        self.input.push(b'\n')?;
-        Ok(())
-    }
-
-    fn add_bytes(&mut self, bytes: &[u8], case: Case<'a>) -> Result<(), Fault> {
-        self.input.extend_from_slice(bytes)?;
+    fn add_bytes(&mut self, bytes: &[u8], end: &[u8], case: Case<'a>) -> Option<()> {
+        self.input.extend_from_slice(bytes).ok()?;
+        self.input.extend_from_slice(end).ok()?;
         if !case.wanted.is_empty() {
-            self.asked.push(case)?;
+            self.asked.push(case).ok()?;
         }
-        Ok(())
+        Some(())
     }
 
-    fn add_wanted(&mut self, wanted: &'a str, case: Case<'a>) -> Result<(), Fault> {
-        self.asked.push(Case { wanted, ..case })?;
-        Ok(())
-    }
-
-    // Adds the bytes that a word stands for, so many times.
-    fn repeat(&mut self, alloc: Global, mut words: Words<'_>) -> Result<(), Fault> {
-        let count = words.number()?;
-        let bytes = bytes_of(alloc, words.one()?)?;
-        for _ in 0..count {
-            self.input.extend_from_slice(bytes.as_slice())?;
+    // The same of a line about what stands around. `command WORDS`: the words of the command. `limits R D L`: the limits of each host's logs.
+    // `pieces N`, `source N` and `sink N`: how much the source gives next, and which calls of the ends fail. `clock N`: the clock's next
+    // moment; `clock N COUNT` so many times; the last one stands. `nonce HEX`: the next nonce. `disk PLACE CALL`: a call of a disk that
+    // fails, both from 0; `note PLACE CALL`: before this call its images are kept. `peer OWNER ANSWERS`: a peer that has the owner's tree, with the answers
+    // that it gives in order.
+    fn set(&mut self, alloc: Global, keyword: &str, mut words: Words<'a>) -> Option<()> {
+        match keyword {
+            "command" => {
+                self.words = Some(words.rest.unwrap_or(""));
+                return Some(());
+            }
+            "limits" => {
+                self.limits = Some(limits_of(words)?);
+                return Some(());
+            }
+            "peer" => self.peers.push((words.word()?, words.word()?)).ok()?,
+            "pieces" => self.pieces.push(words.number()?).ok()?,
+            "source" => self.source_fails.push(words.number()?).ok()?,
+            "sink" => self.sink_fails.push(words.number()?).ok()?,
+            "disk" => self.disk_faults.push(call_of(&mut words)?).ok()?,
+            "note" => self.notes.push(call_of(&mut words)?).ok()?,
+            "nonce" => {
+                let bytes = words.digits(alloc)?;
+                self.nonces.push(*bytes.as_slice().as_array::<32>()?).ok()?;
+            }
+            "clock" => {
+                let moment = words.number()?;
+                let count = match words.rest {
+                    Some(_) => words.number()?,
+                    None => 1,
+                };
+                for _ in 0..count {
+                    self.moments.push(moment).ok()?;
+                }
+            }
+            _ => return None,
         }
-        Ok(())
-    }
-
-    // The words of the command, of which there may be none.
-    fn set_words(&mut self, alloc: Global, words: Words<'_>) -> Result<(), Fault> {
-        self.words = match words.rest() {
-            Some(rest) => Some(texts_of(alloc, rest)?),
-            None => Some(Vec::new(alloc)),
-        };
-        Ok(())
-    }
-
-    /// Takes the input out.
-    pub fn take_input(&mut self, alloc: Global) -> Vec<u8> {
-        mem::replace(&mut self.input, Vec::new(alloc))
-    }
-
-    /// The sizes of the pieces in which the source gives it.
-    pub fn pieces(&self, alloc: Global) -> Result<Items<u64>, AllocError> {
-        copied(alloc, &self.pieces)
-    }
-
-    /// The numbers of the calls of the source that fail.
-    pub fn source_fails(&self, alloc: Global) -> Result<Items<u64>, AllocError> {
-        copied(alloc, &self.source_fails)
-    }
-
-    /// The numbers of the calls of the sink that fail.
-    pub fn sink_fails(&self, alloc: Global) -> Result<Items<u64>, AllocError> {
-        copied(alloc, &self.sink_fails)
-    }
-
-    /// The words of the command.
-    pub fn words(&self, alloc: Global) -> Result<Vec<String>, AllocError> {
-        match (&self.words, self.command) {
-            (Some(words), _) => words_again(alloc, words),
-            (None, Command::Can) => texts_of(alloc, "can"),
-            (None, Command::Script) => texts_of(alloc, "script helper"),
-        }
+        words.end()
     }
 }
 
-fn copied(alloc: Global, numbers: &[u64]) -> Result<Items<u64>, AllocError> {
-    Ok(Items::from_vec(numbers.to_vec(alloc)?))
-}
-
-fn words_again(alloc: Global, words: &[String]) -> Result<Vec<String>, AllocError> {
-    let mut again = Vec::new(alloc);
-    for word in words {
-        add_text(alloc, &mut again, word.as_str())?;
-    }
-    Ok(again)
-}
-
-// Words, each as a text of its own.
-fn texts_of(alloc: Global, words: &str) -> Result<Vec<String>, AllocError> {
-    let mut texts = Vec::new(alloc);
-    for word in words.split(' ') {
-        add_text(alloc, &mut texts, word)?;
-    }
-    Ok(texts)
-}
-
-fn add_text(alloc: Global, texts: &mut Vec<String>, word: &str) -> Result<(), AllocError> {
-    texts.push(word.to_string(alloc)?)?;
-    Ok(())
-}
-
-fn push(numbers: &mut Vec<u64>, number: u64) -> Result<(), Fault> {
-    numbers.push(number)?;
-    Ok(())
+// `PLACE CALL`: a call of a disk.
+fn call_of(words: &mut Words<'_>) -> Option<DiskFault> {
+    Some(DiskFault {
+        disk: words.number()?,
+        call: words.number()?,
+    })
 }

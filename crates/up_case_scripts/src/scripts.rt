@@ -1,12 +1,15 @@
-//! Whole scripts. A script is written line by line, and a line that prints has what it prints behind it; of one that prints several
-//! lines the further ones stand below. `end` runs what stands above it, and answers the status.
+//! Whole scripts of `upspin can` and `upspin script`, through the top calls, over ends, disks, helpers, clocks and peers that fail at
+//! told calls. A script is written line by line, and a line that prints has what it prints behind it; of one that prints several
+//! lines the further ones stand below. `end` runs what stands above it, and answers the status. Behind it, the disks may be looked at.
 use crate::ran::{Ran, run};
 use crate::script::{Command, Script};
-use std::alloc::AllocError;
+use std::alloc::Global;
 use std::hash::RandomState;
-use std::io;
-use up_case_lines::{Answer, Case, Fault, File, Tally, case_of, compare};
+use std::{io, mem};
+use up_case_logs::Stage;
 use up_refs::Reference;
+use up_text::read_num;
+use up_topics::{Answer, Case, File, Tally, case_of, compare, compare_answer};
 
 /// How many bytes are shown as they are. Of more their number and their digest are shown.
 const SHOWN: usize = 1000;
@@ -20,98 +23,78 @@ pub fn run_scripts<R: AllocGlobal + Print>(
     tally: &mut Tally,
 ) -> io::Result<()> {
     let mut script = Script::new(rt.alloc(), command, random);
+    let mut left = Vec::new(rt.alloc());
     let mut number: u64 = 0;
     for line in file.text.split('\n') {
         number = number.saturating_add(1);
         if let Some(case) = case_of(file.name, number, line) {
-            script_line(rt, case, &mut script, tally)?;
+            script_line(rt, case, &mut script, &mut left, tally)?;
         }
     }
     Ok(())
 }
 
-// Adds a line to the script, or runs it.
+// Adds a line to the script, or runs it, or looks at what it left.
 fn script_line<'a, R: AllocGlobal + Print>(
     rt: &R,
     case: Case<'a>,
     script: &mut Script<'a>,
+    left: &mut Vec<Stage>,
     tally: &mut Tally,
 ) -> io::Result<()> {
+    let alloc = rt.alloc();
     if case.question == "end" {
-        end_script(rt, case, script, tally)?;
-        *script = Script::new(rt.alloc(), script.command, script.random);
-        return Ok(());
+        let again = Script::new(alloc, script.command, script.random);
+        let ended = mem::replace(script, again);
+        return end_script(rt, case, ended, left, tally);
     }
-    let added = script.add(rt.alloc(), case);
-    note(rt, case, added, tally)
-}
-
-// Says that a line does not fit where it does not.
-fn note(
-    rt: &impl Print,
-    case: Case<'_>,
-    done: Result<(), Fault>,
-    tally: &mut Tally,
-) -> io::Result<()> {
-    match done {
-        Ok(()) => Ok(()),
-        Err(Fault::BadLine) => compare(rt, case, "bad line", tally),
-        Err(Fault::OutOfMemory) => Err(AllocError)?,
+    if let Some(line) = case.question.strip_prefix("left ") {
+        return compare_answer(rt, case, &left_answer(alloc, line, left), tally);
+    }
+    match script.add(alloc, case) {
+        Some(()) => Ok(()),
+        None => compare(rt, case, "bad line", tally),
     }
 }
 
-// Runs a script, and compares what it prints with what its lines are to print.
+// Runs a script, and compares what it prints with what its lines are to print. Its disks are left.
 fn end_script<R: AllocGlobal + Print>(
     rt: &R,
     case: Case<'_>,
-    script: &mut Script<'_>,
+    script: Script<'_>,
+    left: &mut Vec<Stage>,
     tally: &mut Tally,
 ) -> io::Result<()> {
-    match run(rt.alloc(), script) {
-        Ok(ran) => compare_all(rt, case, script, &ran, tally),
-        Err(fault) => note(rt, case, Err(fault), tally),
-    }
-}
-
-fn compare_all<R: AllocGlobal + Print>(
-    rt: &R,
-    case: Case<'_>,
-    script: &Script<'_>,
-    ran: &Ran,
-    tally: &mut Tally,
-) -> io::Result<()> {
-    let rest = compare_lines(rt, &script.asked, ran.text.as_str(), tally)?;
-    let mut answer = Answer::new(rt.alloc());
-    add_end(ran, rest.as_bytes(), &mut answer);
-    compare(rt, case, answer.finish()?.as_str(), tally)
-}
-
-// Compares what a script prints with what its lines are to print. What is left of the text then is returned.
-fn compare_lines<'a>(
-    rt: &impl Print,
-    asked: &[Case<'_>],
-    text: &'a str,
-    tally: &mut Tally,
-) -> io::Result<&'a str> {
-    let mut rest = text;
-    for case in asked {
+    let alloc = rt.alloc();
+    let asked = script.asked.to_vec(alloc)?;
+    let Some(ran) = run(alloc, script, left) else {
+        return compare(rt, case, "bad line", tally);
+    };
+    let mut rest = ran.text.as_str();
+    for case in &asked {
         let (line, after) = rest.split_once('\n').unwrap_or((rest, ""));
         compare(rt, *case, line, tally)?;
         rest = after;
     }
-    Ok(rest)
+    let mut answer = Answer::new(alloc);
+    add_end(&ran, rest.as_bytes(), &mut answer);
+    compare_answer(rt, case, &answer.finish(), tally)
 }
 
 // Adds how a script ended: its status, which counts of faults are not 0, and what it printed besides.
 fn add_end(ran: &Ran, rest: &[u8], answer: &mut Answer) {
-    answer.word("status");
-    answer.number(u64::from(ran.status));
-    add_count("helper", ran.around.helper_faults, answer);
-    add_count("peers", ran.around.peer_faults, answer);
-    add_count("disks gone", ran.around.disks_gone, answer);
+    answer.counted("status", u64::from(ran.status));
+    if ran.helper_faults != 0 {
+        answer.counted("helper", ran.helper_faults);
+    }
+    if ran.peer_faults != 0 {
+        answer.counted("peers", ran.peer_faults);
+    }
+    if ran.disks_gone != 0 {
+        answer.counted("disks gone", ran.disks_gone);
+    }
     if rest.len() > SHOWN {
-        answer.word("and prints bytes");
-        answer.number(rest.len() as u64);
+        answer.counted("and prints bytes", rest.len() as u64);
         answer.digits(Reference::of(rest).bytes());
     } else if !rest.is_empty() {
         answer.word("and prints");
@@ -119,9 +102,15 @@ fn add_end(ran: &Ran, rest: &[u8], answer: &mut Answer) {
     }
 }
 
-fn add_count(word: &str, count: u64, answer: &mut Answer) {
-    if count != 0 {
-        answer.word(word);
-        answer.number(count);
+// `left PLACE COMMAND; COMMAND ..`: commands of the disk at a place that the last script left, as in stored cases of crashes.
+fn left_answer(alloc: Global, line: &str, left: &mut Vec<Stage>) -> Option<String> {
+    let mut answer = Answer::new(alloc);
+    let (place, commands) = line.split_once(' ')?;
+    let place = read_num(place.as_bytes())?;
+    let stage = left.get_mut(usize::try_from(place).ok()?)?;
+    for command in commands.split("; ") {
+        answer.part();
+        stage.turn(alloc, command, &mut answer)?;
     }
+    answer.finish()
 }

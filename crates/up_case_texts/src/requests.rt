@@ -1,90 +1,115 @@
-//! Lines of a script that ask something of a session. A line stands alone.
-use crate::lists::parts_of;
+//! References, the lines of a script that ask something of a session, and the lines that tell a reply. A line stands alone.
 use crate::messages::add_request;
-use std::alloc::{AllocError, Global};
-use up_bytes::Bytes;
-use up_case_lines::{Answer, Fault, Topic, Words, user_of};
-use up_lists::Items;
-use up_names::User;
-use up_text::{ClientLine, is_request, read_client_line, read_request};
-use up_wire::Request;
+use crate::names::order_word;
+use std::alloc::Global;
+use up_refs::Reference;
+use up_text::{ClientLine, is_request, read_client_line, read_request, reply_lines};
+use up_topics::{Answer, Topic, Words};
+use up_wire::{ServerFrame, read_server};
+
+/// Lines about references: digests of bytes, their digits, and their order. They keep nothing.
+#[derive(Clone, Copy)]
+pub struct References;
+
+impl Topic for References {
+    /// `reference TEXT`: the digits of the text's reference. `parse DIGITS`: the digits of the reference that these stand for, made of
+    /// its bytes, or `none`. `compare DIGITS DIGITS`: how the first stands to the second in the order of references.
+    fn turn(&mut self, alloc: Global, line: &str, answer: &mut Answer) -> Option<()> {
+        let mut words = Words::new(line);
+        let keyword = words.word()?;
+        let text = words.bytes(alloc)?;
+        let read = Reference::parse(text.as_slice());
+        match (keyword, read) {
+            ("reference", _) => {
+                answer.begin();
+                answer.made(Reference::of(text.as_slice()).text(alloc));
+            }
+            ("parse", Some(reference)) => {
+                answer.begin();
+                answer.made(Reference::from_bytes(*reference.bytes()).text(alloc));
+            }
+            ("parse", None) => answer.word("none"),
+            ("compare", Some(first)) => {
+                let second = Reference::parse(words.word()?.as_bytes())?;
+                answer.word(order_word(first.cmp(&second)));
+            }
+            _ => return None,
+        }
+        words.end()
+    }
+}
 
 /// Lines about the lines of a script. They keep nothing.
 #[derive(Clone, Copy)]
 pub struct Requests;
 
 impl Topic for Requests {
-    fn turn(&mut self, alloc: Global, line: &str, answer: &mut Answer) -> Result<(), Fault> {
+    /// `ask USER WORDS`: what the words ask for a session of the user, or what they have the client do, or `malformed` where they are
+    /// said to be no line.
+    fn turn(&mut self, alloc: Global, line: &str, answer: &mut Answer) -> Option<()> {
         let mut words = Words::new(line);
-        match words.word()? {
-            "ask" => ask_line(alloc, words, answer),
-            _ => Err(Fault::BadLine),
+        if words.word()? != "ask" {
+            return None;
         }
+        let user = words.user(alloc)?;
+        let line = words.spelled(alloc)?;
+        match read_request(alloc, line.as_slice(), &user).ok()? {
+            Some(asked) => add_request(alloc, &asked, answer),
+            None => add_client_line(&read_client_line(alloc, line.as_slice()).ok()?, answer),
+        }
+        if !is_request(line.as_slice()) {
+            answer.word("malformed");
+        }
+        Some(())
     }
 }
 
-// `ask USER WORDS`: what the words ask for a session of the user, or what they have the client do, or `malformed` where
-// they are said to be no line.
-fn ask_line(alloc: Global, mut words: Words<'_>, answer: &mut Answer) -> Result<(), Fault> {
-    let user = user_of(alloc, words.word()?)?;
-    let line = words_of(alloc, words.rest())?;
-    add_asked(alloc, &user, line.as_slice(), answer)
-}
-
-// The words of a line, each as it stands.
-fn words_of(alloc: Global, rest: Option<&str>) -> Result<Items<Bytes>, Fault> {
-    match rest {
-        Some(rest) => parts_of(alloc, rest, ' '),
-        None => Ok(Items::new(alloc)),
-    }
-}
-
-fn add_asked(
-    alloc: Global,
-    user: &User,
-    words: &[Bytes],
-    answer: &mut Answer,
-) -> Result<(), Fault> {
-    let asked = read_request(alloc, words, user)?;
-    add_meant(alloc, &asked, words, answer)
-}
-
-fn add_meant(
-    alloc: Global,
-    asked: &Option<Request>,
-    words: &[Bytes],
-    answer: &mut Answer,
-) -> Result<(), Fault> {
-    match asked {
-        Some(asked) => add_request(alloc, asked, answer),
-        None => add_client_line(alloc, words, answer)?,
-    }
-    if !is_request(words) {
-        answer.word("malformed");
-    }
-    Ok(())
-}
-
-fn add_client_line(alloc: Global, words: &[Bytes], answer: &mut Answer) -> Result<(), AllocError> {
-    let line = read_client_line(alloc, words)?;
-    if let Some(line) = &line {
-        add_client(line, answer);
-    }
-    Ok(())
-}
-
-fn add_client(line: &ClientLine, answer: &mut Answer) {
+fn add_client_line(line: &Option<ClientLine>, answer: &mut Answer) {
     match line {
-        ClientLine::Put(path, time, sequence, bytes) => {
+        Some(ClientLine::Put(path, time, sequence, bytes)) => {
             answer.word("client put");
             answer.coded(path.as_slice());
-            answer.int(*time);
-            answer.int(*sequence);
+            answer.number(*time);
+            answer.number(*sequence);
             answer.coded(bytes.as_slice());
         }
-        ClientLine::Get(path) => {
+        Some(ClientLine::Get(path)) => {
             answer.word("client get");
             answer.coded(path.as_slice());
         }
+        None => {}
+    }
+}
+
+/// Lines about the lines of replies. They keep nothing.
+#[derive(Clone, Copy)]
+pub struct Replies;
+
+impl Topic for Replies {
+    /// `tell HEX`: the lines that tell the reply whose message these bytes are, parted by ` / `; `none` where there is no line. In a
+    /// line each byte that is no printing character is coded, and so is `%`.
+    fn turn(&mut self, alloc: Global, line: &str, answer: &mut Answer) -> Option<()> {
+        let mut words = Words::new(line);
+        if words.word()? != "tell" {
+            return None;
+        }
+        let bytes = words.digits(alloc)?;
+        words.end()?;
+        let lines = match read_server(alloc, bytes.as_slice()).ok()? {
+            ServerFrame::Answer(reply) => reply_lines(alloc, &reply).ok()?,
+            _ => return None,
+        };
+        if lines.is_empty() {
+            answer.word("none");
+        }
+        for (place, line) in lines.as_slice().iter().enumerate() {
+            if place > 0 {
+                answer.word("/");
+            }
+            for word in line.as_slice().split(|b| *b == b' ') {
+                answer.coded(word);
+            }
+        }
+        Some(())
     }
 }

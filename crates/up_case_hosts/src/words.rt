@@ -1,7 +1,0 @@
-//! Words that are made of several.
-use up_case_lines::Fault;
-
-/// What stands before the first such mark, and behind it. A word without one does not fit.
-pub fn cut(word: &str, mark: char) -> Result<(&str, &str), Fault> {
-    word.split_once(mark).ok_or(Fault::BadLine)
-}
