@@ -1,6 +1,5 @@
 //! What `upspin serve` does before it listens: its words, the logs that are opened, the users that are enrolled, and logs that are moved,
 //! over ends and disks in memory. A line is a case of its own: commands, parted by `; `, and so are their answers.
-ghost use Rattle.std.specs.Prelude.{IfSome};
 ghost use Rattle.up_serve.specs.Serving.{AreServeLimits};
 
 use std::alloc::Global;
@@ -170,23 +169,16 @@ impl Server {
         sink: &mut MemSink,
     ) -> Option<Result<Host<MemDisk>, ServeFault<MemDisk>>> {
         let random = self.random;
-        match (serve_words(alloc, &self.words).ok()?, self.limits) {
-            (Some(plan), _) if disks.len() != plan.trees.len().saturating_add(2) => None,
-            (Some(plan), Some(limits)) => {
-                let limits = fit(limits);
-                Some(serve_within(
-                    alloc, random, limits, plan, disks, source, sink,
-                ))
-            }
-            _ => Some(serve_open(
-                alloc,
-                random,
-                &self.words,
-                disks,
-                source,
-                sink,
-            )),
+        let Some(plan) = serve_words(alloc, &self.words).ok()? else {
+            return Some(serve_open(alloc, random, &self.words, disks, source, sink));
+        };
+        if disks.len() != plan.trees.len().saturating_add(2) {
+            return None;
         }
+        Some(match self.limits {
+            None => serve_open(alloc, random, &self.words, disks, source, sink),
+            Some(limits) => serve_within(alloc, random, fit(limits), plan, disks, source, sink),
+        })
     }
 
     fn take_disks(&mut self, alloc: Global) -> Option<Disks<MemDisk>> {
@@ -207,11 +199,13 @@ impl Server {
 
     fn move_log(&mut self, alloc: Global, which: u64, answer: &mut Answer) -> Option<()> {
         let mut sink = self.sink(alloc)?;
-        let limits = fit(self.limits.unwrap_or(Limits {
-            records: 1_048_576,
-            device: 1_073_741_824,
-            largest: 131_072,
-        }));
+        let limits = fit(
+            self.limits.unwrap_or(Limits {
+                records: 1_048_576,
+                device: 1_073_741_824,
+                largest: 131_072,
+            }),
+        );
         let (old, others) = self.disks.split_first_mut()?;
         let new = others.first_mut()?;
         match serve_move(alloc, old, new, which, limits, &mut sink) {

@@ -6,9 +6,7 @@ use up_alone::talk_alone;
 use up_bytes::{Fields, Writer};
 use up_case_texts::{source_in_pieces, verdict_of};
 use up_disk::MemDisk;
-use up_ends::{
-    FixedClock, FixedVerifier, ListNonces, MemSink, Sink, Source, Verdict, write_all,
-};
+use up_ends::{FixedClock, FixedVerifier, ListNonces, MemSink, Sink, Source, Verdict, write_all};
 use up_host::Host;
 use up_lists::Items;
 use up_peer::Peers;
@@ -55,7 +53,13 @@ pub fn talk_turn(
         "prefixes" => prefixes_line(alloc, host, words.last_digits(alloc)?.as_slice(), answer),
         "failing" => {
             let piece = words.number()?;
-            failing_line(alloc, host, piece, words.last_digits(alloc)?.as_slice(), answer)
+            failing_line(
+                alloc,
+                host,
+                piece,
+                words.last_digits(alloc)?.as_slice(),
+                answer,
+            )
         }
         "many" => many_line(alloc, host, words, answer),
         "waits" => waits_line(alloc, host, words, answer),
@@ -115,7 +119,7 @@ fn failing_line(
                 ..yes_to_all(piece)
             },
             Some(more) => Plan {
-                write: Some(more - 1),
+                write: Some(more.saturating_sub(1)),
                 ..yes_to_all(piece)
             },
         };

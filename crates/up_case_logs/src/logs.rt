@@ -1,7 +1,7 @@
 //! From an entry that a user hands in, by the record that puts it, to a journal that crashes and is opened again. The lines
 //! are those of records and of crashes, and two more: `keep` appends a record, and `kept` reads it from the journal.
-use crate::stage::Stage;
 use crate::records::{Records, add_record_of};
+use crate::stage::Stage;
 use std::alloc::Global;
 use up_entry::write_rec;
 use up_topics::{Answer, Topic, Words};

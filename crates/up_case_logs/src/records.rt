@@ -9,7 +9,10 @@ use up_entry::{
 use up_lists::Items;
 use up_names::User;
 use up_refs::Reference;
-use up_topics::{Answer, Topic, Words, add_blocks, add_endpoint, add_entry, add_record, add_reply, blocks_of, user_of};
+use up_topics::{
+    Answer, Topic, Words, add_blocks, add_endpoint, add_entry, add_record, add_reply, blocks_of,
+    user_of,
+};
 use up_wire::Reply;
 
 /// How many bytes of the file each block has, the most that a block may have.

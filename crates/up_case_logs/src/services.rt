@@ -2,7 +2,6 @@
 ghost use Rattle.std.specs.Prelude.{◌≡◌};
 
 use crate::opening::add_open_fault;
-
 use crate::watched::Watched;
 use std::alloc::Global;
 use up_blocks::Blocks;

@@ -6,9 +6,9 @@ ghost use Rattle.up_script.specs.Standing.{AreHostLimits};
 
 use crate::around::{ByProof, Moments};
 use crate::script::{Command, Script};
-use up_case_logs::{Stage, Watched, calls_at};
 use std::alloc::Global;
 use std::mem;
+use up_case_logs::{Stage, Watched, calls_at};
 use up_case_texts::answers_of;
 use up_disk::{Disk, DiskFault, Disks, MemDisk};
 use up_ends::{ListNonces, MemSink, MemSource};

@@ -8,7 +8,7 @@ use up_lists::Items;
 use up_topics::{Case, Words};
 
 /// Which command runs a script.
-#[derive(Clone, Copy, Debug, PartialEq, Eq)]
+#[derive(Clone, Copy, PartialEq, Eq)]
 pub enum Command {
     Can,
     Script,

@@ -4,13 +4,10 @@ use std::alloc::{AllocError, Global};
 use up_bytes::{Bytes, FieldFault};
 use up_entry::PutEntry;
 use up_lists::Items;
-use up_topics::{
-    Answer, Topic, Words, add_blocks, add_endpoints, add_entry, add_known, add_reply,
-};
+use up_topics::{Answer, Topic, Words, add_blocks, add_endpoints, add_entry, add_known, add_reply};
 use up_wire::{
-    ClientFrame, Done, Reply, Request, ServerFrame, bounded, key_record_size,
-    read_client, read_key_record, read_server, reply_size, write_client, write_key_record,
-    write_server,
+    ClientFrame, Done, Reply, Request, ServerFrame, bounded, key_record_size, read_client,
+    read_key_record, read_server, reply_size, write_client, write_key_record, write_server,
 };
 
 /// Lines about messages. They keep nothing.

@@ -5,8 +5,23 @@
 //! and the one it is run in where there is none.
 //!
 //! There are three kinds of topics: whole scripts of the commands (`up_case_scripts`); bytes and texts, read and written again, and what
-//! stands on disks that crash (`up_case_texts`, `up_case_logs`); and calls whose answer no script shows (`up_case_calls`). A topic for a
-//! crate of its own is a type that has a [`up_topics::Topic`], in a library beside these, and a line in [`run_topic`].
+//! stands on disks that crash (`up_case_texts`, `up_case_logs`); and calls whose answer no script shows (`up_case_calls`).
+//!
+//! A further topic `storms` is a file `data/storms.cases`, whose head says what its lines are, and a function that answers a line:
+//!
+//! ```text
+//! pub struct Storms;                                  // what lines have named so far stands in it
+//! impl Topic for Storms {
+//!     fn turn(&mut self, alloc: Global, line: &str, answer: &mut Answer) -> Option<()> {
+//!         let mut words = Words::new(line);           // a line that does not fit, or want of memory, is None
+//!         let seed = words.last_number()?;
+//!         answer.counted("seed", seed);               // what is added is compared with what stands behind ` -> `
+//!         Some(())
+//!     }
+//! }
+//! ```
+//!
+//! and a line `"storms" => run_lines(rt, file, Storms, tally),` in [`run_topic`]. What a script shows is a script, and needs no function.
 #![tactic(auto)]
 
 use std::hash::RandomState;

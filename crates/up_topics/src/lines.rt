@@ -79,7 +79,7 @@ pub fn compare_answer(
 }
 
 /// How many answers were right, and how many lines were not.
-#[derive(Clone, Copy, Debug)]
+#[derive(Clone, Copy)]
 pub struct Tally {
     pub passed: u64,
     pub failed: u64,
