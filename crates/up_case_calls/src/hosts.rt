@@ -9,7 +9,7 @@ use crate::talks::talk_turn;
 use std::alloc::Global;
 use std::hash::RandomState;
 use up_case_logs::add_position;
-use up_case_texts::{add_calls, add_fetch, add_load, answers_of, ask_peer, ask_peers};
+use up_case_texts::{add_calls, add_fetch, add_load, answers_of, ask_peer};
 use up_disk::{Disk, Disks, MemDisk};
 use up_ends::{FixedVerifier, Verdict};
 use up_host::{Event, Host, TreePeer};
@@ -69,31 +69,12 @@ impl Hosts {
 
 impl Topic for Hosts {
     /// `host NAME OPERATOR OWNERS PLACE:CALL,CALL ..`: a host over empty disks, of which the calls of a word fail at its place. `again NAME
-    /// OPERATOR OWNERS`: a host over the disks that the host of this name hands back. `disks NAME`: the sizes of these. `list ANSWERS
-    /// QUESTION ..`: what a peer with these answers was asked, with its answers, and its count. `refuses QUESTION ..`: the same of a peer
-    /// that refuses.
+    /// OPERATOR OWNERS`: a host over the disks that the host of this name hands back. `disks NAME`: the sizes of these.
     fn turn(&mut self, alloc: Global, line: &str, answer: &mut Answer) -> Option<()> {
         let mut words = Words::new(line);
         let keyword = words.word()?;
-        match keyword {
-            "peers" => self.with_line(alloc, None, words, answer),
-            "list" => {
-                let mut peer = ListPeer::new(alloc, answers_of(alloc, words.word()?)?);
-                ask_peer(alloc, &mut peer, words)?;
-                add_calls(peer.calls(), peer.faults(), answer);
-                Some(())
-            }
-            "refuses" => {
-                let mut peer = RefusingPeer::new(alloc);
-                ask_peer(alloc, &mut peer, words)?;
-                add_calls(peer.calls(), peer.faults(), answer);
-                Some(())
-            }
-            _ => {
-                let name = words.word()?;
-                self.named_line(alloc, keyword, name, words, answer)
-            }
-        }
+        let name = words.word()?;
+        self.named_line(alloc, keyword, name, words, answer)
     }
 }
 
@@ -128,7 +109,7 @@ impl Hosts {
                 add_calls(peer.calls(), peer.faults(), answer);
                 Some(())
             }
-            "with" => self.with_line(alloc, Some(name), words, answer),
+            "with" => self.with_line(alloc, name, words, answer),
             _ => {
                 let place = self.place(name)?;
                 host_turn(alloc, &mut self.named[place].host, keyword, words, answer)
@@ -158,13 +139,13 @@ impl Hosts {
         Some(TreePeer::new(alloc, self.take(name)?, asker))
     }
 
-    // `peers PEER .. : QUESTION; ..`: what a list of peers gives to each question, and the sum of their counts as it is closed. `with NAME
-    // PEER .. : ASK; ..`: what the host of this name is asked that has them. A peer is `OWNERS/ADDRESS/KIND`: the owners whose trees it has,
-    // the address whose blocks it has, and answers, `refuses`, or `host:NAME:ASKER` for the host of this name, asked as a user.
+    // `with NAME PEER .. : ASK; ..`: what the host of this name is asked that has these peers, and the sum of their counts as they are
+    // closed. A peer is `OWNERS/ADDRESS/KIND`: the owners whose trees it has, the address whose blocks it has, and answers, `refuses`, or
+    // `host:NAME:ASKER` for the host of this name, asked as a user.
     fn with_line(
         &mut self,
         alloc: Global,
-        name: Option<&str>,
+        name: &str,
         words: Words<'_>,
         answer: &mut Answer,
     ) -> Option<()> {
@@ -191,30 +172,27 @@ impl Hosts {
         Some(())
     }
 
-    // Asks peers, or the host of a name that has them, one line after the other.
+    // Asks the host of a name that has these peers, one line after the other.
     fn ask_all<L: Loader>(
         &mut self,
         alloc: Global,
-        name: Option<&str>,
+        name: &str,
         peers: &mut L,
         asks: &str,
         answer: &mut Answer,
     ) -> Option<()> {
         for line in asks.split("; ") {
-            let words = Words::new(line);
-            match name {
-                Some(name) => {
-                    if !answer.is_empty() {
-                        answer.word("|");
-                    }
-                    let place = self.place(name)?;
-                    ask(alloc, &mut self.named[place].host, peers, words, answer)?;
-                }
-                None => {
-                    answer.part();
-                    ask_peers(alloc, peers, words, answer)?;
-                }
+            if !answer.is_empty() {
+                answer.word("|");
             }
+            let place = self.place(name)?;
+            ask(
+                alloc,
+                &mut self.named[place].host,
+                peers,
+                Words::new(line),
+                answer,
+            )?;
         }
         Some(())
     }

@@ -1,4 +1,5 @@
 //! Entries and records: an entry that is handed in, shown, written and put by a record, and bytes that are read.
+use crate::shown::{add_record, blocks_of};
 use std::alloc::Global;
 use up_bytes::{FieldFault, Reader, Writer};
 use up_entry::{
@@ -9,10 +10,7 @@ use up_entry::{
 use up_lists::Items;
 use up_names::User;
 use up_refs::Reference;
-use up_topics::{
-    Answer, Topic, Words, add_blocks, add_endpoint, add_entry, add_record, add_reply, blocks_of,
-    user_of,
-};
+use up_topics::{Answer, Topic, Words, add_blocks, add_endpoint, add_entry, add_reply, user_of};
 use up_wire::Reply;
 
 /// How many bytes of the file each block has, the most that a block may have.

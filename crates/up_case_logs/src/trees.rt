@@ -2,6 +2,7 @@
 ghost use Rattle.std.specs.Prelude.{◌≡◌, IfSome};
 
 use crate::services::{add_outcome, add_position};
+use crate::shown::add_record;
 use crate::watched::Watched;
 use std::alloc::Global;
 use up_access::{AccessText, print_access};
@@ -11,7 +12,7 @@ use up_list::first_link;
 use up_lists::Items;
 use up_names::Path;
 use up_nodes::fits_is_told_by_rules;
-use up_topics::{Answer, Words, add_members, add_record};
+use up_topics::{Answer, Words, add_members};
 use up_tree::{Node, TreeState};
 
 /// Does one command of a tree, or answers `false` where it is none.

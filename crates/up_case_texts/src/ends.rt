@@ -165,22 +165,6 @@ fn verdicts_line(alloc: Global, mut words: Words<'_>, answer: &mut Answer) -> Op
     Some(())
 }
 
-/// A source in memory of these bytes, whose reads give at most so many, or all for 0, and of which these calls fail.
-pub fn source_in_pieces(
-    alloc: Global,
-    bytes: &[u8],
-    size: u64,
-    fails: Items<u64>,
-) -> Option<MemSource> {
-    let mut pieces = Items::new(alloc);
-    if size > 0 {
-        for _ in 0..=bytes.len() as u64 / size {
-            pieces.push(size).ok()?;
-        }
-    }
-    Some(MemSource::new(bytes.to_vec(alloc).ok()?, pieces, fails))
-}
-
 /// A verdict, `yes` or `no`, or, inside, `None` for a verifier that fails.
 pub fn verdict_of(word: &str) -> Option<Option<Verdict>> {
     match word {

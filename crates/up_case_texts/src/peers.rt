@@ -1,11 +1,63 @@
-//! Peers in memory, what is asked of them, and what they keep.
+//! Peers in memory, what is asked of them, and what they keep. A line stands alone.
 use std::alloc::Global;
 use up_entry::Fetch;
 use up_lists::Items;
-use up_peer::{Loader, Peer, PeerAnswer, PeerCall, PeerQuestion};
+use up_peer::{ListPeer, Loader, Peer, PeerAnswer, PeerCall, PeerQuestion, Peers, RefusingPeer};
 use up_policy::LoadAnswer;
 use up_refs::Reference;
-use up_topics::{Answer, Words, add_members, bytes_of};
+use up_topics::{Answer, Topic, Words, add_members, bytes_of, users_of};
+
+/// Lines about peers. They keep nothing.
+#[derive(Clone, Copy)]
+pub struct PeerLines;
+
+impl Topic for PeerLines {
+    /// `list ANSWERS QUESTION ..`: what a peer with these answers was asked, with its answers, and its count. `refuses QUESTION ..`: the
+    /// same of a peer that refuses.
+    fn turn(&mut self, alloc: Global, line: &str, answer: &mut Answer) -> Option<()> {
+        let mut words = Words::new(line);
+        match words.word()? {
+            "peers" => return peers_line(alloc, words, answer),
+            "list" => {
+                let mut peer = ListPeer::new(alloc, answers_of(alloc, words.word()?)?);
+                ask_peer(alloc, &mut peer, words)?;
+                add_calls(peer.calls(), peer.faults(), answer);
+            }
+            "refuses" => {
+                let mut peer = RefusingPeer::new(alloc);
+                ask_peer(alloc, &mut peer, words)?;
+                add_calls(peer.calls(), peer.faults(), answer);
+            }
+            _ => return None,
+        }
+        Some(())
+    }
+}
+
+// `peers PEER .. : QUESTION; ..`: what a list of peers gives to each question, and the sum of their counts as it is closed. A peer is
+// `OWNERS/ADDRESS/KIND`: the owners whose trees it has, the address whose blocks it has, and answers, or `refuses`.
+fn peers_line(alloc: Global, words: Words<'_>, answer: &mut Answer) -> Option<()> {
+    let (told, questions) = words.rest?.split_once(" : ")?;
+    let mut peers = Peers::new(alloc);
+    for word in told.split(' ') {
+        let (owners, rest) = word.split_once('/')?;
+        let (address, kind) = rest.split_once('/')?;
+        let owners = users_of(alloc, owners)?;
+        let address = bytes_of(alloc, address)?;
+        let peer: Box<dyn Peer + Send> = match kind {
+            "refuses" => Box::new(alloc, RefusingPeer::new(alloc)).ok()?,
+            _ => Box::new(alloc, ListPeer::new(alloc, answers_of(alloc, kind)?)).ok()?,
+        };
+        peers.add(owners, address, peer).ok()?;
+    }
+    for question in questions.split("; ") {
+        answer.part();
+        ask_peers(alloc, &mut peers, Words::new(question), answer)?;
+    }
+    answer.part();
+    answer.counted("close", u64::try_from(peers.close()).unwrap_or(u64::MAX));
+    Some(())
+}
 
 /// The answers that a word has, joined by commas, `-` for none: `=TEXT`, `nothing` or `failed`.
 pub fn answers_of(alloc: Global, word: &str) -> Option<Items<PeerAnswer>> {
@@ -26,8 +78,8 @@ fn answer_of(alloc: Global, word: &str) -> Option<PeerAnswer> {
     }
 }
 
-/// `load ASKER NAME`, `fetch ADDRESS DIGITS`: what peers give.
-pub fn ask_peers<L: Loader>(
+// `load ASKER NAME`, `fetch ADDRESS DIGITS`: what peers give.
+fn ask_peers<L: Loader>(
     alloc: Global,
     peers: &mut L,
     mut words: Words<'_>,

@@ -5,7 +5,7 @@
 //! and the one it is run in where there is none.
 //!
 //! There are three kinds of topics: whole scripts of the commands (`up_case_scripts`); bytes and texts, read and written again, and what
-//! stands on disks that crash (`up_case_texts`, `up_case_logs`); and calls whose answer no script shows (`up_case_calls`).
+//! stands on disks that crash (`up_case_texts`, `up_case_logs`); and calls whose answer no script shows (`up_case_files`, `up_case_calls`).
 //!
 //! A further topic `storms` is a file `data/storms.cases`, whose head says what its lines are, and a function that answers a line:
 //!
@@ -29,11 +29,12 @@ use std::random::RandomSource;
 use std::rt::{Env, Files};
 use std::{env, fs, io};
 use up_case_calls::{Hosts, Serves, Worlds};
-use up_case_logs::{Crashes, Logs, Moves, Records};
+use up_case_files::{ClientLines, TerminalLines};
+use up_case_logs::{Crashes, Fields, Logs, Moves, Records};
 use up_case_scripts::{Command, run_scripts};
 use up_case_texts::{
-    ClientLines, Ends, Fields, Messages, Names, Patterns, References, Replies, Requests, Rights,
-    Signing, Streams, TerminalLines, Texts,
+    Ends, Messages, Names, Patterns, PeerLines, References, Replies, Requests, Rights, Signing,
+    Streams, Texts,
 };
 use up_topics::{File, Tally, run_lines};
 
@@ -94,12 +95,13 @@ fn run_topic<R: AllocGlobal + Print>(
         "scripts" => run_scripts(rt, file, Command::Can, random, tally),
         "sessions" => run_scripts(rt, file, Command::Script, random, tally),
         "client" => run_lines(rt, file, ClientLines::new(rt.alloc()), tally),
-        "hosts" | "peers" => run_lines(rt, file, Hosts::new(rt.alloc(), random), tally),
+        "hosts" => run_lines(rt, file, Hosts::new(rt.alloc(), random), tally),
         "rights" => run_lines(rt, file, Rights::new(random), tally),
         "serves" => run_lines(rt, file, Serves::new(random), tally),
         "terminal" => run_lines(rt, file, TerminalLines::new(rt.alloc()), tally),
         "worlds" => run_lines(rt, file, Worlds::new(random), tally),
         "ends" => run_lines(rt, file, Ends, tally),
+        "peers" => run_lines(rt, file, PeerLines, tally),
         "signing" => run_lines(rt, file, Signing, tally),
         _ => run_texts(rt, file, tally),
     }

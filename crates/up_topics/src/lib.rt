@@ -13,6 +13,6 @@ pub use answer::Answer;
 pub use lines::{Case, File, Tally, Topic, case_of, compare, compare_answer, run_lines};
 pub use shown::{
     add_blocks, add_endpoint, add_endpoints, add_entry, add_item, add_known, add_members,
-    add_record, add_reply, blocks_of, endpoint_of,
+    add_reply, endpoint_of,
 };
 pub use words::{Words, bytes_of, numbers_of, user_of, users_of};

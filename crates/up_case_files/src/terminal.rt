@@ -1,10 +1,9 @@
 //! Sessions at the terminal, over a table of requests with their replies. What a session stands among comes first, and then it is run, as
 //! often as lines say so.
 use crate::client::add_row_line;
-use crate::ends::source_in_pieces;
 use std::alloc::Global;
 use up_client::TableAsk;
-use up_ends::MemSink;
+use up_ends::{MemSink, MemSource};
 use up_lists::Items;
 use up_terminal::client_run;
 use up_topics::{Answer, Topic, Words, bytes_of, numbers_of};
@@ -142,4 +141,20 @@ fn one_fail(alloc: Global, kind: &str, call: u64) -> Option<Fails> {
     };
     kept.push(call).ok()?;
     Some(fails)
+}
+
+/// A source in memory of these bytes, whose reads give at most so many, or all for 0, and of which these calls fail.
+pub fn source_in_pieces(
+    alloc: Global,
+    bytes: &[u8],
+    size: u64,
+    fails: Items<u64>,
+) -> Option<MemSource> {
+    let mut pieces = Items::new(alloc);
+    if size > 0 {
+        for _ in 0..=bytes.len() as u64 / size {
+            pieces.push(size).ok()?;
+        }
+    }
+    Some(MemSource::new(bytes.to_vec(alloc).ok()?, pieces, fails))
 }
