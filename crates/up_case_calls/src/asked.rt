@@ -163,8 +163,8 @@ fn whole_block(alloc: Global, location: Location, size: u64) -> Block {
     }
 }
 
-/// The request to put a file whose bytes are one block at an address, or none, by the words `PATH TIME SEQ ADDRESS BYTES`; `-` is the host's own
-/// store.
+/// The request to put a file whose bytes are one block at an address, or none, by the words `PATH TIME SEQ ADDRESS BYTES`; `-` is the
+/// host's own store.
 pub fn remote_request(alloc: Global, user: &User, mut words: Words<'_>) -> Option<Request> {
     let path = words.bytes(alloc)?;
     let time = words.int()?;

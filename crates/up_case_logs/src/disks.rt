@@ -30,14 +30,12 @@ pub fn disk_turn(
         "cut" => {
             let size = words.last_number()?;
             let is_within = size <= disk.size();
-            add_outcome(
-                if is_within {
-                    disk.cut(size)
-                } else {
-                    Err(Failed)
-                },
-                answer,
-            );
+            let outcome = if is_within {
+                disk.cut(size)
+            } else {
+                Err(Failed)
+            };
+            add_outcome(outcome, answer);
             Some(())
         }
         "sync" => {
@@ -49,27 +47,38 @@ pub fn disk_turn(
             add_content(alloc, disk, answer)
         }
         "raw" => raw_line(alloc, disk, words, answer),
-        "fail" | "crash" | "image" | "note" | "watch" => begin_line(
-            alloc, disk, keyword, words, answer,
-        ),
-        "kept" | "noted" => {
-            for kept in &disk.noted {
-                add_image(alloc, kept.image(0).ok()?, keyword, words, answer)?;
-            }
-            Some(())
+        "fail" | "crash" | "image" | "note" | "watch" => {
+            begin_line(alloc, disk, keyword, words, answer)
         }
-        "images" | "logs" | "stores" | "keylogs" | "trees" => {
-            let count = if keyword == "images" { 9 } else { 8 };
-            for choice in 0..count {
-                add_image(alloc, disk.disk.image(choice).ok()?, keyword, words, answer)?;
-            }
-            Some(())
+        "kept" | "noted" | "images" | "logs" | "stores" | "keylogs" | "trees" => {
+            images_line(alloc, disk, keyword, words, answer)
         }
         _ => {
             words.end()?;
             count_line(alloc, disk, keyword, answer)
         }
     }
+}
+
+// What each image of the disk has; of `kept` and `noted` those of the moment that was noted.
+fn images_line(
+    alloc: Global,
+    disk: &Watched,
+    keyword: &str,
+    words: Words<'_>,
+    answer: &mut Answer,
+) -> Option<()> {
+    if keyword == "kept" || keyword == "noted" {
+        for kept in &disk.noted {
+            add_image(alloc, kept.image(0).ok()?, keyword, words, answer)?;
+        }
+        return Some(());
+    }
+    let count = if keyword == "images" { 9 } else { 8 };
+    for choice in 0..count {
+        add_image(alloc, disk.disk.image(choice).ok()?, keyword, words, answer)?;
+    }
+    Some(())
 }
 
 // `write P BYTES`, where the place lies within the disk.
@@ -129,7 +138,8 @@ fn raw_line(
 }
 
 // `fail N M`: it is an empty disk of which the calls N to N + M - 1 fail. `crash N`: it is the image N from now on. `note N`: the images
-// are kept as they are before call N; `image N`: it is the image N of these from now on. `watch`: from now on it is counted how often each byte is read.
+// are kept as they are before call N; `image N`: it is the image N of these from now on. `watch`: from now on it is counted how often
+// each byte is read.
 fn begin_line(
     alloc: Global,
     disk: &mut Watched,

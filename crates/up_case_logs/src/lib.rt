@@ -1,5 +1,5 @@
-//! Stored cases of words and fields, entries and records, and of a disk in memory, and a journal, a store, a key server's log or a tree on it: calls that
-//! fail, crashes, and what is then opened.
+//! Stored cases of words and fields, entries and records, and of a disk in memory, and a journal, a store, a key server's log or a tree
+//! on it: calls that fail, crashes, and what is then opened.
 //!
 //! This crate promises nothing: the program `up_cases` runs on it.
 #![tactic(auto)]

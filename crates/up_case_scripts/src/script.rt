@@ -99,11 +99,11 @@ impl<'a> Script<'a> {
         Some(())
     }
 
-    // The same of a line about what stands around. `command WORDS`: the words of the command. `limits R D L`: the limits of each host's logs.
-    // `pieces N`, `source N` and `sink N`: how much the source gives next, and which calls of the ends fail. `clock N`: the clock's next
-    // moment; `clock N COUNT` so many times; the last one stands. `nonce HEX`: the next nonce. `disk PLACE CALL`: a call of a disk that
-    // fails, both from 0; `note PLACE CALL`: before this call its images are kept. `peer OWNER ANSWERS`: a peer that has the owner's tree, with the answers
-    // that it gives in order.
+    // The same of a line about what stands around. `command WORDS`: the words of the command. `limits R D L`: the limits of each
+    // host's logs. `pieces N`, `source N` and `sink N`: how much the source gives next, and which calls of the ends fail. `clock N`: the
+    // clock's next moment; `clock N COUNT` so many times; the last one stands. `nonce HEX`: the next nonce. `disk PLACE CALL`: a call of
+    // a disk that fails, both from 0; `note PLACE CALL`: before this call its images are kept. `peer OWNER ANSWERS`: a peer that has the
+    // owner's tree, with the answers that it gives in order.
     fn set(&mut self, alloc: Global, keyword: &str, mut words: Words<'a>) -> Option<()> {
         match keyword {
             "command" => {

@@ -9,10 +9,11 @@ use Rattle.up_lists.specs.Counts.{HasCause, StaysUnless}
 use Rattle.up_host.specs.Alone.{HostState}
 use Rattle.up_keys.specs.Records.{record_in}
 use Rattle.up_names.specs.Texts.{UserName}
-use Rattle.up_sessions.specs.Signing.{Challenges, IsJudged, JudgesBy, Signed, SignsOn, is_open, signed_on, signing_of}
+use Rattle.up_sessions.specs.Signing.{Challenges, IsJudged, JudgesBy, Signed, SignsOn, is_open, signed_on}
 use Rattle.up_sessions.specs.Worlds.{Hosts}
 use Rattle.up_sessions.specs.declared.fault.LineFault.TheVariants as line
 use Rattle.up_sign.specs.SigningOn.{Signing, message_of}
+use Rattle.up_talk.specs.Challenges.{signing_of}
 use Rattle.up_wire.specs.declared.keys.KeyRecord.{KeyRecord}
 
 -- a sign-on was begun for a record's user

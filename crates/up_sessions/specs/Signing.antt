@@ -11,16 +11,13 @@ use Rattle.up_names.specs.Texts.{UserName}
 use Rattle.up_sessions.specs.Worlds.{Hosts, with_session}
 use Rattle.up_sessions.specs.declared.fault.LineFault.{LineFault}
 use Rattle.up_sessions.specs.declared.fault.LineFault.TheVariants as fault
-use Rattle.up_sign.specs.SigningOn.{Signing, judged_of, message_of}
+use Rattle.up_sign.specs.SigningOn.{Signing, judged_of}
+use Rattle.up_talk.specs.Challenges.{signing_of}
 use Rattle.up_wire.specs.declared.keys.KeyRecord.{KeyRecord}
 
 -- what came of a sign-on: who has signed on, or nobody, or why that was not found out
 abbrev pub Signed : Type 0
 Signed = Result (Option Signing) LineFault
-
--- what the user of a record has to sign at a host with this name, for a challenge
-abbrev pub signing_of : List ℕ → KeyRecord → List ℕ → Signing
-signing_of host card challenge = record { user = card.user; key = card.key; message = message_of host card.user challenge }
 
 -- The verifier's Yes makes a session, and its No makes none. It may have failed, and on want of memory nobody was asked.
 abbrev pub IsJudged : {V : Type 0} → verifier.Ghosts V → Signing → List ℕ → V → Signed → V → Type 0
