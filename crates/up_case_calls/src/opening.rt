@@ -121,5 +121,6 @@ fn add_owner(alloc: Global, owners: &mut Items<User>, name: &str) -> Option<()>
     if owners.as_slice().contains(&owner) {
         return None;
     }
-    owners.push(owner).ok()
+    owners.push(owner).ok()?;
+    Some(())
 }
