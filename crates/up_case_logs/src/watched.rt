@@ -44,7 +44,9 @@ impl Watched {
     }
 
     // Counts a call that is about to come. Where there is no memory, not all images are kept.
-    fn count(&mut self) {
+    fn count(&mut self)
+        ensures { self.new.disk ≡ self.old.disk }
+    {
         if self.noted_call == Some(self.calls) {
             let _ = keep_images(&mut self.noted, &self.disk);
         }
