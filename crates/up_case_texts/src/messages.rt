@@ -27,10 +27,10 @@ impl Topic for Messages {
             "client" => client_line(alloc, &bytes, answer),
             "server" => server_line(alloc, &bytes, answer),
             "known" => known_line(alloc, &bytes, answer),
-            _ => {
-                let kind = keyword.strip_prefix("fronts-")?;
-                fronts_line(alloc, kind, bytes.as_slice(), answer);
+            "fronts-client" | "fronts-server" | "fronts-known" => {
+                fronts_line(alloc, keyword, bytes.as_slice(), answer);
             }
+            _ => return None,
         }
         Some(())
     }
@@ -95,12 +95,12 @@ fn add_again(bytes: &Bytes, size: u64, again: Result<Bytes, AllocError>, answer:
 }
 
 // How many proper fronts these bytes have, and `short` where each of them is short; else the length of the first that is not.
-fn fronts_line(alloc: Global, kind: &str, bytes: &[u8], answer: &mut Answer) {
+fn fronts_line(alloc: Global, keyword: &str, bytes: &[u8], answer: &mut Answer) {
     for end in 0..bytes.len() {
         let front = &bytes[..end];
-        let fault = match kind {
-            "client" => read_client(alloc, front).err(),
-            "server" => read_server(alloc, front).err(),
+        let fault = match keyword {
+            "fronts-client" => read_client(alloc, front).err(),
+            "fronts-server" => read_server(alloc, front).err(),
             _ => read_key_record(alloc, front).err(),
         };
         if fault != Some(FieldFault::Short) {
