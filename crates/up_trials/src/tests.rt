@@ -6,4 +6,5 @@ mod folder;
 mod machine;
 mod server;
 mod sockets;
+mod storm;
 mod streams;

@@ -1,0 +1,184 @@
+//! The logs of a storm are read, once its sessions have ended.
+ghost use Rattle.std.specs.Prelude.{◌≡◌, ◌++◌, codes, decimal, length, IfOk, OnOk};
+ghost use Rattle.up_entry.specs.declared.records.Rec.TheVariants as rec;
+ghost use Rattle.up_names.specs.Texts.{Text};
+ghost use Rattle.up_replay.specs.Trees.{tree_of};
+ghost use Rattle.up_storm.specs.Logs.{IsLogRead, ReadsLog, stood_before};
+ghost use Rattle.up_storm.specs.Telling.{record_words, records_text};
+ghost use Rattle.up_text.specs.Lines.{spaced};
+ghost use Rattle.up_command.specs.Printed.{ended};
+
+use std::alloc::{AllocError, Global};
+use up_bytes::Bytes;
+use up_cell::Job;
+use up_command::{say, say_count};
+use up_disk::Disk;
+use up_entry::{Entry, Rec};
+use up_lists::Items;
+use up_names::Path;
+use up_text::{push_word, reply_lines};
+use up_tree::TreeState;
+use up_wire::{Done, Reply};
+
+/// What is printed of a log: how many records it has, how many items the tree that it gives, and its records, where all is printed.
+#[derive(Drop)]
+pub struct LogRead {
+    pub records: u64,
+    pub rows: u64,
+    pub text: Bytes,
+}
+
+/// Reads a tree's log.
+#[derive(Drop)]
+pub(crate) struct ReadLog {
+    pub(crate) alloc: Global,
+    pub(crate) full: bool,
+    pub(crate) read: Result<LogRead, AllocError>,
+}
+
+impl<D: Disk> Job<TreeState<D>> for ReadLog {
+    ghost can = { λ job state. Unit {0} };
+
+    ghost did = { λ job old after new. ReadsLog job.full old new after.read };
+
+    fn run(&mut self, state: &mut TreeState<D>) {
+        self.read = read_log(self.alloc, state, self.full);
+    }
+}
+
+// What is printed of a log.
+fn read_log<D: Disk>(alloc: Global, state: &TreeState<D>, full: bool) -> Result<LogRead, AllocError>
+    ensures { IfOk result (IsLogRead full state.now.log) }
+{
+    let mut text = Vec::new(alloc);
+    if full {
+        say_records(alloc, &mut text, state)?;
+    }
+    Ok(LogRead {
+        records: state.position(),
+        rows: rows_of(state),
+        text: Bytes::from_vec(text),
+    })
+}
+
+// Adds all records of a log, each with its position.
+#[tactic(auto, using(crate::proofs::Saying::records_next, crate::proofs::Saying::records_all))]
+fn say_records<D: Disk>(
+    alloc: Global,
+    out: &mut Vec<u8>,
+    state: &TreeState<D>,
+) -> Result<(), AllocError>
+    ensures { OnOk result (out.new.items ≡ out.old.items ++ records_text 0 state.now.log) }
+{
+    for n in 0..state.position() {
+        let Some(rec) = state.rec_at(n + 1) else {
+            unreachable!()
+        };
+        say_record(alloc, out, n + 1, rec)?;
+    }
+    Ok(())
+}
+
+// Adds a record with its position.
+fn say_record(alloc: Global, out: &mut Vec<u8>, n: u64, rec: &Rec) -> Result<(), AllocError>
+    ensures { OnOk result (out.new.items
+        ≡ out.old.items ++ ended (spaced (record_words n rec.now))) }
+{
+    match rec {
+        Rec::Put(entry, _) => say_put(alloc, out, n, entry),
+        Rec::Delete(path) => say_delete(out, n, path),
+        Rec::Snap(time) => say_snap(out, n, *time),
+    }
+}
+
+// Adds `POSITION put ENTRY`. An entry is told as in the reply to a Lookup, behind its keyword.
+fn say_put(alloc: Global, out: &mut Vec<u8>, n: u64, entry: &Entry) -> Result<(), AllocError>
+    ensures { OnOk result ((text : Text) → out.new.items
+        ≡ out.old.items ++ ended (spaced (record_words n (rec.Put entry.now text)))) }
+{
+    let lines = entry_lines(alloc, entry)?;
+    let Some(line) = lines.get(0) else {
+        unreachable!()
+    };
+    let Some(words) = line.as_slice().strip_prefix(b"entry") else {
+        unreachable!()
+    };
+    push_place(out, n)?;
+    out.extend_from_slice(b"put")?;
+    say(out, words, b"")
+}
+
+// The lines of the reply that has an entry.
+fn entry_lines(alloc: Global, entry: &Entry) -> Result<Items<Bytes>, AllocError> {
+    let reply = Reply::Ok(Done::Entry(entry.clone()?));
+    let lines = reply_lines(alloc, &reply);
+    drop(reply);
+    lines
+}
+
+// Adds `POSITION delete PATH`.
+fn say_delete(out: &mut Vec<u8>, n: u64, path: &Path) -> Result<(), AllocError>
+    ensures { OnOk result (out.new.items
+        ≡ out.old.items ++ ended (spaced (record_words n (rec.Delete path.now)))) }
+{
+    push_place(out, n)?;
+    out.extend_from_slice(b"delete ")?;
+    push_word(out, path.as_str().as_bytes())?;
+    out.push(b'\n')?;
+    Ok(())
+}
+
+// Adds `POSITION snap TIME`.
+fn say_snap(out: &mut Vec<u8>, n: u64, time: u64) -> Result<(), AllocError>
+    ensures { OnOk result (out.new.items
+        ≡ out.old.items ++ ended (spaced (record_words n (rec.Snap time)))) }
+{
+    push_place(out, n)?;
+    say_count(out, b"snap ", time)
+}
+
+// Adds a position and a space.
+fn push_place(out: &mut Vec<u8>, n: u64) -> Result<(), AllocError>
+    ensures { OnOk result (out.new.items ≡ out.old.items ++ (decimal n ++ codes " ")) }
+{
+    let digits = n.to_string(*out.allocator())?;
+    out.extend_from_slice(digits.as_bytes())?;
+    out.push(b' ')?;
+    Ok(())
+}
+
+// How many items the tree has that a log gives.
+fn rows_of<D: Disk>(state: &TreeState<D>) -> u64
+    ensures { result ≡ length (tree_of state.now.log) }
+{
+    let mut rows: u64 = 0;
+    for n in 0..state.position() {
+        rows = rows_after(state, n + 1, rows);
+    }
+    rows
+}
+
+// How many items there are after record `n`, where so many are before it.
+fn rows_after<D: Disk>(state: &TreeState<D>, n: u64, rows: u64) -> u64 {
+    match state.rec_at(n) {
+        Some(Rec::Put(_, _)) => {
+            if stood_before(state, n) {
+                rows
+            } else {
+                rows + 1
+            }
+        }
+        Some(Rec::Delete(_)) => rows - 1,
+        _ => rows,
+    }
+}
+
+// Whether something stood, before record `n`, at the path that it changes: the last change before it was a Put.
+fn stood_before<D: Disk>(state: &TreeState<D>, n: u64) -> bool
+    ensures { result ≡ stood_before state.now.log n }
+{
+    match state.change_before(n) {
+        Some(m) => matches!(state.rec_at(m), Some(Rec::Put(_, _))),
+        None => false,
+    }
+}
