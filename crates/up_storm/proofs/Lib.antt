@@ -3,6 +3,7 @@ pub mod Asking
 pub mod Running
 pub mod Beginning
 pub mod Saying
+pub mod Rows
 pub mod OpeningLemmas
 pub mod PreparingLemmas
 pub mod ReadingLemmas

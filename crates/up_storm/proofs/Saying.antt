@@ -3,12 +3,19 @@ use Rattle.std.proofs.Common.{◌≡◌, ℕ, zero, suc, ◌+◌, ◌*◌, ◌<�
 use Rattle.std.specs.Prelude.{codes, decimal}
 use Rattle.std.specs.List.{AllByRecursion}
 use Rattle.up_command.specs.Printed.{ended}
+use Rattle.up_entry.specs.declared.entries.Entry.{Entry}
 use Rattle.up_entry.specs.declared.records.Rec.{Rec}
+use Rattle.up_entry.specs.declared.records.Rec.TheVariants.{Put}
 use Rattle.up_names.specs.Texts.{Text}
 use Rattle.up_storm.specs.Telling.{IsFew, all_counted, both_counted, none_counted, record_words, records_text, sessions_text, total}
 use Rattle.up_storm.specs.declared.session.Said.{Said}
 use Rattle.up_storm.specs.declared.tally.Tally.{Tally}
-use Rattle.up_text.specs.Lines.{spaced}
+use Rattle.up_replay.specs.Changes.{record_at}
+use Rattle.up_text.specs.Entries.{entry_words}
+use Rattle.up_text.specs.Lines.{behind_spaces, spaced}
+use Rattle.up_text.specs.Replies.{done_words, further_words, reply_lines, reply_words}
+use Rattle.up_wire.specs.declared.replies.Done.TheVariants as done
+use Rattle.up_wire.specs.declared.replies.Reply.TheVariants as reply
 
 some_is : {X : Type 0} (x y : X) → Some x ≡ Some y → x ≡ y
 some_is x y h = cc
@@ -26,14 +33,42 @@ pub drop_end : {X : Type 0} (xs : List X) → drop (length xs) xs ≡ []
 drop_end [] = refl
 drop_end (x ∷ xs) = drop_end xs
 
+-- the record behind the first n
+record_found : (log : List Rec) (n : ℕ) (rec : Rec) → record_at log (n + 1) ≡ Some rec → slice_get log n ≡ Some rec
+record_found log n rec is = let e : n + 1 ≡ suc n = omega arith in sym (ap (record_at log) e) ∙ is
+
+get_there : {X : Type 0} (xs : List X) (n : ℕ) → n < length xs → slice_get xs n ≡ None → ⊥
+get_there [] n less h = absurd (omega (arith, less))
+get_there (x ∷ xs) zero less h = none_some x (sym h)
+get_there (x ∷ xs) (suc n) less h = get_there xs n (omega (arith, less)) h
+
+pub record_there : (log : List Rec) (n : ℕ) → n < length log → None ≡ record_at log (n + 1) → ⊥
+record_there log n less h = let e : n + 1 ≡ suc n = omega arith in get_there log n less (sym (ap (record_at log) e) ∙ sym h)
+
 -- one more record was said
-pub records_next : (log : List Rec) (n : ℕ) (rec : Rec) (before after whole : Text) → slice_get log n ≡ Some rec
+pub records_next : (log : List Rec) (n : ℕ) (rec : Rec) (before after whole : Text) → record_at log (n + 1) ≡ Some rec
     → after ≡ before ++ ended (spaced (record_words (n + 1) rec)) → before ++ records_text n (drop n log) ≡ whole → after ++ records_text (n + 1) (drop (n + 1) log) ≡ whole
 records_next log n rec before after whole at one h =
     ap (λ (t : Text). t ++ records_text (n + 1) (drop (n + 1) log)) one
     ∙ append_assoc before (ended (spaced (record_words (n + 1) rec))) (records_text (n + 1) (drop (n + 1) log))
-    ∙ ap (λ (rest : List Rec). before ++ records_text n rest) (sym (drop_next log n rec at))
+    ∙ ap (λ (rest : List Rec). before ++ records_text n rest) (sym (drop_next log n rec (record_found log n rec at)))
     ∙ h
+
+-- the reply that has an entry has one line
+pub entry_told : (entry : Entry) → reply_lines (reply.Ok (done.Entry entry)) ≡ (codes "entry" ++ behind_spaces (entry_words entry)) ∷ []
+unfolding reply_lines reply_words done_words further_words
+entry_told entry = refl
+
+-- what a Put adds: its position, the keyword, and the entry's words
+pub put_said : (old : Text) (n : ℕ) (entry : Entry) (text : Text)
+    → ((old ++ (decimal n ++ codes " ")) ++ codes "put") ++ ended (behind_spaces (entry_words entry) ++ []) ≡ old ++ ended (spaced (record_words n (Put entry text)))
+put_said old n entry text =
+    let words : Text = behind_spaces (entry_words entry) in
+    append_assoc (old ++ (decimal n ++ codes " ")) (codes "put") (ended (words ++ []))
+    ∙ append_assoc old (decimal n ++ codes " ") (codes "put" ++ ended (words ++ []))
+    ∙ ap (λ (t : Text). old ++ t) (append_assoc (decimal n) (codes " ") (codes "put" ++ ended (words ++ []))
+    ∙ ap (λ (t : Text). decimal n ++ (codes " put" ++ ended t)) (append-nil words)
+    ∙ sym (append_assoc (decimal n) (codes " put" ++ words) (codes "\n")))
 
 pub records_all : (log : List Rec) (n : ℕ) (text whole : Text) → n ≡ length log → text ++ records_text n (drop n log) ≡ whole → text ≡ whole
 records_all log n text whole end h =

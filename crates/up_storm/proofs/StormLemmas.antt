@@ -15,6 +15,7 @@ use Rattle.up_host.specs.declared.held.Held.{Held}
 use Rattle.up_journal.specs.declared.limits.Limits.{Limits}
 use Rattle.up_names.specs.Texts.{Text, UserName}
 use Rattle.up_peer.specs.declared.loader.Loader.{Ghosts}
+use Rattle.up_shared.specs.Sharing.{AreSeats, EachPair, IsTreeSeat}
 use Rattle.up_shared.specs.declared.shared.Seats.{Seats}
 use Rattle.up_shared.specs.declared.shared.Shared.{Shared}
 use Rattle.up_shared.specs.declared.shared.TreeCell.{TreeCell}
@@ -23,7 +24,7 @@ use Rattle.up_storm.specs.Preparing.{IsPrepared, storm_limits}
 use Rattle.up_storm.specs.Storms.{HasTold, IsStorm, Means}
 use Rattle.up_tree.specs.States.{State}
 use Rattle.up_storm.specs.Logs.{IsLogRead, full_of, logged, summary_of, told_text}
-use Rattle.up_storm.specs.Seating.{AreBegun, AreJoined, HasEnded}
+use Rattle.up_storm.specs.Seating.{AreBegun, AreJoined, HasEnded, HasRead}
 use Rattle.up_storm.specs.Sessions.{HasRun, Session, said_of}
 use Rattle.up_storm.specs.Telling.{IsFew, all_counted, full_text, log_text, numbers_line, records_text, sessions_text, storm_text, summary_text, tally_line, tree_line}
 use Rattle.up_storm.specs.declared.logs.LogRead.{LogRead}
@@ -133,39 +134,64 @@ told_is plan first second a b said text h k is =
 
 -- ---- both trees are there
 
-map_length : {X Y : Type 0} (f : X → Y) (xs : List X) → length (map f xs) ≡ length xs
-map_length f [] = refl
-map_length f (x ∷ xs) = ap suc (map_length f xs)
+opened_owners : {D : Type 0} (disks : disk.Ghosts D) (limits : Limits) (owners : List UserName) (given : List D) (trees : List (Held (State D))) → OpensTrees disks limits owners given trees → map owner_of trees ≡ owners
+opened_owners disks limits [] [] [] h = refl
+opened_owners disks limits (o ∷ owners) (d ∷ given) (t ∷ trees) h =
+    ap (λ (u : UserName). u ∷ map owner_of trees) h.0.owner_is ∙ ap (λ (us : List UserName). o ∷ us) (opened_owners disks limits owners given trees h.1)
+opened_owners disks limits [] [] (t ∷ trees) h = absurd h
+opened_owners disks limits [] (d ∷ given) trees h = absurd h
+opened_owners disks limits (o ∷ owners) [] trees h = absurd h
+opened_owners disks limits (o ∷ owners) (d ∷ given) [] h = absurd h
 
-opened_length : {D : Type 0} (disks : disk.Ghosts D) (limits : Limits) (owners : List UserName) (given : List D) (trees : List (Held (State D))) → OpensTrees disks limits owners given trees → length trees ≡ length owners
-opened_length disks limits [] [] [] h = refl
-opened_length disks limits (o ∷ owners) (d ∷ given) (t ∷ trees) h = ap suc (opened_length disks limits owners given trees h.1)
-opened_length disks limits [] [] (t ∷ trees) h = absurd h
-opened_length disks limits [] (d ∷ given) trees h = absurd h
-opened_length disks limits (o ∷ owners) [] trees h = absurd h
-opened_length disks limits (o ∷ owners) (d ∷ given) [] h = absurd h
+shared_owners : {D : Type 0} (trees : List (Held (State D))) (cells : List (TreeCell D)) (seats : List (TreeSeat D)) → AreShared trees cells seats → map (λ (c : TreeCell D). c.owner) cells ≡ map owner_of trees
+shared_owners [] [] [] h = refl
+shared_owners {D} (t ∷ trees) (c ∷ cells) (s ∷ seats) h =
+    ap (λ (u : UserName). u ∷ map (λ (d : TreeCell D). d.owner) cells) h.0.owner ∙ ap (λ (us : List UserName). owner_of t ∷ us) (shared_owners trees cells seats h.1)
+shared_owners [] [] (s ∷ seats) h = absurd h
+shared_owners [] (c ∷ cells) seats h = absurd h
+shared_owners (t ∷ trees) [] seats h = absurd h
+shared_owners (t ∷ trees) (c ∷ cells) [] h = absurd h
 
-shared_length : {D : Type 0} (trees : List (Held (State D))) (cells : List (TreeCell D)) (seats : List (TreeSeat D)) → AreShared trees cells seats → length cells ≡ length trees
-shared_length [] [] [] h = refl
-shared_length (t ∷ trees) (c ∷ cells) (s ∷ seats) h = ap suc (shared_length trees cells seats h.1)
-shared_length [] [] (s ∷ seats) h = absurd h
-shared_length [] (c ∷ cells) seats h = absurd h
-shared_length (t ∷ trees) [] seats h = absurd h
-shared_length (t ∷ trees) (c ∷ cells) [] h = absurd h
+seated_owners : {D : Type 0} (cells : List (TreeCell D)) (seats : List (TreeSeat D)) → EachPair IsTreeSeat cells seats → map (λ (s : TreeSeat D). s.owner) seats ≡ map (λ (c : TreeCell D). c.owner) cells
+seated_owners [] [] h = refl
+seated_owners {D} (c ∷ cells) (s ∷ seats) h =
+    ap (λ (u : UserName). u ∷ map (λ (x : TreeSeat D). x.owner) seats) h.0.owner ∙ ap (λ (us : List UserName). c.owner ∷ us) (seated_owners cells seats h.1)
+seated_owners [] (s ∷ seats) h = absurd h
+seated_owners (c ∷ cells) [] h = absurd h
 
 run_owners : {D L : Type 0} (disks : disk.Ghosts D) (loader : Ghosts L) (host : HostState D) (old : L) (calls : List (Called D)) (after : HostState D) (new : L) → IsRun disks loader host old calls after new
     → map owner_of after.trees ≡ map owner_of host.trees
 run_owners {D} disks loader host old [] after new h = ap (λ (s : HostState D). map owner_of s.trees) h.0
 run_owners disks loader host old (c ∷ calls) after new h = run_owners disks loader c.after h.0 calls after new h.2 ∙ h.1.stays.owners
 
-pub two_trees : {D L : Type 0} (disks : disk.Ghosts D) (loader : Ghosts L) (none : L) (sessions : ℕ) (host : HostState D) (shared : Shared D) (seats : Seats D)
-    → IsPrepared disks loader none sessions host → IsSharedHost host shared seats → length shared.trees.items ≡ 2
-two_trees disks loader none sessions host shared seats h k =
+pub both_trees : {D L : Type 0} (disks : disk.Ghosts D) (loader : Ghosts L) (none : L) (sessions : ℕ) (host : HostState D) (shared : Shared D) (seats : Seats D)
+    → IsPrepared disks loader none sessions host → IsSharedHost host shared seats → map (λ (c : TreeCell D). c.owner) shared.trees.items ≡ codes "a@storm.example" ∷ codes "b@storm.example" ∷ []
+both_trees disks loader none sessions host shared seats h k =
     let history = h.prepared.asked.history in
-    let same = run_owners disks loader h.opened none history.called host h.prepared.asked.after history.run in
-    shared_length host.trees shared.trees.items seats.trees.items k.trees
-    ∙ sym (map_length owner_of host.trees) ∙ ap length same ∙ map_length owner_of h.opened.trees
-    ∙ opened_length disks storm_limits (codes "a@storm.example" ∷ codes "b@storm.example" ∷ []) h.is_opened.opens.logs.of_trees h.opened.trees h.is_opened.opens.logs.trees_are
+    shared_owners host.trees shared.trees.items seats.trees.items k.trees
+    ∙ run_owners disks loader h.opened none history.called host h.prepared.asked.after history.run
+    ∙ opened_owners disks storm_limits (codes "a@storm.example" ∷ codes "b@storm.example" ∷ []) h.is_opened.opens.logs.of_trees h.opened.trees h.is_opened.opens.logs.trees_are
+
+map_length : {X Y : Type 0} (f : X → Y) (xs : List X) → length (map f xs) ≡ length xs
+map_length f [] = refl
+map_length f (x ∷ xs) = ap suc (map_length f xs)
+
+-- so there are two
+pub two_trees : {D : Type 0} (shared : Shared D) → map (λ (c : TreeCell D). c.owner) shared.trees.items ≡ codes "a@storm.example" ∷ codes "b@storm.example" ∷ [] → length shared.trees.items ≡ 2
+two_trees {D} shared h = sym (map_length (λ (c : TreeCell D). c.owner) shared.trees.items) ∙ ap length h
+
+-- and what is told of them
+pub told_by : {D : Type 0} (plan : Plan) (shared : Shared D) (all : Seats D) (first second : LogRead) (said : List Said) (text : Text) → AreSeats shared all
+    → map (λ (c : TreeCell D). c.owner) shared.trees.items ≡ codes "a@storm.example" ∷ codes "b@storm.example" ∷ []
+    → HasRead plan.full all 0 first → HasRead plan.full all 1 second → text ≡ told_text plan first second said → HasTold plan all said text
+told_by plan shared all first second said text sits owners h k is = record {
+  owners = seated_owners shared.trees.items all.trees.items sits.trees ∙ owners;
+  first = h.log;
+  reads_first = h.is_read;
+  second = k.log;
+  reads_second = k.is_read;
+  text_is = told_is plan first second h.log k.log said text h.told k.told is;
+}
 
 pub is_storm : {D L : Type 0} (disks : disk.Ghosts D) (loader : Ghosts L) (none : L) (plan : Plan) (text : Text) (host : HostState D) (shared : Shared D) (seats all : Seats D) (said : List Said)
     → IsPrepared disks loader none plan.sessions host → IsSharedHost host shared seats → HasEnded loader none shared plan seats all said → HasTold plan all said text

@@ -1,8 +1,10 @@
 -- How a log is read for printing. This project's own.
 use Rattle.std.specs.Prelude.{◌≡◌, ℕ, ◌*◌, Bool, true, false, if◌then◌else◌, List, [], ◌++◌, length, codes, decimal, Option, Some, None, Result, IfOk}
+use Rattle.up_cell.specs.Known.{HasEvery, Known}
 use Rattle.up_command.specs.Printed.{ended}
 use Rattle.up_entry.specs.declared.records.Rec.{Rec}
 use Rattle.up_entry.specs.declared.records.Rec.TheVariants.{Delete, Put, Snap}
+use Rattle.up_lists.specs.Begins.{Begins}
 use Rattle.up_replay.specs.Changes.{change_before, record_at}
 use Rattle.up_replay.specs.Trees.{tree_of}
 use Rattle.up_names.specs.Texts.{Text}
@@ -18,6 +20,13 @@ pub record IsLogRead (full : Bool) (log : List Rec) (read : LogRead) : Type 0 wh
   pub records : read.records ≡ length log
   pub rows : read.rows ≡ length (tree_of log)
   pub text : read.text ≡ (if full then records_text 0 log else [])
+
+-- What a seat read is of a log that begins with what it had seen; where its share is whole, the records that were added are its own.
+pub record IsReadBy {F : Type 0} (full : Bool) (v : Known Rec F) (read : LogRead) : Type 0 where
+  pub log : List Rec
+  pub begins : Begins v.seen log
+  pub every : HasEvery v (length log)
+  pub told : IsLogRead full log read
 
 -- a log was read, and the tree stays
 pub record ReadsLog {D E : Type 0} (full : Bool) (old new : State D) (read : Result LogRead E) : Type 0 where

@@ -1,5 +1,6 @@
 -- The sessions of a storm begin, end, and are taken in again. This project's own.
-use Rattle.std.specs.Prelude.{◌≡◌, ℕ, ◌+◌, false, List, [], ◌∷◌, ◌++◌, length, map, slice_get, Some, Ok}
+use Rattle.std.specs.Prelude.{◌≡◌, ℕ, ◌+◌, Bool, false, List, [], ◌∷◌, ◌++◌, length, map, slice_get, Some, Ok}
+use Rattle.up_cell.specs.Known.{HasEvery}
 use Rattle.up_entry.specs.declared.records.Rec.{Rec}
 use Rattle.up_lists.specs.Begins.{Begins}
 use Rattle.up_names.specs.UserNames.{user_of}
@@ -11,8 +12,10 @@ use Rattle.up_shared.specs.declared.shared.Shared.{Shared}
 use Rattle.up_shared.specs.declared.shared.TreeSeat.{TreeSeat}
 use Rattle.up_storm.specs.Asked.{user_text}
 use Rattle.up_storm.specs.Generator.{first_number}
+use Rattle.up_storm.specs.Logs.{IsLogRead}
 use Rattle.up_storm.specs.Sessions.{HasRun, Session, said_of}
 use Rattle.up_storm.specs.Telling.{none_counted}
+use Rattle.up_storm.specs.declared.logs.LogRead.{LogRead}
 use Rattle.up_storm.specs.declared.plan.Plan.{Plan}
 use Rattle.up_storm.specs.declared.session.Said.{Said}
 
@@ -51,11 +54,20 @@ module _ {D L : Type 0} where
   AreJoined seats [] all = all ≡ seats
   AreJoined seats (w ∷ more) all = (both : Seats D) × AreBoth seats w.seats both × AreJoined both more all
 
--- The log of the tree at a place was read: it begins with what the joined seats had seen of it.
+-- The log of the tree at a place was read through the joined seats, in a turn of their own: all that the cell then had. It begins with what
+-- they had seen of it, and where they have the whole share, the records that were added to it since the host was shared are exactly
+-- their own ones.
 pub record IsRead {D : Type 0} (all : Seats D) (place : ℕ) (log : List Rec) : Type 0 where
   pub seat : TreeSeat D
   pub found : slice_get all.trees.items place ≡ Some seat
   pub begins : Begins seat.seat.seen log
+  pub every : HasEvery seat.seat (length log)
+
+-- and what is printed of it was made
+pub record HasRead {D : Type 0} (full : Bool) (all : Seats D) (place : ℕ) (read : LogRead) : Type 0 where
+  pub log : List Rec
+  pub is_read : IsRead all place log
+  pub told : IsLogRead full log read
 
 -- The sessions of a plan were begun, from the seats of the host's first caller. Each has run its requests, while the others ran theirs, and
 -- ended with no fault. Their seats were joined, and what they say is left.

@@ -1,5 +1,5 @@
 -- A whole storm: its host is prepared and shared, its sessions run at once, and what came of them is printed. This project's own.
-use Rattle.std.specs.Prelude.{◌≡◌, ℕ, List, Option}
+use Rattle.std.specs.Prelude.{◌≡◌, ℕ, List, [], ◌∷◌, map, Option, codes}
 use Rattle.up_command.specs.Statuses.{AnswersWith}
 use Rattle.up_disk.specs.declared.disk.Disk as disk
 use Rattle.up_entry.specs.declared.records.Rec.{Rec}
@@ -9,14 +9,16 @@ use Rattle.up_names.specs.Texts.{Text}
 use Rattle.up_peer.specs.declared.loader.Loader.{Ghosts}
 use Rattle.up_shared.specs.declared.shared.Seats.{Seats}
 use Rattle.up_shared.specs.declared.shared.Shared.{Shared}
+use Rattle.up_shared.specs.declared.shared.TreeSeat.{TreeSeat}
 use Rattle.up_storm.specs.Preparing.{IsPrepared}
 use Rattle.up_storm.specs.Seating.{HasEnded, IsRead}
 use Rattle.up_storm.specs.Telling.{storm_text}
 use Rattle.up_storm.specs.declared.plan.Plan.{Plan}
 use Rattle.up_storm.specs.declared.session.Said.{Said}
 
--- What was printed once the sessions had ended: the two logs were read through the joined seats.
+-- What was printed once the sessions had ended: the joined seats are at the trees of both owners, and the logs were read through them.
 pub record HasTold {D : Type 0} (plan : Plan) (all : Seats D) (said : List Said) (text : Text) : Type 0 where
+  pub owners : map (λ (place : TreeSeat D). place.owner) all.trees.items ≡ codes "a@storm.example" ∷ codes "b@storm.example" ∷ []
   pub first : List Rec
   pub reads_first : IsRead all 0 first
   pub second : List Rec

@@ -28,5 +28,5 @@ pub use generator::{Draw, Wish, drawn_of, first_number, next_number};
 pub use logs::LogRead;
 pub use plan::{MOST_REQUESTS, MOST_SESSIONS, Plan, plan_of};
 pub use session::{Said, Worker};
-pub use storm::{storm, storm_run};
+pub use storm::{storm_run, storm_within};
 pub use tally::Tally;

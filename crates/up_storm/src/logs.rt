@@ -1,15 +1,17 @@
 //! The logs of a storm are read, once its sessions have ended.
-ghost use Rattle.std.specs.Prelude.{◌≡◌, ◌++◌, codes, decimal, length, IfOk, OnOk};
+ghost use Rattle.std.specs.Prelude.{◌≡◌, ◌<◌, ◌+◌, ◌^◌, ◌++◌, ◌∷◌, [], codes, decimal, length, take, IfOk, OnOk};
 ghost use Rattle.up_entry.specs.declared.records.Rec.TheVariants as rec;
 ghost use Rattle.up_names.specs.Texts.{Text};
+ghost use Rattle.up_replay.specs.Fits.{IsLog};
 ghost use Rattle.up_replay.specs.Trees.{tree_of};
 ghost use Rattle.up_storm.specs.Logs.{IsLogRead, ReadsLog, stood_before};
 ghost use Rattle.up_storm.specs.Telling.{record_words, records_text};
-ghost use Rattle.up_text.specs.Lines.{spaced};
+ghost use Rattle.up_text.specs.Entries.{entry_words};
+ghost use Rattle.up_text.specs.Lines.{behind_spaces, spaced};
 ghost use Rattle.up_command.specs.Printed.{ended};
 
 use std::alloc::{AllocError, Global};
-use up_bytes::Bytes;
+use up_bytes::{Bytes, copy_of};
 use up_cell::Job;
 use up_command::{say, say_count};
 use up_disk::Disk;
@@ -62,7 +64,7 @@ fn read_log<D: Disk>(alloc: Global, state: &TreeState<D>, full: bool) -> Result<
 }
 
 // Adds all records of a log, each with its position.
-#[tactic(auto, using(crate::proofs::Saying::records_next, crate::proofs::Saying::records_all))]
+#[tactic(auto, using(crate::proofs::Saying::records_next, crate::proofs::Saying::records_all, crate::proofs::Saying::record_there))]
 fn say_records<D: Disk>(
     alloc: Global,
     out: &mut Vec<u8>,
@@ -91,25 +93,35 @@ fn say_record(alloc: Global, out: &mut Vec<u8>, n: u64, rec: &Rec) -> Result<(),
     }
 }
 
-// Adds `POSITION put ENTRY`. An entry is told as in the reply to a Lookup, behind its keyword.
+// Adds `POSITION put ENTRY`.
+#[tactic(auto, using(crate::proofs::Saying::put_said))]
 fn say_put(alloc: Global, out: &mut Vec<u8>, n: u64, entry: &Entry) -> Result<(), AllocError>
     ensures { OnOk result ((text : Text) → out.new.items
         ≡ out.old.items ++ ended (spaced (record_words n (rec.Put entry.now text)))) }
+{
+    let words = entry_words(alloc, entry)?;
+    push_place(out, n)?;
+    out.extend_from_slice(b"put")?;
+    say(out, words.as_slice(), b"")
+}
+
+// The words of an entry, each behind a space: those behind the keyword in the reply that has it.
+fn entry_words(alloc: Global, entry: &Entry) -> Result<Bytes, AllocError>
+    ensures { IfOk result (λ words. words ≡ behind_spaces (entry_words entry.now)) }
 {
     let lines = entry_lines(alloc, entry)?;
     let Some(line) = lines.get(0) else {
         unreachable!()
     };
-    let Some(words) = line.as_slice().strip_prefix(b"entry") else {
-        unreachable!()
-    };
-    push_place(out, n)?;
-    out.extend_from_slice(b"put")?;
-    say(out, words, b"")
+    copy_of(alloc, &line.as_slice()[5..])
 }
 
-// The lines of the reply that has an entry.
-fn entry_lines(alloc: Global, entry: &Entry) -> Result<Items<Bytes>, AllocError> {
+// The one line of the reply that has an entry.
+#[tactic(auto, using(crate::proofs::Saying::entry_told))]
+fn entry_lines(alloc: Global, entry: &Entry) -> Result<Items<Bytes>, AllocError>
+    ensures { IfOk result (λ lines.
+        lines ≡ (codes "entry" ++ behind_spaces (entry_words entry.now)) ∷ []) }
+{
     let reply = Reply::Ok(Done::Entry(entry.clone()?));
     let lines = reply_lines(alloc, &reply);
     drop(reply);
@@ -148,28 +160,37 @@ fn push_place(out: &mut Vec<u8>, n: u64) -> Result<(), AllocError>
 }
 
 // How many items the tree has that a log gives.
+#[tactic(auto, using(crate::proofs::Rows::rows_none, crate::proofs::Rows::rows_all))]
 fn rows_of<D: Disk>(state: &TreeState<D>) -> u64
     ensures { result ≡ length (tree_of state.now.log) }
 {
     let mut rows: u64 = 0;
     for n in 0..state.position() {
-        rows = rows_after(state, n + 1, rows);
+        rows = rows_after(state, n, rows);
     }
     rows
 }
 
-// How many items there are after record `n`, where so many are before it.
-fn rows_after<D: Disk>(state: &TreeState<D>, n: u64, rows: u64) -> u64 {
-    match state.rec_at(n) {
+// How many items there are after the record behind the first `n`, where so many are before it.
+#[tactic(auto, using(crate::proofs::Rows::rows_stood, crate::proofs::Rows::rows_added, crate::proofs::Rows::rows_deleted, crate::proofs::Rows::rows_some, crate::proofs::Rows::rows_kept, crate::proofs::Rows::rows_few, crate::proofs::Saying::record_there))]
+fn rows_after<D: Disk>(state: &TreeState<D>, n: u64, rows: u64) -> u64
+    requires log { IsLog state.now.owner state.now.log }
+    requires within { n < length state.now.log }
+    requires small { n + 1 < 2 ^ 64 }
+    requires rows { rows ≡ length (tree_of (take n state.now.log)) }
+    ensures { result ≡ length (tree_of (take (n + 1) state.now.log)) }
+{
+    match state.rec_at(n + 1) {
         Some(Rec::Put(_, _)) => {
-            if stood_before(state, n) {
+            if stood_before(state, n + 1) {
                 rows
             } else {
                 rows + 1
             }
         }
         Some(Rec::Delete(_)) => rows - 1,
-        _ => rows,
+        Some(Rec::Snap(_)) => rows,
+        None => unreachable!(),
     }
 }
 

@@ -1,17 +1,15 @@
 //! `upspin storm`: sessions at once over one shared host, and what came of them.
-ghost use Rattle.std.specs.Prelude.{◌≡◌, ◌≢◌, ◌<◌, ◌≤◌, List, [], ◌∷◌, None, length, map, true, IfOk, IfSome, string_bytes};
+ghost use Rattle.std.specs.Prelude.{◌≡◌, ◌≢◌, ◌<◌, ◌≤◌, ℕ, [], ◌∷◌, None, codes, length, map, slice_get, true, IfOk, IfSome, string_bytes};
 ghost use Rattle.std.specs.Io.KnownBytes.{Appends};
 ghost use Rattle.std.specs.List.{AllByRecursion};
-ghost use Rattle.up_entry.specs.declared.records.Rec.{Rec};
 ghost use Rattle.up_command.specs.Statuses.{AnswersWith, IsOneOf, code_of, usage_line};
 ghost use Rattle.up_ends.specs.Writing.{WritesPart};
 ghost use Rattle.up_cell.specs.Known.{Onward};
-ghost use Rattle.up_lists.specs.Begins.{Begins};
 ghost use Rattle.up_lists.specs.Counts.{HasCause, Rose, StaysUnless};
 ghost use Rattle.up_shared.specs.Sharing.{AreSeats};
-ghost use Rattle.up_storm.specs.Logs.{IsLogRead};
+ghost use Rattle.up_storm.specs.Logs.{IsReadBy};
 ghost use Rattle.up_storm.specs.Plans.{is_within, plan_of};
-ghost use Rattle.up_storm.specs.Seating.{HasEnded, IsRead};
+ghost use Rattle.up_storm.specs.Seating.{HasEnded, HasRead};
 ghost use Rattle.up_storm.specs.Storms.{HasTold, IsStorm, Means};
 ghost use Rattle.up_storm.specs.Telling.{IsFew};
 
@@ -96,7 +94,7 @@ fn run_plan<R: Threads + Wait + Sync, K: Sink, G: Gate + Sync>(
     ensures quiet { StaysUnless (K.faults sink.old) (K.faults sink.new) (code_of result ≡ 3) }
     ensures unwritten { code_of result ≡ 4 → sink.new ≡ sink.old }
 {
-    match storm(rt, alloc, random, plan, plan.sessions as usize, gate) {
+    match storm_within(rt, alloc, random, plan, plan.sessions as usize, gate) {
         Ok(text) => print(sink, &text),
         Err(_) => Status::OutOfMemory,
     }
@@ -117,8 +115,8 @@ fn print<K: Sink>(sink: &mut K, text: &[u8]) -> Status
 }
 
 /// The text of a storm, whose sessions run in at most so many threads. An `Err` is want of memory, also of a disk in memory.
-#[tactic(auto, using(crate::proofs::StormLemmas::two_trees, crate::proofs::StormLemmas::is_storm))]
-pub fn storm<R: Threads + Wait + Sync, G: Gate + Sync>(
+#[tactic(auto, using(crate::proofs::StormLemmas::both_trees, crate::proofs::StormLemmas::is_storm))]
+pub fn storm_within<R: Threads + Wait + Sync, G: Gate + Sync>(
     rt: &R,
     alloc: Global,
     random: RandomState,
@@ -174,7 +172,7 @@ fn end_all<R: Threads + Wait + Sync, D: Disk + Drop + Send, G: Gate + Sync>(
 }
 
 // Reads both logs, and makes the text.
-#[tactic(auto, using(crate::proofs::StormLemmas::told_is))]
+#[tactic(auto, using(crate::proofs::StormLemmas::told_by, crate::proofs::StormLemmas::two_trees, crate::proofs::ReadingLemmas::read_as_before))]
 fn tell<R: Wait, D: Disk + Drop>(
     rt: &R,
     alloc: Global,
@@ -185,7 +183,8 @@ fn tell<R: Wait, D: Disk + Drop>(
 ) -> Result<Vec<u8>, AllocError>
     requires plan { is_within plan ≡ true }
     requires sits { AreSeats shared.now seats.old }
-    requires two { length shared.now.trees.items ≡ 2 }
+    requires owners { map (λ tree. tree.owner) shared.now.trees.items
+        ≡ codes "a@storm.example" ∷ codes "b@storm.example" ∷ [] }
     requires number { length said.now ≤ 32 }
     requires few { AllByRecursion (λ one. IsFew 4096 one.tally) said.now }
     ensures { IfOk result (λ text. HasTold plan seats.old said.now text.items) }
@@ -198,7 +197,7 @@ fn tell<R: Wait, D: Disk + Drop>(
     storm_text(alloc, plan, &first, &second, said)
 }
 
-// Reads the log of the tree at a place, in a turn of its own.
+// Reads the log of the tree at a place, in a turn of its own. The seats at other trees stay.
 fn read_tree<R: Wait, D: Disk + Drop>(
     rt: &R,
     alloc: Global,
@@ -210,8 +209,9 @@ fn read_tree<R: Wait, D: Disk + Drop>(
     requires sits { AreSeats shared.now seats.old }
     requires place { place < length shared.now.trees.items }
     ensures sits { AreSeats shared.now seats.new }
-    ensures read { IfOk result (λ read. (log : List Rec) × IsRead seats.old place log
-        × IsLogRead full log read) }
+    ensures others { (i : ℕ) → i ≢ place
+        → slice_get seats.new.trees.items i ≡ slice_get seats.old.trees.items i }
+    ensures read { IfOk result (HasRead full seats.old place) }
 {
     let cell = &shared.trees[place].cell;
     read_log(rt, alloc, cell, &mut seats.trees[place].seat, full)
@@ -228,8 +228,7 @@ fn read_log<R: Wait, D: Disk + Drop>(
 ) -> Result<LogRead, AllocError>
     requires { seat.old.cell ≡ cell.now }
     ensures later { Onward seat.old seat.new }
-    ensures read { IfOk result (λ read. (log : List Rec) × Begins seat.old.seen log
-        × IsLogRead full log read) }
+    ensures read { IfOk result (IsReadBy full seat.old) }
 {
     let mut job = ReadLog {
         alloc,
