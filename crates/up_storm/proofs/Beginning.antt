@@ -8,7 +8,7 @@ use Rattle.up_shared.specs.declared.shared.Shared.{Shared}
 use Rattle.up_names.specs.Texts.{UserName}
 use Rattle.up_names.specs.UserNames.{user_of}
 use Rattle.up_shared.specs.Sharing.{AreSeats}
-use Rattle.up_shared.specs.Splits.{AreBoth, AreFirsts, AreSeconds}
+use Rattle.up_shared.specs.Splits.{AreBoth, AreFirsts, AreSeconds, SeatsAdd}
 use Rattle.up_storm.specs.Asked.{user_text}
 use Rattle.up_storm.specs.Generator.{first_number}
 use Rattle.up_storm.specs.Telling.{none_counted}
@@ -31,13 +31,14 @@ module _ {D L : Type 0} (none : L) (seed : ℕ) (start : Seats D) where
   -- what was begun is one session more
   pub begun_one : (shared : Shared D) (k : ℕ) (seats rest other : Seats D) (before after : List (Session D L)) (user : UserName)
       → after ≡ before ++ (record { seats = other; peers = none; user = user; number = first_number seed k; text = []; tally = none_counted; failed = false }) ∷ []
-      → AreFirsts seats rest → AreSeconds seats other → user_of (user_text k) ≡ Ok user → AreSeats shared other
+      → AreFirsts seats rest → AreSeconds seats other → SeatsAdd rest other seats → user_of (user_text k) ≡ Ok user → AreSeats shared other
       → HasBegun none shared seed k seats before rest after
-  begun_one shared k seats rest other before after user whole first second named sits = record {
+  begun_one shared k seats rest other before after user whole first second shares named sits = record {
     session = record { seats = other; peers = none; user = user; number = first_number seed k; text = []; tally = none_counted; failed = false };
     whole = whole;
     first = first;
     second = second;
+    shares = shares;
     begun = record { user = named; number = refl; peers = refl; text = refl; tally = refl; failed = refl };
     sits = sits;
   }
@@ -47,7 +48,7 @@ module _ {D L : Type 0} (none : L) (seed : ℕ) (start : Seats D) where
   beginning_next shared k seats rest before after h one = record {
     goes = λ more left begun. subst (λ (vs : List (Session D L)). AreBegun none seed 0 start (vs ++ more) left) (sym one.whole)
         (subst (λ (vs : List (Session D L)). AreBegun none seed 0 start vs left) (sym (append_assoc before (one.session ∷ []) more))
-        (h.goes (one.session ∷ more) left (rest, one.first, one.second, one.begun, begun)));
+        (h.goes (one.session ∷ more) left (rest, one.first, one.second, one.shares, one.begun, begun)));
   }
 
   pub beginning_all : (k : ℕ) (seats : Seats D) (so_far : List (Session D L)) → IsBeginning none seed start k seats so_far → AreBegun none seed 0 start so_far seats
@@ -76,9 +77,9 @@ module _ {D L : Type 0} (start : Seats D) (all : List (Session D L)) where
   joining_none = record { goes = λ end h. h }
 
   pub joining_next : (seats other both : Seats D) (left more : List (Session D L)) (w : Session D L) → IsJoining start all seats left → left ≡ w ∷ more
-      → other ≡ w.seats → AreBoth seats other both → IsJoining start all both more
-  joining_next seats other both left more w h is same one = record {
-    goes = λ end rest. h.goes end (subst (λ (ws : List (Session D L)). AreJoined seats ws end) (sym is) (both, subst (λ (s : Seats D). AreBoth seats s both) same one, rest));
+      → other ≡ w.seats → AreBoth seats other both → SeatsAdd seats other both → IsJoining start all both more
+  joining_next seats other both left more w h is same one shares = record {
+    goes = λ end rest. h.goes end (subst (λ (ws : List (Session D L)). AreJoined seats ws end) (sym is) (both, subst (λ (s : Seats D). AreBoth seats s both) same one, subst (λ (s : Seats D). SeatsAdd seats s both) same shares, rest));
   }
 
   pub joining_all : (seats : Seats D) (left : List (Session D L)) → IsJoining start all seats left → left ≡ [] → AreJoined start all seats

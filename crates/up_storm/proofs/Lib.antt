@@ -7,4 +7,5 @@ pub mod Rows
 pub mod OpeningLemmas
 pub mod PreparingLemmas
 pub mod ReadingLemmas
+pub mod Wholeness
 pub mod StormLemmas

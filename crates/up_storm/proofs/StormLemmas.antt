@@ -15,7 +15,9 @@ use Rattle.up_host.specs.declared.held.Held.{Held}
 use Rattle.up_journal.specs.declared.limits.Limits.{Limits}
 use Rattle.up_names.specs.Texts.{Text, UserName}
 use Rattle.up_peer.specs.declared.loader.Loader.{Ghosts}
+use Rattle.up_shared.proofs.Pairs.{each_length}
 use Rattle.up_shared.specs.Sharing.{AreSeats, EachPair, IsTreeSeat}
+use Rattle.up_storm.proofs.Wholeness.{whole_again}
 use Rattle.up_shared.specs.declared.shared.Seats.{Seats}
 use Rattle.up_shared.specs.declared.shared.Shared.{Shared}
 use Rattle.up_shared.specs.declared.shared.TreeCell.{TreeCell}
@@ -194,19 +196,23 @@ told_by plan shared all first second said text sits owners h k is = record {
 }
 
 pub is_storm : {D L : Type 0} (disks : disk.Ghosts D) (loader : Ghosts L) (none : L) (plan : Plan) (text : Text) (host : HostState D) (shared : Shared D) (seats all : Seats D) (said : List Said)
-    → IsPrepared disks loader none plan.sessions host → IsSharedHost host shared seats → HasEnded loader none shared plan seats all said → HasTold plan all said text
+    → IsPrepared disks loader none plan.sessions host → IsSharedHost host shared seats → HasEnded loader none shared plan seats all said → AreSeats shared all → HasTold plan all said text
     → IsStorm disks loader none plan text
-is_storm disks loader none plan text host shared seats all said prepared is_shared ended told = record {
-  host = host;
-  prepared = prepared;
-  shared = shared;
-  seats = seats;
-  is_shared = is_shared;
-  all = all;
-  said = said;
-  ended = ended;
-  told = told;
-}
+is_storm disks loader none plan text host shared seats all said prepared is_shared ended sits told =
+    let even : length all.trees.items ≡ length seats.trees.items
+        = each_length IsTreeSeat shared.trees.items all.trees.items sits.trees ∙ sym (each_length IsTreeSeat shared.trees.items seats.trees.items is_shared.sits.trees) in
+    record {
+      host = host;
+      prepared = prepared;
+      shared = shared;
+      seats = seats;
+      is_shared = is_shared;
+      all = all;
+      said = said;
+      ended = ended;
+      whole = whole_again loader shared plan.full plan.requests none plan.seed host seats ended.left all ended.begun ended.ended is_shared ended.begins ended.joins (ended.all_ended ∙ sym ended.as_many) ended.ran even;
+      told = told;
+    }
 
 pub means : {D L : Type 0} (disks : disk.Ghosts D) (loader : Ghosts L) (none : L) (plan : Plan) (text : Text) (old new : Option Text) (status : ℕ) → IsStorm disks loader none plan text
     → AnswersWith old new (record { text = text; status = 0 }) status → Means disks loader none plan old new status

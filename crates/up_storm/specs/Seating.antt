@@ -6,7 +6,7 @@ use Rattle.up_lists.specs.Begins.{Begins}
 use Rattle.up_names.specs.UserNames.{user_of}
 use Rattle.up_peer.specs.declared.loader.Loader.{Ghosts}
 use Rattle.up_shared.specs.Sharing.{AreSeats}
-use Rattle.up_shared.specs.Splits.{AreBoth, AreFirsts, AreSeconds}
+use Rattle.up_shared.specs.Splits.{AreBoth, AreFirsts, AreSeconds, SeatsAdd}
 use Rattle.up_shared.specs.declared.shared.Seats.{Seats}
 use Rattle.up_shared.specs.declared.shared.Shared.{Shared}
 use Rattle.up_shared.specs.declared.shared.TreeSeat.{TreeSeat}
@@ -31,28 +31,29 @@ module _ {D L : Type 0} where
     pub tally : v.tally ≡ none_counted
     pub failed : v.failed ≡ false
 
-  -- The sessions from k on were begun, one after the other: the seats of each were split off from those of the host's first caller, of
-  -- whom this is left.
+  -- The sessions from k on were begun, one after the other: the seats of each were split off from those of the host's first caller, with
+  -- a part of their shares. To the first caller these are left.
   abbrev pub AreBegun : L → ℕ → ℕ → Seats D → List (Session D L) → Seats D → Type 0
   AreBegun none seed k seats [] left = left ≡ seats
   AreBegun none seed k seats (v ∷ more) left =
-      (rest : Seats D) × AreFirsts seats rest × AreSeconds seats v.seats × IsBegun none seed k v × AreBegun none seed (k + 1) rest more left
+      (rest : Seats D) × AreFirsts seats rest × AreSeconds seats v.seats × SeatsAdd rest v.seats seats × IsBegun none seed k v × AreBegun none seed (k + 1) rest more left
 
   -- one more session was begun behind the others
   pub record HasBegun (none : L) (shared : Shared D) (seed k : ℕ) (seats : Seats D) (before : List (Session D L)) (rest : Seats D) (after : List (Session D L)) : Type 0 where
-    pub session : Session D
+    pub session : Session D L
     pub whole : after ≡ before ++ session ∷ []
     pub first : AreFirsts seats rest
     pub second : AreSeconds seats session.seats
+    pub shares : SeatsAdd rest session.seats seats
     pub begun : IsBegun none seed k session
     pub sits : AreSeats shared session.seats
 
   -- ---- and end
 
-  -- the seats of all sessions were taken in again, one after the other
+  -- the seats of all sessions were taken in again, one after the other, with their shares
   abbrev pub AreJoined : Seats D → List (Session D L) → Seats D → Type 0
   AreJoined seats [] all = all ≡ seats
-  AreJoined seats (w ∷ more) all = (both : Seats D) × AreBoth seats w.seats both × AreJoined both more all
+  AreJoined seats (w ∷ more) all = (both : Seats D) × AreBoth seats w.seats both × SeatsAdd seats w.seats both × AreJoined both more all
 
 -- The log of the tree at a place was read through the joined seats, in a turn of their own: all that the cell then had. It begins with what
 -- they had seen of it, and where they have the whole share, the records that were added to it since the host was shared are exactly

@@ -7,6 +7,7 @@ use Rattle.up_host.specs.Alone.{HostState}
 use Rattle.up_host.specs.Shares.{IsSharedHost}
 use Rattle.up_names.specs.Texts.{Text}
 use Rattle.up_peer.specs.declared.loader.Loader.{Ghosts}
+use Rattle.up_shared.specs.Splits.{AreWhole}
 use Rattle.up_shared.specs.declared.shared.Seats.{Seats}
 use Rattle.up_shared.specs.declared.shared.Shared.{Shared}
 use Rattle.up_shared.specs.declared.shared.TreeSeat.{TreeSeat}
@@ -25,7 +26,8 @@ pub record HasTold {D : Type 0} (plan : Plan) (all : Seats D) (said : List Said)
   pub reads_second : IsRead all 1 second
   pub text_is : text ≡ storm_text plan first second said
 
--- A storm, and the text that it prints: a host was prepared and shared, its sessions ran at once and ended, and what came of them was told.
+-- A storm, and the text that it prints: a host was prepared and shared, its sessions ran at once and ended, the joined seats have the whole
+-- share of each log, so that all records that were added are their own, and what came of it was told.
 pub record IsStorm {D L : Type 0} (disks : disk.Ghosts D) (loader : Ghosts L) (none : L) (plan : Plan) (text : Text) : Type 0 where
   pub host : HostState D
   pub prepared : IsPrepared disks loader none plan.sessions host
@@ -35,6 +37,7 @@ pub record IsStorm {D L : Type 0} (disks : disk.Ghosts D) (loader : Ghosts L) (n
   pub all : Seats D
   pub said : List Said
   pub ended : HasEnded loader none shared plan seats all said
+  pub whole : AreWhole all
   pub told : HasTold plan all said text
 
 -- What `upspin storm` prints and answers for a plan, unless memory is wanting: the text of a storm, and 0; after a fault of the sink a

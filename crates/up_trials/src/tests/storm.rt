@@ -8,7 +8,7 @@ use std::sync::atomic::{AtomicU64, Ordering};
 use std::thread;
 use std::thread::Threads;
 use up_ends::Gate;
-use up_storm::{Plan, storm};
+use up_storm::{Plan, storm_within};
 
 /// For how many turns a held call waits at most.
 const TURNS: u64 = 200_000;
@@ -69,7 +69,7 @@ fn saw_the_other<R: Threads + Wait + Sync>(
         requests: 3,
         full: false,
     };
-    let text = storm(rt, alloc, random, plan, threads, &gate)?;
+    let text = storm_within(rt, alloc, random, plan, threads, &gate)?;
     Ok(gate.late.load(Ordering::SeqCst) == 0 && text.len() > 0)
 }
 
