@@ -1,6 +1,6 @@
 -- A log that was read in a turn of a seat.
-use Rattle.std.proofs.Common.{◌≡◌, ℕ, ◌^◌, Bool, List, length, sym, ap, ◌∙◌}
-use Rattle.std.specs.Prelude.{Result, Ok, Err, IfOk, slice_get, Some}
+use Rattle.std.proofs.Common.{◌≡◌, ℕ, zero, suc, ◌^◌, Bool, List, [], ◌∷◌, length, refl, sym, ap, ◌∙◌}
+use Rattle.std.specs.Prelude.{Result, Ok, Err, IfOk, slice_get, slice_set, Some}
 use Rattle.up_cell.proofs.Turns.{turn_quiet}
 use Rattle.up_cell.specs.Known.{HasEvery, Known}
 use Rattle.up_cell.specs.Positions.{between}
@@ -57,3 +57,16 @@ read_as_before full all mid place read same h = record {
   is_read = record { seat = h.is_read.seat; found = sym same ∙ h.is_read.found; begins = h.is_read.begins; every = h.is_read.every };
   told = h.told;
 }
+
+pub read_ok : {D E : Type 0} (full : Bool) (all : Seats D) (place : ℕ) (seat : TreeSeat D) (read : Result LogRead E) → slice_get all.trees.items place ≡ Some seat
+    → IfOk read (IsReadBy full seat.seat) → IfOk read (HasRead full all place)
+read_ok full all place seat (Ok read) found by = read_at_place full all place seat read found by
+read_ok full all place seat (Err e) found by = by
+
+-- a change at one place leaves the others
+pub set_other : {X : Type 0} (xs : List X) (place i : ℕ) (y : X) → (i ≡ place → ⊥) → slice_get (slice_set xs place y) i ≡ slice_get xs i
+set_other [] place i y other = refl
+set_other (x ∷ xs) zero zero y other = absurd (other refl)
+set_other (x ∷ xs) zero (suc i) y other = refl
+set_other (x ∷ xs) (suc place) zero y other = refl
+set_other (x ∷ xs) (suc place) (suc i) y other = set_other xs place i y (λ same. other (ap suc same))

@@ -24,7 +24,7 @@ use Rattle.up_replay.proofs.Trees.{has_node, node_at-delete, node_at-empty, node
 use Rattle.up_replay.specs.Changes.{change_before, changes_some, last_change, path_of_change, record_at}
 use Rattle.up_replay.specs.Fits.{IsLog}
 use Rattle.up_replay.specs.Orders.{are_rising, has_path as has, with_path}
-use Rattle.up_replay.specs.Trees.{Tree, Node, after_record, node_at, tree_of}
+use Rattle.up_replay.specs.Trees.{Tree, after_record, node_at, tree_of}
 use Rattle.up_storm.specs.Logs.{is_put, put_at, stood_before}
 
 -- ---- lists of paths
@@ -101,18 +101,18 @@ get_end [] x = refl
 get_end (y ∷ xs) x = get_end xs x
 
 -- a position of a record of the log, if any
-Within : List Rec → Option ℕ → Type 0
+abbrev Within : List Rec → Option ℕ → Type 0
 Within log None = ⊤
 Within log (Some m) = (k : ℕ) × (m ≡ suc k) × (k < length log)
 
 within_more : (front : List Rec) (rec : Rec) (o : Option ℕ) → Within front o → Within (front ++ rec ∷ []) o
 within_more front rec None w = tt
-within_more front rec (Some m) w = let less = w.1.1 in (w.0, w.1.0, omega (arith, less, length-append front (rec ∷ [])))
+within_more front rec (Some m) w = let less = w.2 in (w.0, w.1, omega (arith, less, length-append front (rec ∷ [])))
 
 put_stays : (front more : List Rec) (o : Option ℕ) → Within front o → put_at (front ++ more) o ≡ put_at front o
 put_stays front more None w = refl
 put_stays front more (Some m) w =
-    ap (λ n. is_put (record_at (front ++ more) n)) w.1.0 ∙ ap is_put (get_front front more w.0 w.1.1) ∙ sym (ap (λ n. is_put (record_at front n)) w.1.0)
+    ap (λ n. is_put (record_at (front ++ more) n)) w.1 ∙ ap is_put (get_front front more w.0 w.2) ∙ sym (ap (λ n. is_put (record_at front n)) w.1)
 
 put_end : (front : List Rec) (rec : Rec) → put_at (front ++ rec ∷ []) (Some (length front + 1)) ≡ is_put (Some rec)
 put_end front rec =
@@ -134,7 +134,7 @@ module _ (front : List Rec) (rec : Rec) (q : PathName) where
       subst (Within (front ++ rec ∷ [])) (sym (change_is true is)) (length front, e, omega (arith, length-append front (rec ∷ [])))
   within_after false is w = subst (Within (front ++ rec ∷ [])) (sym (change_is false is)) (within_more front rec (last_change front q) w)
 
-Told : List Rec → PathName → Type 0
+abbrev Told : List Rec → PathName → Type 0
 Told front q = (put_at front (last_change front q) ≡ is_some (node_at (tree_of front) q)) × Within front (last_change front q)
 
 told_next : (front : List Rec) (rec : Rec) (q : PathName) → Told front q → Told (front ++ rec ∷ []) q
@@ -213,7 +213,7 @@ rows_added log n rows entry text is stood h =
 
 is_there : {X : Type 0} (o : Option X) → IsSome o → is_some o ≡ true
 is_there (Some x) h = refl
-is_there None h = absurd h
+is_there None h = h
 
 pub rows_deleted : (owner : List ℕ) (log : List Rec) (n rows : ℕ) (path : PathName) → IsLog owner log → record_at log (n + 1) ≡ Some (Delete path)
     → rows ≡ length (tree_of (take n log)) → rows ≡ length (tree_of (take (n + 1) log)) + 1

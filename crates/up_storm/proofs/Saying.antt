@@ -5,7 +5,6 @@ use Rattle.std.specs.List.{AllByRecursion}
 use Rattle.up_command.specs.Printed.{ended}
 use Rattle.up_entry.specs.declared.entries.Entry.{Entry}
 use Rattle.up_entry.specs.declared.records.Rec.{Rec}
-use Rattle.up_entry.specs.declared.records.Rec.TheVariants.{Put}
 use Rattle.up_names.specs.Texts.{Text}
 use Rattle.up_storm.specs.Telling.{IsFew, all_counted, both_counted, none_counted, record_words, records_text, sessions_text, total}
 use Rattle.up_storm.specs.declared.session.Said.{Said}
@@ -27,7 +26,7 @@ none_some x h = cc
 pub drop_next : {X : Type 0} (xs : List X) (n : ℕ) (x : X) → slice_get xs n ≡ Some x → drop n xs ≡ x ∷ drop (n + 1) xs
 drop_next [] n x h = cc
 drop_next (y ∷ xs) zero x h = cc
-drop_next (y ∷ xs) (suc n) x h = drop_next xs n x h
+drop_next (y ∷ xs) (suc n) x h = let e : suc n + 1 ≡ suc (n + 1) = omega arith in drop_next xs n x h ∙ ap (λ (m : ℕ). x ∷ drop m (y ∷ xs)) (sym e)
 
 pub drop_end : {X : Type 0} (xs : List X) → drop (length xs) xs ≡ []
 drop_end [] = refl
@@ -60,9 +59,9 @@ unfolding reply_lines reply_words done_words further_words
 entry_told entry = refl
 
 -- what a Put adds: its position, the keyword, and the entry's words
-pub put_said : (old : Text) (n : ℕ) (entry : Entry) (text : Text)
-    → ((old ++ (decimal n ++ codes " ")) ++ codes "put") ++ ended (behind_spaces (entry_words entry) ++ []) ≡ old ++ ended (spaced (record_words n (Put entry text)))
-put_said old n entry text =
+pub put_said : (old : Text) (n : ℕ) (entry : Entry)
+    → ((old ++ (decimal n ++ codes " ")) ++ codes "put") ++ ended (behind_spaces (entry_words entry) ++ []) ≡ old ++ ended (spaced (decimal n ∷ codes "put" ∷ entry_words entry))
+put_said old n entry =
     let words : Text = behind_spaces (entry_words entry) in
     append_assoc (old ++ (decimal n ++ codes " ")) (codes "put") (ended (words ++ []))
     ∙ append_assoc old (decimal n ++ codes " ") (codes "put" ++ ended (words ++ []))
@@ -88,7 +87,7 @@ sessions_all said k text whole end h =
     sym (append-nil text) ∙ ap (λ (rest : List Said). text ++ sessions_text k rest) (sym (ap (λ (m : ℕ). drop m said) end ∙ drop_end said)) ∙ h
 
 -- the replies of one session more were counted
-record_of : ℕ → ℕ → ℕ → Tally
+abbrev record_of : ℕ → ℕ → ℕ → Tally
 record_of a b c = record { ok = a; notexist = b; private = c }
 
 tally_same : (a b c d e f : ℕ) → a ≡ d → b ≡ e → c ≡ f → record_of a b c ≡ record_of d e f

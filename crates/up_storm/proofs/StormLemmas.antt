@@ -28,7 +28,7 @@ use Rattle.up_tree.specs.States.{State}
 use Rattle.up_storm.specs.Logs.{IsLogRead, full_of, logged, summary_of, told_text}
 use Rattle.up_storm.specs.Seating.{AreBegun, AreJoined, HasEnded, HasRead}
 use Rattle.up_storm.specs.Sessions.{HasRun, Session, said_of}
-use Rattle.up_storm.specs.Telling.{IsFew, all_counted, full_text, log_text, numbers_line, records_text, sessions_text, storm_text, summary_text, tally_line, tree_line}
+use Rattle.up_storm.specs.Telling.{IsFew, all_counted, full_text, heading, log_text, numbers_line, records_text, sessions_text, storm_text, summary_text, tally_line, tree_line}
 use Rattle.up_storm.specs.declared.logs.LogRead.{LogRead}
 use Rattle.up_storm.specs.declared.plan.Plan.{Plan}
 use Rattle.up_storm.specs.declared.session.Said.{Said}
@@ -126,12 +126,11 @@ numbers_are owner log read full h = ap (λ (n : ℕ). numbers_line owner n read.
 pub told_is : (plan : Plan) (first second : LogRead) (a b : List Rec) (said : List Said) (text : Text) → IsLogRead plan.full a first → IsLogRead plan.full b second
     → text ≡ told_text plan first second said → text ≡ storm_text plan a b said
 told_is plan first second a b said text h k is =
-    let head : Text = ended (codes "sessions " ++ decimal plan.sessions) in
-    let next : Text = ended (codes "requests " ++ decimal (plan.sessions * plan.requests)) in
     let t = all_counted said in
+    let rest : Text = if plan.full then full_of first second said else [] in
     is
-    ∙ ap (λ (l : Text). (head ++ (next ++ (l ++ (numbers_line (codes "b@storm.example") second.records second.rows ++ tally_line t)))) ++ (if plan.full then full_of first second said else [])) (numbers_are (codes "a@storm.example") a first plan.full h)
-    ∙ ap (λ (l : Text). (head ++ (next ++ (tree_line (codes "a@storm.example") a ++ (l ++ tally_line t)))) ++ (if plan.full then full_of first second said else [])) (numbers_are (codes "b@storm.example") b second plan.full k)
+    ∙ ap (λ (l : Text). (heading plan ++ ((l ++ numbers_line (codes "b@storm.example") second.records second.rows) ++ tally_line t)) ++ rest) (numbers_are (codes "a@storm.example") a first plan.full h)
+    ∙ ap (λ (l : Text). (heading plan ++ ((tree_line (codes "a@storm.example") a ++ l) ++ tally_line t)) ++ rest) (numbers_are (codes "b@storm.example") b second plan.full k)
     ∙ ap (λ (l : Text). summary_text plan a b t ++ l) (full_is first second a b said plan.full h k)
 
 -- ---- both trees are there

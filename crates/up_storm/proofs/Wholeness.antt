@@ -23,14 +23,14 @@ record Share : Type 0 where
   part : ℕ
   halvings : ℕ
 
-record_share : ℕ → ℕ → Share
+abbrev record_share : ℕ → ℕ → Share
 record_share part halvings = record { part = part; halvings = halvings }
 
 -- in parts of which 2 ^ n are one
-in_parts : ℕ → Share → ℕ
+abbrev in_parts : ℕ → Share → ℕ
 in_parts n s = s.part * 2 ^ (n - s.halvings)
 
-share_of : {E F : Type 0} → Known E F → Share
+abbrev share_of : {E F : Type 0} → Known E F → Share
 share_of v = record_share v.part v.halvings
 
 -- what is taken of all seats of a caller keeps to the rules of a share
@@ -44,11 +44,11 @@ record IsShare {D : Type 0} (taken : Seats D → Share) : Type 0 where
 
 module _ {D L : Type 0} (taken : Seats D → Share) (is : IsShare taken) where
   -- all sessions' shares together
-  all_parts : ℕ → List (Session D L) → ℕ
+  abbrev all_parts : ℕ → List (Session D L) → ℕ
   all_parts n [] = 0
   all_parts n (v ∷ vs) = in_parts n (taken v.seats) + all_parts n vs
 
-  Bounded : ℕ → List (Session D L) → Type 0
+  abbrev Bounded : ℕ → List (Session D L) → Type 0
   Bounded n [] = ⊤
   Bounded n (v ∷ vs) = ((taken v.seats).halvings ≤ n) × Bounded n vs
 
@@ -67,10 +67,10 @@ module _ {D L : Type 0} (taken : Seats D → Share) (is : IsShare taken) where
       }
   begun_add none seed k n seats left (v ∷ vs) h less =
       let rest : Seats D = h.0 in
-      let high : (taken rest).halvings ≤ (taken seats).halvings + 1 = is.first seats rest h.1.0 in
-      let other : (taken v.seats).halvings ≤ (taken seats).halvings + 1 = is.second seats v.seats h.1.1.0 in
-      let halves = is.split seats rest v.seats h.1.0 h.1.1.0 h.1.1.1.0 n (omega (arith, less)) in
-      let more = begun_add none seed (k + 1) n rest left vs h.1.1.1.1.1 (omega (arith, less, high)) in
+      let high : (taken rest).halvings ≤ (taken seats).halvings + 1 = is.first seats rest h.1 in
+      let other : (taken v.seats).halvings ≤ (taken seats).halvings + 1 = is.second seats v.seats h.2 in
+      let halves = is.split seats rest v.seats h.1 h.2 h.3 n (omega (arith, less)) in
+      let more = begun_add none seed (k + 1) n rest left vs h.5 (omega (arith, less, high)) in
       record {
         add = omega (arith, halves, more.add);
         left_is = more.left_is;
@@ -87,15 +87,15 @@ module _ {D L : Type 0} (taken : Seats D → Share) (is : IsShare taken) where
       record { add = omega (arith, same); all_is = subst (λ (s : Seats D). (taken s).halvings ≤ n) (sym h) less }
   joined_add n seats all (w ∷ ws) h less each =
       let both : Seats D = h.0 in
-      let two = is.join seats w.seats both h.1.0 h.1.1.0 n less each.0 in
-      let more = joined_add n both all ws h.1.1.1 (is.both seats w.seats both h.1.0 n less each.0) each.1 in
+      let two = is.join seats w.seats both h.1 h.2 n less each.0 in
+      let more = joined_add n both all ws h.3 (is.both seats w.seats both h.1 n less each.0) each.1 in
       record { add = omega (arith, two, more.add); all_is = more.all_is }
 
   -- a session's share stays while it runs
   ran_later : (loader : Ghosts L) (shared : Shared D) (full : Bool) (k n : ℕ) (v w : Session D L) → HasRun loader shared full k n v w → SeatsLater v.seats w.seats
   ran_later loader shared full k zero v w h = subst (λ (s : Session D L). SeatsLater v.seats s.seats) (sym h) (seats_same v.seats)
   ran_later loader shared full k (suc n) v w h =
-      seats_trans v.seats h.0.seats w.seats h.1.0.answered.later (ran_later loader shared full k n h.0 w h.1.1)
+      seats_trans v.seats h.0.seats w.seats h.1.answered.later (ran_later loader shared full k n h.0 w h.2)
 
   same_parts : (n : ℕ) (vs ws : List (Session D L)) → length ws ≡ length vs → ((k : ℕ) (v w : Session D L) → slice_get vs k ≡ Some v → slice_get ws k ≡ Some w → SeatsLater v.seats w.seats)
       → Bounded n vs → (all_parts n ws ≡ all_parts n vs) × Bounded n ws
@@ -157,7 +157,7 @@ keys_are = record {
 -- ---- and of the tree at a place
 
 module _ {D : Type 0} where
-  tree_share : List (TreeSeat D) → ℕ → Share
+  abbrev tree_share : List (TreeSeat D) → ℕ → Share
   tree_share [] i = record_share 0 0
   tree_share (x ∷ xs) zero = share_of x.seat
   tree_share (x ∷ xs) (suc i) = tree_share xs i

@@ -8,7 +8,7 @@ use Rattle.up_lists.specs.Begins.{Begins}
 use Rattle.up_replay.specs.Changes.{change_before, record_at}
 use Rattle.up_replay.specs.Trees.{tree_of}
 use Rattle.up_names.specs.Texts.{Text}
-use Rattle.up_storm.specs.Telling.{all_counted, numbers_line, records_text, sessions_text, tally_line}
+use Rattle.up_storm.specs.Telling.{all_counted, heading, numbers_line, records_text, sessions_text, tally_line}
 use Rattle.up_storm.specs.declared.logs.LogRead.{LogRead}
 use Rattle.up_storm.specs.declared.plan.Plan.{Plan}
 use Rattle.up_storm.specs.declared.session.Said.{Said}
@@ -47,13 +47,11 @@ stood_before log n = put_at log (change_before log n)
 
 -- ---- what is printed, over what was read
 
+abbrev pub trees_of : LogRead → LogRead → Text
+trees_of first second = numbers_line (codes "a@storm.example") first.records first.rows ++ numbers_line (codes "b@storm.example") second.records second.rows
+
 abbrev pub summary_of : Plan → LogRead → LogRead → Tally → Text
-summary_of plan first second t =
-    ended (codes "sessions " ++ decimal plan.sessions)
-    ++ (ended (codes "requests " ++ decimal (plan.sessions * plan.requests))
-    ++ (numbers_line (codes "a@storm.example") first.records first.rows
-    ++ (numbers_line (codes "b@storm.example") second.records second.rows
-    ++ tally_line t)))
+summary_of plan first second t = heading plan ++ (trees_of first second ++ tally_line t)
 
 abbrev pub logged : Text → LogRead → Text
 logged owner read = ended (codes "log " ++ owner) ++ read.text

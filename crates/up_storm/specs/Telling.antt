@@ -86,13 +86,13 @@ tree_line owner log = numbers_line owner (length log) (length (tree_of log))
 abbrev pub tally_line : Tally → Text
 tally_line t = ended (codes "ok " ++ (decimal t.ok ++ (codes " notexist " ++ (decimal t.notexist ++ (codes " private " ++ decimal t.private)))))
 
+-- how many sessions there were, and how many requests they made together
+abbrev pub heading : Plan → Text
+heading plan = ended (codes "sessions " ++ decimal plan.sessions) ++ ended (codes "requests " ++ decimal (plan.sessions * plan.requests))
+
 abbrev pub summary_text : Plan → List Rec → List Rec → Tally → Text
 summary_text plan first second t =
-    ended (codes "sessions " ++ decimal plan.sessions)
-    ++ (ended (codes "requests " ++ decimal (plan.sessions * plan.requests))
-    ++ (tree_line (codes "a@storm.example") first
-    ++ (tree_line (codes "b@storm.example") second
-    ++ tally_line t)))
+    heading plan ++ ((tree_line (codes "a@storm.example") first ++ tree_line (codes "b@storm.example") second) ++ tally_line t)
 
 -- ---- all of it
 

@@ -1,7 +1,6 @@
 //! The logs of a storm are read, once its sessions have ended.
 ghost use Rattle.std.specs.Prelude.{◌≡◌, ◌<◌, ◌+◌, ◌^◌, ◌++◌, ◌∷◌, [], codes, decimal, length, take, IfOk, OnOk};
 ghost use Rattle.up_entry.specs.declared.records.Rec.TheVariants as rec;
-ghost use Rattle.up_names.specs.Texts.{Text};
 ghost use Rattle.up_replay.specs.Fits.{IsLog};
 ghost use Rattle.up_replay.specs.Trees.{tree_of};
 ghost use Rattle.up_storm.specs.Logs.{IsLogRead, ReadsLog, stood_before};
@@ -96,8 +95,8 @@ fn say_record(alloc: Global, out: &mut Vec<u8>, n: u64, rec: &Rec) -> Result<(),
 // Adds `POSITION put ENTRY`.
 #[tactic(auto, using(crate::proofs::Saying::put_said))]
 fn say_put(alloc: Global, out: &mut Vec<u8>, n: u64, entry: &Entry) -> Result<(), AllocError>
-    ensures { OnOk result ((text : Text) → out.new.items
-        ≡ out.old.items ++ ended (spaced (record_words n (rec.Put entry.now text)))) }
+    ensures { OnOk result (out.new.items ≡ out.old.items
+        ++ ended (spaced (decimal n ∷ codes "put" ∷ entry_words entry.now))) }
 {
     let words = entry_words(alloc, entry)?;
     push_place(out, n)?;

@@ -218,7 +218,7 @@ fn read_tree<R: Wait, D: Disk + Drop>(
 }
 
 // Reads the log of a tree by a seat, which then has seen all of it.
-#[tactic(auto, using(crate::proofs::ReadingLemmas::read_by))]
+#[tactic(auto, using(crate::proofs::ReadingLemmas::read_by, up_cell::proofs::Turns::turn_onward))]
 fn read_log<R: Wait, D: Disk + Drop>(
     rt: &R,
     alloc: Global,

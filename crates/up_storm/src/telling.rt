@@ -2,9 +2,9 @@
 ghost use Rattle.std.specs.Prelude.{◌≡◌, ◌≤◌, ◌<◌, ◌*◌, ◌++◌, codes, decimal, length, true, IfOk, OnOk};
 ghost use Rattle.std.specs.List.{AllByRecursion};
 ghost use Rattle.up_command.specs.Printed.{ended};
-ghost use Rattle.up_storm.specs.Logs.{full_of, logged, summary_of, told_text};
+ghost use Rattle.up_storm.specs.Logs.{full_of, logged, summary_of, told_text, trees_of};
 ghost use Rattle.up_storm.specs.Plans.{is_within};
-ghost use Rattle.up_storm.specs.Telling.{IsFew, all_counted, numbers_line, sessions_text, tally_line};
+ghost use Rattle.up_storm.specs.Telling.{IsFew, all_counted, heading, numbers_line, sessions_text, tally_line};
 
 use crate::logs::LogRead;
 use crate::plan::Plan;
@@ -47,11 +47,39 @@ fn say_summary(
     ensures { OnOk result (out.new.items
         ≡ out.old.items ++ summary_of plan first.now second.now tally) }
 {
+    say_heading(out, plan)?;
+    say_counts(out, first, second, tally)
+}
+
+// How many sessions there were, and how many requests.
+fn say_heading(out: &mut Vec<u8>, plan: Plan) -> Result<(), AllocError>
+    requires plan { is_within plan ≡ true }
+    ensures { OnOk result (out.new.items ≡ out.old.items ++ heading plan) }
+{
     say_count(out, b"sessions ", plan.sessions)?;
-    say_count(out, b"requests ", requests_of(plan))?;
-    say_numbers(out, FIRST_OWNER, first)?;
-    say_numbers(out, SECOND_OWNER, second)?;
+    say_count(out, b"requests ", requests_of(plan))
+}
+
+// What is counted of both trees, and of the replies.
+fn say_counts(
+    out: &mut Vec<u8>,
+    first: &LogRead,
+    second: &LogRead,
+    tally: Tally,
+) -> Result<(), AllocError>
+    ensures { OnOk result (out.new.items
+        ≡ out.old.items ++ (trees_of first.now second.now ++ tally_line tally)) }
+{
+    say_trees(out, first, second)?;
     say_tally(out, tally)
+}
+
+// What is counted of both trees.
+fn say_trees(out: &mut Vec<u8>, first: &LogRead, second: &LogRead) -> Result<(), AllocError>
+    ensures { OnOk result (out.new.items ≡ out.old.items ++ trees_of first.now second.now) }
+{
+    say_numbers(out, FIRST_OWNER, first)?;
+    say_numbers(out, SECOND_OWNER, second)
 }
 
 // How many requests all sessions make.
@@ -116,6 +144,14 @@ fn say_full(
         ≡ out.old.items ++ full_of first.now second.now said.now) }
 {
     say_log(out, FIRST_OWNER, first)?;
+    say_behind(out, second, said)
+}
+
+// The same behind the first log.
+fn say_behind(out: &mut Vec<u8>, second: &LogRead, said: &[Said]) -> Result<(), AllocError>
+    ensures { OnOk result (out.new.items ≡ out.old.items
+        ++ (logged (codes "b@storm.example") second.now ++ sessions_text 0 said.now)) }
+{
     say_log(out, SECOND_OWNER, second)?;
     say_sessions(out, said)
 }
