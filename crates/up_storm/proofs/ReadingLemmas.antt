@@ -19,7 +19,7 @@ use Rattle.up_tree.specs.States.{State, entries_of, fixed_of}
 -- as the seat is after the turn, so it was before it, where the job left the state as it was
 every_before : {D : Type 0} (faults : State D → ℕ) (v w : Known Rec (UserName × Limits)) (before after : State D) → after ≡ before
     → w ≡ turned_of entries_of faults v before after → w.own ≡ v.own → HasEvery w (length (entries_of after)) → HasEvery v (length (entries_of before))
-every_before faults v w before after stays turned quiet every whole =
+every_before {D} faults v w before after stays turned quiet every whole =
     let part : w.part ≡ v.part = ap (λ (k : Known Rec (UserName × Limits)). k.part) turned in
     let halvings : w.halvings ≡ v.halvings = ap (λ (k : Known Rec (UserName × Limits)). k.halvings) turned in
     let base : w.base ≡ v.base = ap (λ (k : Known Rec (UserName × Limits)). k.base) turned in

@@ -227,9 +227,9 @@ pub rows_kept : (log : List Rec) (n rows : ℕ) (time : ℕ) → record_at log (
 rows_kept log n rows time is h = h ∙ sym (ap length (tree_next log n (Snap time) is ∙ snap_same (tree_of (take n log)) time))
 
 -- before the first record there is none, and what stands after the last is the tree of the log
-pub rows_none : (log : List Rec) → 0 ≡ length (tree_of (take 0 log))
+pub rows_none : 0 ≡ length (tree_of [])
 unfolding tree_of
-rows_none log = refl
+rows_none = refl
 
 pub rows_all : (log : List Rec) (n rows : ℕ) → n ≡ length log → rows ≡ length (tree_of (take n log)) → rows ≡ length (tree_of log)
 rows_all log n rows is h = h ∙ ap (λ m. length (tree_of (take m log))) is ∙ ap (λ rs. length (tree_of rs)) (take-length log)

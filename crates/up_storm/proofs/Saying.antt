@@ -1,6 +1,6 @@
 -- Texts that are added one after the other: what is said and what is left make the whole.
 use Rattle.std.proofs.Common.{◌≡◌, ℕ, zero, suc, ◌+◌, ◌*◌, ◌<◌, ◌≤◌, List, [], ◌∷◌, ◌++◌, length, drop, refl, sym, ap, subst, ◌∙◌, append_assoc, append-nil, arith, slice_get, Some, None}
-use Rattle.std.specs.Prelude.{codes, decimal}
+use Rattle.std.specs.Prelude.{codes, decimal, OnOk, Result, Ok, Err}
 use Rattle.std.specs.List.{AllByRecursion}
 use Rattle.up_command.specs.Printed.{ended}
 use Rattle.up_entry.specs.declared.entries.Entry.{Entry}
@@ -132,3 +132,8 @@ product_le (suc a) b h = let rest = product_le a b h in omega (arith, rest, h)
 
 pub product_below : (a b : ℕ) → a ≤ 32 → b ≤ 4096 → a * b ≤ 131072
 product_below a b h k = let less = product_le a b k in omega (arith, less, h)
+
+-- what holds of an Ok, and follows from what held
+pub on_ok_then : {A E : Type 0} (r : Result A E) (P Q : Type 0) → (P → Q) → OnOk r P → OnOk r Q
+on_ok_then (Ok a) P Q f h = f h
+on_ok_then (Err e) P Q f h = h

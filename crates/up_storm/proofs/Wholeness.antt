@@ -42,6 +42,20 @@ record IsShare {D : Type 0} (taken : Seats D → Share) : Type 0 where
   both : (s o b : Seats D) → AreBoth s o b → (n : ℕ) → (taken s).halvings ≤ n → (taken o).halvings ≤ n → (taken b).halvings ≤ n
   later : (s t : Seats D) → SeatsLater s t → taken t ≡ taken s
 
+-- a session's share stays while it runs
+ran_later : {D L : Type 0} (loader : Ghosts L) (shared : Shared D) (full : Bool) (k n : ℕ) (v w : Session D L) → HasRun loader shared full k n v w → SeatsLater v.seats w.seats
+ran_later {D} {L} loader shared full k zero v w h = subst (λ (s : Session D L). SeatsLater v.seats s.seats) (sym h) (seats_same v.seats)
+ran_later loader shared full k (suc n) v w h =
+    seats_trans v.seats h.0.seats w.seats h.1.answered.later (ran_later loader shared full k n h.0 w h.2)
+
+-- who had the whole share has it again
+record Back {D : Type 0} (taken : Seats D → Share) (n : ℕ) (seats all : Seats D) : Type 0 where
+  parts_are : in_parts n (taken all) ≡ in_parts n (taken seats)
+  all_is : (taken all).halvings ≤ n
+
+none_add : (x : ℕ) → 0 * x + 0 * x ≡ 0 * x
+none_add x = omega arith
+
 module _ {D L : Type 0} (taken : Seats D → Share) (is : IsShare taken) where
   -- all sessions' shares together
   abbrev all_parts : ℕ → List (Session D L) → ℕ
@@ -91,12 +105,6 @@ module _ {D L : Type 0} (taken : Seats D → Share) (is : IsShare taken) where
       let more = joined_add n both all ws h.3 (is.both seats w.seats both h.1 n less each.0) each.1 in
       record { add = omega (arith, two, more.add); all_is = more.all_is }
 
-  -- a session's share stays while it runs
-  ran_later : (loader : Ghosts L) (shared : Shared D) (full : Bool) (k n : ℕ) (v w : Session D L) → HasRun loader shared full k n v w → SeatsLater v.seats w.seats
-  ran_later loader shared full k zero v w h = subst (λ (s : Session D L). SeatsLater v.seats s.seats) (sym h) (seats_same v.seats)
-  ran_later loader shared full k (suc n) v w h =
-      seats_trans v.seats h.0.seats w.seats h.1.answered.later (ran_later loader shared full k n h.0 w h.2)
-
   same_parts : (n : ℕ) (vs ws : List (Session D L)) → length ws ≡ length vs → ((k : ℕ) (v w : Session D L) → slice_get vs k ≡ Some v → slice_get ws k ≡ Some w → SeatsLater v.seats w.seats)
       → Bounded n vs → (all_parts n ws ≡ all_parts n vs) × Bounded n ws
   same_parts n [] [] long later each = (refl, tt)
@@ -110,13 +118,8 @@ module _ {D L : Type 0} (taken : Seats D → Share) (is : IsShare taken) where
         (subst (λ (s : Share). s.halvings ≤ n) (sym one) each.0, more.1),
       )
 
-  -- who had the whole share has it again
-  record Back (n : ℕ) (seats all : Seats D) : Type 0 where
-    parts_are : in_parts n (taken all) ≡ in_parts n (taken seats)
-    all_is : (taken all).halvings ≤ n
-
   comes_back : (none : L) (seed n : ℕ) (seats left all : Seats D) (vs ws : List (Session D L)) → AreBegun none seed 0 seats vs left → AreJoined left ws all → length ws ≡ length vs
-      → ((k : ℕ) (v w : Session D L) → slice_get vs k ≡ Some v → slice_get ws k ≡ Some w → SeatsLater v.seats w.seats) → (taken seats).halvings + length vs ≤ n → Back n seats all
+      → ((k : ℕ) (v w : Session D L) → slice_get vs k ≡ Some v → slice_get ws k ≡ Some w → SeatsLater v.seats w.seats) → (taken seats).halvings + length vs ≤ n → Back taken n seats all
   comes_back none seed n seats left all vs ws begun joined long later less =
       let b = begun_add none seed 0 n seats left vs begun less in
       let same = same_parts n vs ws long later b.each in
@@ -128,7 +131,7 @@ module _ {D L : Type 0} (taken : Seats D → Share) (is : IsShare taken) where
 shares_same : (a b c d : ℕ) → a ≡ c → b ≡ d → record_share a b ≡ record_share c d
 shares_same a b c d p q = ap (λ (n : ℕ). record_share n b) p ∙ ap (λ (n : ℕ). record_share c n) q
 
-store_is : {D : Type 0} → IsShare {D} (λ (s : Seats D). share_of s.store)
+store_is : {D : Type 0} → IsShare (λ (s : Seats D). share_of s.store)
 store_is = record {
   split = λ s r o f g add n less.
       let a = ap (λ (k : Known _ _). k.halvings) f.store in
@@ -141,7 +144,7 @@ store_is = record {
   later = λ s t h. shares_same t.store.part t.store.halvings s.store.part s.store.halvings h.store.part h.store.halvings;
 }
 
-keys_are : {D : Type 0} → IsShare {D} (λ (s : Seats D). share_of s.keys)
+keys_are : {D : Type 0} → IsShare (λ (s : Seats D). share_of s.keys)
 keys_are = record {
   split = λ s r o f g add n less.
       let a = ap (λ (k : Known _ _). k.halvings) f.keys in
@@ -164,7 +167,7 @@ module _ {D : Type 0} where
 
   add_at : (xs ys zs : List (TreeSeat D)) → TreesAdd xs ys zs → (i n : ℕ) → (tree_share xs i).halvings ≤ n → (tree_share ys i).halvings ≤ n → (tree_share zs i).halvings ≤ n
       → in_parts n (tree_share xs i) + in_parts n (tree_share ys i) ≡ in_parts n (tree_share zs i)
-  add_at [] [] [] h i n a b c = refl
+  add_at [] [] [] h i n a b c = none_add (2 ^ (n - 0))
   add_at (x ∷ xs) (y ∷ ys) (z ∷ zs) h zero n a b c = h.0.add n a b c
   add_at (x ∷ xs) (y ∷ ys) (z ∷ zs) h (suc i) n a b c = add_at xs ys zs h.1 i n a b c
   add_at [] [] (z ∷ zs) h i n a b c = absurd h
@@ -198,7 +201,7 @@ module _ {D : Type 0} where
   later_at (x ∷ xs) (y ∷ ys) h zero = shares_same y.seat.part y.seat.halvings x.seat.part x.seat.halvings h.0.seat.part h.0.seat.halvings
   later_at (x ∷ xs) (y ∷ ys) h (suc i) = later_at xs ys h.1 i
 
-  tree_is : (i : ℕ) → IsShare {D} (λ (s : Seats D). tree_share s.trees.items i)
+  tree_is : (i : ℕ) → IsShare (λ (s : Seats D). tree_share s.trees.items i)
   tree_is i = record {
     split = λ s r o f g add n less.
         let a = subst (λ (xs : List (TreeSeat D)). (tree_share xs i).halvings ≤ (tree_share s.trees.items i).halvings + 1) (sym f.trees) (firsts_at s.trees.items i) in

@@ -64,7 +64,7 @@ fn empty_disks(alloc: Global) -> Result<Disks<MemDisk>, AllocError>
         AllByRecursion (IsBlank ⟦<MemDisk as Disk>⟧) disks.disks) }
 {
     let mut disks = Disks::new(alloc);
-    for _place in 0..4 {
+    for made in 0..4 {
         disks.push(empty_disk(alloc))?;
     }
     Ok(disks)

@@ -5,8 +5,8 @@ use Rattle.up_disk.specs.Leaving.{IsBlank}
 use Rattle.up_storm.proofs.opening.empty_disks.Given as goal
 
 -- so many disks, each of them blank
-abbrev pub invariant-loop-_place : goal.invariant-loop-_place
-invariant-loop-_place l = record {
-  count : length l.disks.disks ≡ l._place;
+abbrev pub invariant-loop-made : goal.invariant-loop-made
+invariant-loop-made l = record {
+  count : length l.disks.disks ≡ l.made;
   blank : AllByRecursion (IsBlank memory.ghosts) l.disks.disks;
 }

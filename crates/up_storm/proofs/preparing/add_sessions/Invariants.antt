@@ -3,4 +3,4 @@ use Rattle.up_storm.proofs.preparing.add_sessions.Given as goal
 
 -- so many sessions are prepared
 abbrev pub invariant-loop-k : goal.invariant-loop-k
-invariant-loop-k g l = IsAdding l.sessions l.fn.calls.items l.k l.calls.items
+invariant-loop-k l = IsAdding l.sessions l.fn.calls.items l.k l.calls.items
