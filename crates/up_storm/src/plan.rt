@@ -1,5 +1,5 @@
 //! What the words of a storm plan.
-ghost use Rattle.std.specs.Prelude.{◌≡◌, map, string_bytes};
+ghost use Rattle.std.specs.Prelude.{◌≡◌, map, string_bytes, true, IfSome};
 ghost use Rattle.up_storm.specs.Plans.{bounded, is_within, plan_of, planned};
 
 use up_command::is;
@@ -27,7 +27,8 @@ pub struct Plan {
 /// number has a leading zero or fits no `u64`, or one is out of its bounds.
 #[tactic(auto, unfolding(crate::specs::Plans::plan_of))]
 pub fn plan_of(words: &[String]) -> Option<Plan>
-    ensures { result ≡ plan_of (map string_bytes words.now) }
+    ensures exact { result ≡ plan_of (map string_bytes words.now) }
+    ensures within { IfSome result (λ made. is_within made ≡ true) }
 {
     match words {
         [command, seed, sessions, requests] => {
@@ -51,7 +52,8 @@ pub fn plan_of(words: &[String]) -> Option<Plan>
 // What three numbers plan.
 #[tactic(auto, unfolding(crate::specs::Plans::planned))]
 fn planned(seed: &str, sessions: &str, requests: &str, full: bool) -> Option<Plan>
-    ensures { result ≡ planned seed.now sessions.now requests.now full }
+    ensures exact { result ≡ planned seed.now sessions.now requests.now full }
+    ensures within { IfSome result (λ made. is_within made ≡ true) }
 {
     let seed = read_num(seed.as_bytes())?;
     let sessions = read_num(sessions.as_bytes())?;
@@ -66,7 +68,8 @@ fn planned(seed: &str, sessions: &str, requests: &str, full: bool) -> Option<Pla
 
 // The plan, where it keeps the bounds.
 fn bounded(plan: Plan) -> Option<Plan>
-    ensures { result ≡ bounded plan }
+    ensures exact { result ≡ bounded plan }
+    ensures within { IfSome result (λ made. is_within made ≡ true) }
 {
     if is_within(&plan) { Some(plan) } else { None }
 }
