@@ -161,10 +161,10 @@ told_next front (Delete path) q h = (go (path_eq q path) refl, within_after fron
         ∙ sym (ap is_some (ap (λ t. node_at t q) (tree_of-push front (Delete path)) ∙ node_at-delete (tree_of front) path q
         ∙ ap (λ c. cond c None (node_at (tree_of front) q)) (path_eq_turned path q ∙ is)))
 told_next front (Snap time) q h = (
-    put_after front (Snap time) q false refl h.1 ∙ h.0
-    ∙ sym (ap is_some (ap (λ t. node_at t q) (tree_of-push front (Snap time)) ∙ node_at-snap (tree_of front) time q)),
-    within_after front (Snap time) q false refl h.1,
-  )
+  put_after front (Snap time) q false refl h.1 ∙ h.0
+      ∙ sym (ap is_some (ap (λ t. node_at t q) (tree_of-push front (Snap time)) ∙ node_at-snap (tree_of front) time q)),
+  within_after front (Snap time) q false refl h.1,
+)
 
 told_none : (q : PathName) → Told [] q
 told_none q = (ap (put_at []) (last_change-none q) ∙ sym (ap is_some (node_at-empty q)), subst (Within []) (sym (last_change-none q)) tt)

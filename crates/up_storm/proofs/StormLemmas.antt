@@ -199,7 +199,7 @@ pub is_storm : {D L : Type 0} (disks : disk.Ghosts D) (loader : Ghosts L) (none 
     → IsStorm disks loader none plan text
 is_storm disks loader none plan text host shared seats all said prepared is_shared ended sits told =
     let even : length all.trees.items ≡ length seats.trees.items
-        = each_length IsTreeSeat shared.trees.items all.trees.items sits.trees ∙ sym (each_length IsTreeSeat shared.trees.items seats.trees.items is_shared.sits.trees) in
+    = each_length IsTreeSeat shared.trees.items all.trees.items sits.trees ∙ sym (each_length IsTreeSeat shared.trees.items seats.trees.items is_shared.sits.trees) in
     record {
       host = host;
       prepared = prepared;

@@ -245,9 +245,9 @@ module _ {D : Type 0} where
   whole_trees n [] (y ∷ ys) long w e hx hy = absurd (omega (arith, long))
   whole_trees n (x ∷ xs) [] long w e hx hy = absurd (omega (arith, long))
   whole_trees n (x ∷ xs) (y ∷ ys) long w e hx hy = (
-      whole_by_parts n y.seat (hy 0) (e 0 ∙ parts_of_whole n x.seat (hx 0) w.0),
-      whole_trees n xs ys (omega (arith, long)) w.1 (λ i. e (suc i)) (λ i. hx (suc i)) (λ i. hy (suc i)),
-    )
+    whole_by_parts n y.seat (hy 0) (e 0 ∙ parts_of_whole n x.seat (hx 0) w.0),
+    whole_trees n xs ys (omega (arith, long)) w.1 (λ i. e (suc i)) (λ i. hx (suc i)) (λ i. hy (suc i)),
+  )
 
 module _ {D L : Type 0} (loader : Ghosts L) (shared : Shared D) where
   -- Once all seats are joined, the whole share of each log is theirs.
@@ -258,13 +258,13 @@ module _ {D L : Type 0} (loader : Ghosts L) (shared : Shared D) where
   whole_again full requests none seed host seats left all vs ws is_shared begun joined long ran even =
       let n : ℕ = length vs in
       let later : (k : ℕ) (v w : Session D L) → slice_get vs k ≡ Some v → slice_get ws k ≡ Some w → SeatsLater v.seats w.seats
-          = λ k v w a b. ran_later loader shared full k requests v w (ran k v w a b) in
+      = λ k v w a b. ran_later loader shared full k requests v w (ran k v w a b) in
       let store = ap (λ (k : Known _ _). k.halvings) is_shared.store in
       let keys = ap (λ (k : Known _ _). k.halvings) is_shared.keys in
       let of_store = comes_back (λ (s : Seats D). share_of s.store) store_is none seed n seats left all vs ws begun joined long later (omega (arith, store)) in
       let of_keys = comes_back (λ (s : Seats D). share_of s.keys) keys_are none seed n seats left all vs ws begun joined long later (omega (arith, keys)) in
       let of_tree = λ (i : ℕ). comes_back (λ (s : Seats D). tree_share s.trees.items i) (tree_is i) none seed n seats left all vs ws begun joined long later
-          (let zero_is = new_at host.trees shared.trees.items seats.trees.items is_shared.trees i in omega (arith, zero_is)) in
+      (let zero_is = new_at host.trees shared.trees.items seats.trees.items is_shared.trees i in omega (arith, zero_is)) in
       let store_whole : IsWhole seats.store = ap (λ (k : Known _ _). k.part) is_shared.store ∙ sym (ap (λ (k : Known _ _). 2 ^ k.halvings) is_shared.store) in
       let keys_whole : IsWhole seats.keys = ap (λ (k : Known _ _). k.part) is_shared.keys ∙ sym (ap (λ (k : Known _ _). 2 ^ k.halvings) is_shared.keys) in
       record {

@@ -32,7 +32,13 @@ fn run_line<R: Threads + Wait + Sync>(
     let (fails, words) = line.split_once(' ').unwrap_or((line, ""));
     let words = words_of(rt.alloc(), words)?;
     Ok(match fails.parse::<u64>() {
-        Ok(call) => run_failing(threads, rt.alloc(), random, &words, failing(rt.alloc(), call)?),
+        Ok(call) => run_failing(
+            threads,
+            rt.alloc(),
+            random,
+            &words,
+            failing(rt.alloc(), call)?,
+        ),
         Err(_) => run_printing(threads, rt, random, &words),
     })
 }
