@@ -12,13 +12,14 @@ use std::time::Clock;
 use std::{env, io};
 use up_client::{Ask, TableAsk};
 use up_disk::blank_disks;
-use up_ends::{StdSink, StdSource};
+use up_ends::{OpenGate, StdSink, StdSource};
 use up_helper::{sign_run, verify_run};
 use up_lists::Items;
 use up_net::{HelperVerifier, HostClock, Machine, SeedNonces, SocketAsk, Waits};
 use up_peer::Peers;
 use up_script::{can_run, script_run};
 use up_server::serve;
+use up_storm::storm_run;
 use up_terminal::{client_run, client_user};
 
 /// The status where the system gives no random bytes, to hash names with or to draw challenges from; nothing was read or written.
@@ -171,10 +172,19 @@ fn serve_status<R: Threads + Wait + Clock + Sync>(
     serve(threads, rt, words, &mut StdSink::new(rt.stdout()))
 }
 
-/// Whether the words are those of `upspin serve`, or meant to be.
-fn is_serve(words: &[String]) -> bool {
+/// Runs `upspin storm`, at whose gate nobody waits, and answers its status.
+fn storm_status<R: Threads + Wait + Sync>(threads: &R, rt: HostRuntime, words: &[String]) -> u8 {
+    let Ok(random) = RandomState::new(&rt) else {
+        return READ_FAULT;
+    };
+    let mut sink = StdSink::new(rt.stdout());
+    storm_run(threads, rt.alloc(), random, words, &mut sink, &OpenGate)
+}
+
+/// Whether the words are those of such a command, or meant to be.
+fn is_command(words: &[String], command: &str) -> bool {
     match words.first() {
-        Some(word) => word.as_str() == "serve",
+        Some(word) => word.as_str() == command,
         None => false,
     }
 }
@@ -227,7 +237,12 @@ fn main(rt: HostRuntime) -> ExitCode {
     if let Some(status) = helper_status(&rt, &words) {
         return ExitCode::from(status);
     }
-    if is_serve(&words) {
+    if is_command(&words, "storm") {
+        let status = storm_status(&rt, rt, &words);
+        tell(&rt, meaning(status));
+        return ExitCode::from(status);
+    }
+    if is_command(&words, "serve") {
         let status = serve_status(&rt, rt, &words);
         tell(&rt, serve_meaning(status));
         return ExitCode::from(status);
