@@ -1,4 +1,5 @@
 //! The files of cases, and the topic of each.
+use crate::host_cases::Hosts;
 use crate::script_cases::{Command, run_scripts};
 use crate::serve_cases::Serves;
 use std::hash::RandomState;
@@ -7,7 +8,6 @@ use std::rt::Files;
 use std::{fs, io};
 use up_case_audits::Audits;
 use up_case_files::{CacheLines, ClientLines, CopyLines, TerminalLines};
-use up_case_hosts::Hosts;
 use up_case_lines::{File, Tally, run_lines};
 use up_case_logs::{Crashes, Fields, Logs, Moves, Records};
 use up_case_texts::{

@@ -16,6 +16,8 @@ pub enum Line<'a> {
     Open(&'a str, &'a str),
     /// What is asked in a session.
     Ask(&'a str, &'a str),
+    /// What is copied as a session's user, over a connection of its own.
+    Copy(&'a str, &'a str),
     /// What the line before it prints.
     Prints(&'a str),
     /// It says nothing.
@@ -44,14 +46,14 @@ pub fn line_of(line: &str) -> Line<'_> {
         "#" => Line::Nothing,
         "enrol" => Line::Enrol(rest),
         "=" => Line::Prints(rest),
-        "open" => session_of(rest),
+        "open" => match rest.split_once(' ') {
+            Some((number, user)) => Line::Open(number, user),
+            None => Line::Nothing,
+        },
+        "copy" => match rest.split_once(' ') {
+            Some((number, paths)) => Line::Copy(number, paths),
+            None => Line::Nothing,
+        },
         _ => Line::Ask(first, rest),
-    }
-}
-
-fn session_of(rest: &str) -> Line<'_> {
-    match rest.split_once(' ') {
-        Some((number, user)) => Line::Open(number, user),
-        None => Line::Nothing,
     }
 }

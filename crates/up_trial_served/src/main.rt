@@ -1,6 +1,7 @@
 //! A server and its clients in one process, over loopback: each worked example of `examples.txt` is asked of a new server, one client for
 //! each session, and each reply has to be the one that stands there. In the file a line `enrol USER KEY` is one of the server's file of users,
-//! `open N USER` makes a session, `N ..` is a line of `upspin client` in it, and a line behind `= ` is what the line before it prints.
+//! `open N USER` makes a session, `N ..` is a line of `upspin client` in it, `copy N PATH ..` is `upspin copy` of these paths as its user, and
+//! a line behind `= ` is what the line before it prints.
 //!
 //! The program is the server's and the clients' helper too: its words are then `verify ..` or `sign ..`. It prints how many examples and lines
 //! there were, and before that each line whose reply is another one; its status is 1 where there is one, or where an example could not be run.

@@ -23,7 +23,7 @@ pub fn run<R: Threads + Wait + Clock + Sync>(
 ) -> io::Result<(u64, u64)> {
     clear(rt);
     write_users(rt, example)?;
-    let words = words(rt, helper, sessions_in(example))?;
+    let words = words(rt, helper, connections_of(example))?;
     let (hears, says) = pipe(&rt)?;
     let (status, tried) = join(
         threads,
@@ -63,13 +63,15 @@ fn add_line(text: &mut String, line: &str) -> io::Result<()> {
     Ok(())
 }
 
-/// How many sessions of an example ask something: so many connections come.
-fn sessions_in(example: Example<'_>) -> u64 {
+/// How many connections come: one of each session that asks something, and one of each line that copies.
+fn connections_of(example: Example<'_>) -> u64 {
     let mut count: u64 = 0;
     for line in example.lines.lines() {
-        if let Line::Open(number, _) = line_of(line) {
-            count = count.saturating_add(u64::from(asks(example, number)));
-        }
+        count = count.saturating_add(match line_of(line) {
+            Line::Open(number, _) => u64::from(asks(example, number)),
+            Line::Copy(_, _) => 1,
+            _ => 0,
+        });
     }
     count
 }

@@ -2,6 +2,7 @@
 use crate::example::Line;
 use std::io;
 use std::io::ErrorKind;
+use up_cache::copy_run;
 use up_ends::{MemSink, MemSource};
 use up_lists::Items;
 use up_names::{User, parse_user};
@@ -69,6 +70,12 @@ impl Tried {
         Ok(())
     }
 
+    fn asks(&mut self, rt: HostRuntime) -> io::Result<()> {
+        self.settle(rt)?;
+        self.lines = self.lines.saturating_add(1);
+        Ok(())
+    }
+
     fn prints(&mut self, session: &str, line: &str) -> io::Result<()> {
         self.printed.push_str(session)?;
         self.printed.push(' ')?;
@@ -98,6 +105,7 @@ impl<'a> Sessions<'a> {
         match line {
             Line::Open(number, user) => self.open(number, user),
             Line::Ask(number, words) => self.ask(number, words, tried),
+            Line::Copy(number, paths) => self.copy(number, paths, tried),
             Line::Prints(text) => tried.wants(text),
             Line::Enrol(_) | Line::Nothing => Ok(()),
         }
@@ -137,12 +145,24 @@ impl<'a> Sessions<'a> {
 
     /// Asks a line in a session, and keeps what it prints.
     fn ask(&mut self, number: &str, words: &str, tried: &mut Tried) -> io::Result<()> {
-        tried.settle(self.rt)?;
-        tried.lines = tried.lines.saturating_add(1);
+        tried.asks(self.rt)?;
         let rt = self.rt;
         for session in self.all.iter_mut() {
             if session.number.as_str() == number {
                 let text = session.answer(rt, words)?;
+                return tell(tried, number, text.as_str());
+            }
+        }
+        tried.prints(number, "nosession")
+    }
+
+    /// Copies these paths as the user of a session, over a connection of its own, and keeps what that prints.
+    fn copy(&self, number: &str, paths: &str, tried: &mut Tried) -> io::Result<()> {
+        tried.asks(self.rt)?;
+        for session in self.all.iter() {
+            if session.number.as_str() == number {
+                let mut server = self.dialled(session.user.as_str())?;
+                let text = session.copied(self.rt, paths, &mut server)?;
                 return tell(tried, number, text.as_str());
             }
         }
@@ -164,7 +184,7 @@ impl Session {
         let bytes = line.as_bytes().to_vec(alloc)?;
         let mut source = MemSource::new(bytes, Items::new(alloc), Items::new(alloc));
         let mut sink = MemSink::new(alloc, Items::new(alloc));
-        let words = self.words(rt)?;
+        let words = self.words(rt, "client")?;
         let _ = client_run(
             alloc,
             words.as_slice(),
@@ -172,17 +192,39 @@ impl Session {
             &mut sink,
             &mut self.server,
         );
-        match std::str::from_utf8(sink.bytes()) {
-            Ok(text) => Ok(String::from_str(alloc, text)?),
-            Err(_) => Err(other()),
-        }
+        written(rt, &sink)
     }
 
-    fn words(&self, rt: HostRuntime) -> io::Result<Vec<String>> {
+    /// What `upspin copy` of these paths prints.
+    fn copied(
+        &self,
+        rt: HostRuntime,
+        paths: &str,
+        server: &mut SocketAsk<HostRuntime>,
+    ) -> io::Result<String> {
+        let alloc = rt.alloc();
+        let mut sink = MemSink::new(alloc, Items::new(alloc));
+        let mut words = self.words(rt, "copy")?;
+        for path in paths.split(' ') {
+            words.push(String::from_str(alloc, path)?)?;
+        }
+        let _ = copy_run(alloc, words.as_slice(), server, &mut sink);
+        written(rt, &sink)
+    }
+
+    fn words(&self, rt: HostRuntime, command: &str) -> io::Result<Vec<String>> {
         let mut words = Vec::new(rt.alloc());
-        for word in ["client", "home@127.0.0.1", "helper", self.user.as_str()] {
+        for word in [command, "home@127.0.0.1", "helper", self.user.as_str()] {
             words.push(String::from_str(rt.alloc(), word)?)?;
         }
         Ok(words)
+    }
+}
+
+/// The text that was written.
+fn written(rt: HostRuntime, sink: &MemSink) -> io::Result<String> {
+    match std::str::from_utf8(sink.bytes()) {
+        Ok(text) => Ok(String::from_str(rt.alloc(), text)?),
+        Err(_) => Err(other()),
     }
 }

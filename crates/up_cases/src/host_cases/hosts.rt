@@ -2,14 +2,14 @@
 //! opens another one of its name, has it serve as a peer, or takes its disks.
 ghost use Rattle.std.specs.Prelude.{◌<◌, length, IfSome};
 
-use crate::asking::ask_alone;
-use crate::direct::direct_line;
-use crate::lines::{enrol_line, key_line, text_line};
-use crate::opening::{add_sizes, host_over, new_host};
-use crate::peers::{Has, Kind, Told, ask_peer, ask_with, has_of, kind_of, tree};
-use crate::talking::{failing_line, many_line, prefixes_line, talk_line};
-use crate::waiting::waits_line;
-use crate::words::cut;
+use crate::host_cases::asking::ask_alone;
+use crate::host_cases::direct::direct_line;
+use crate::host_cases::lines::{enrol_line, key_line, text_line};
+use crate::host_cases::opening::{add_sizes, host_over, new_host};
+use crate::host_cases::peers::{Has, Kind, Told, ask_peer, ask_with, has_of, kind_of, tree};
+use crate::host_cases::talking::{failing_line, many_line, prefixes_line, talk_line};
+use crate::host_cases::waiting::waits_line;
+use crate::host_cases::words::cut;
 use std::alloc::Global;
 use std::hash::RandomState;
 use std::mem;

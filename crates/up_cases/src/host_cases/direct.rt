@@ -1,6 +1,6 @@
 //! The requests of a connection, asked of the host itself.
-use crate::asking::event_of;
-use crate::sessions::session_of;
+use crate::host_cases::asking::event_of;
+use crate::host_cases::sessions::session_of;
 use std::alloc::{AllocError, Global};
 use up_bytes::{Fields, Writer};
 use up_case_lines::{Answer, Fault, Words, bytes_of_digits};

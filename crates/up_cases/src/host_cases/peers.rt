@@ -1,6 +1,6 @@
 //! Peers as words tell them, and what is asked of a host that has them.
-use crate::asking::ask;
-use crate::words::cut;
+use crate::host_cases::asking::ask;
+use crate::host_cases::words::cut;
 use std::alloc::Global;
 use up_bytes::Bytes;
 use up_case_lines::{Answer, Fault, Words, bytes_of, number_of, path_of, user_of};

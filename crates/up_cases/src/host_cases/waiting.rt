@@ -5,8 +5,8 @@ ghost use Rattle.std.specs.Io.KnownBytes.{ReadConsumes, WriteAppends};
 ghost use Rattle.up_ends.specs.Sources.{CountsGiven};
 ghost use Rattle.up_lists.specs.Counts.{HasCause, StaysUnless};
 
-use crate::talking::{add_end, yes_connection};
-use crate::words::cut;
+use crate::host_cases::talking::{add_end, yes_connection};
+use crate::host_cases::words::cut;
 use std::alloc::{AllocError, Global};
 use std::cell::Cell;
 use up_case_lines::{Answer, Fault, Words, bytes_of_digits, number_of};

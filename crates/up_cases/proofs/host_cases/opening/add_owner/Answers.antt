@@ -1,7 +1,7 @@
 use Rattle.std.proofs.Common.{◌≡◌, false, sym, ap, subst, ◌∙◌, bytes_eq}
 use Rattle.std.specs.List.{IsDistinct, list_any}
-use Rattle.up_case_hosts.proofs.OwnerLemmas.{differs}
-use Rattle.up_case_hosts.proofs.opening.add_owner.Goals as goal
+use Rattle.up_cases.proofs.OwnerLemmas.{differs}
+use Rattle.up_cases.proofs.host_cases.opening.add_owner.Goals as goal
 
 pub returns-clause-distinct : goal.returns-clause-distinct
 returns-clause-distinct c =

@@ -2,7 +2,7 @@
 ghost use Rattle.std.specs.Prelude.{◌≡◌, true};
 ghost use Rattle.up_keys.specs.Records.{has_bounds};
 
-use crate::events::add_reply;
+use crate::host_cases::events::add_reply;
 use std::alloc::Global;
 use up_case_lines::{Answer, Fault, Words, bytes_of, path_of, user_of};
 use up_case_logs::add_appended;

@@ -1,7 +1,7 @@
 //! What a user asks of a host.
-use crate::events::{add_event, add_reply};
-use crate::requests::{File, file_request, line_request, store_request};
-use crate::sessions::session_of;
+use crate::host_cases::events::{add_event, add_reply};
+use crate::host_cases::requests::{File, file_request, line_request, store_request};
+use crate::host_cases::sessions::session_of;
 use std::alloc::Global;
 use up_case_lines::{Answer, Fault, Words};
 use up_disk::MemDisk;

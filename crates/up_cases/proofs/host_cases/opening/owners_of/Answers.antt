@@ -1,8 +1,8 @@
 use Rattle.std.proofs.Common.{◌≡◌, false, sym, subst, bytes_eq}
 use Rattle.std.specs.List.{AllByRecursion, IsDistinct}
-use Rattle.up_case_hosts.proofs.OwnerLemmas.{none_differ}
+use Rattle.up_cases.proofs.OwnerLemmas.{none_differ}
 use Rattle.up_policy.specs.Trees.{owns_snapshots}
-use Rattle.up_case_hosts.proofs.opening.owners_of.Goals as goal
+use Rattle.up_cases.proofs.host_cases.opening.owners_of.Goals as goal
 
 pub returns-then-eq-clause-distinct : goal.returns-then-eq-clause-distinct
 returns-then-eq-clause-distinct c = subst (IsDistinct bytes_eq) (sym c.new-owners.ensures) none_differ

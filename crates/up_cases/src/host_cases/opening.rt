@@ -4,7 +4,7 @@ ghost use Rattle.std.specs.List.{AllByRecursion, IsDistinct};
 ghost use Rattle.std.specs.Str.{bytes_eq};
 ghost use Rattle.up_policy.specs.Trees.{owns_snapshots};
 
-use crate::words::cut;
+use crate::host_cases::words::cut;
 use std::alloc::Global;
 use std::hash::RandomState;
 use up_case_lines::{Answer, Fault, Words, number_of, user_of};
