@@ -2,6 +2,7 @@
 use crate::host_cases::Hosts;
 use crate::script_cases::{Command, run_scripts};
 use crate::serve_cases::Serves;
+use crate::share_cases::Shares;
 use std::hash::RandomState;
 use std::random::RandomSource;
 use std::rt::Files;
@@ -119,6 +120,7 @@ fn run_hashed<R: AllocGlobal + Print>(
         "globs" | "steps" | "watches" => run_lines(rt, file, Asked::new(random), tally),
         "rights" => run_lines(rt, file, Rights::new(random), tally),
         "serves" => run_lines(rt, file, Serves::new(random), tally),
+        "shares" => run_lines(rt, file, Shares::new(rt.alloc(), random), tally),
         "worlds" => run_lines(rt, file, Worlds::new(random), tally),
         _ => {
             tally.fail();

@@ -9,6 +9,7 @@ mod files;
 mod host_cases;
 mod script_cases;
 mod serve_cases;
+mod share_cases;
 
 use std::rt::Env;
 use std::{env, io};
