@@ -33,12 +33,12 @@ use Rattle.up_wire.specs.declared.replies.Reply.TheVariants as reply
 use Rattle.up_wire.specs.declared.requests.Request.{Request}
 use Rattle.up_command.specs.Printed.{all_numbered, ended, got_lines, numbered, put_lines}
 use Rattle.up_command.specs.Words.{call_path}
-use Rattle.up_script.specs.ScriptLines.{line_of}
-use Rattle.up_script.specs.declared.script_lines.NewHost.{NewHost}
-use Rattle.up_script.specs.declared.script_lines.NewSession.{NewSession}
-use Rattle.up_script.specs.declared.script_lines.NewUser.{NewUser}
-use Rattle.up_script.specs.declared.script_lines.ScriptLine.{ScriptLine}
-use Rattle.up_script.specs.declared.script_lines.ScriptLine.TheVariants as lines
+use Rattle.up_script_lines.specs.ScriptLines.{line_of}
+use Rattle.up_script_lines.specs.declared.script_lines.NewHost.{NewHost}
+use Rattle.up_script_lines.specs.declared.script_lines.NewSession.{NewSession}
+use Rattle.up_script_lines.specs.declared.script_lines.NewUser.{NewUser}
+use Rattle.up_script_lines.specs.declared.script_lines.ScriptLine.{ScriptLine}
+use Rattle.up_script_lines.specs.declared.script_lines.ScriptLine.TheVariants as lines
 use Rattle.up_script.specs.declared.stop.LineStop.{LineStop}
 use Rattle.up_script.specs.declared.stop.LineStop.TheVariants as stop
 

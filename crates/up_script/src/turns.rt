@@ -6,15 +6,16 @@ ghost use Rattle.up_command.specs.Words.{call_path, is_key};
 ghost use Rattle.up_sessions.specs.Fitting.{IsFit};
 ghost use Rattle.up_sessions.specs.Others.{has_tree};
 ghost use Rattle.up_sessions.specs.Worlds.{session_at};
-ghost use Rattle.up_script.specs.ScriptLines.{are_owners};
+ghost use Rattle.up_script_lines.specs.ScriptLines.{are_owners};
 ghost use Rattle.up_script.specs.ScriptRuns.{Turned};
 ghost use Rattle.up_script.specs.Scripts.{AskCame, CallCame, EnrolCame, HostCame, LineCame, OpenCame, SaysCame, got_said, is_new, place_of, put_said, replied};
-ghost use Rattle.up_script.specs.Standing.{AreHostLimits, AskSomething, parties, world};
+ghost use Rattle.up_script.specs.Standing.{AreHostLimits, parties, world};
+ghost use Rattle.up_script_lines.specs.Askable.{AskSomething};
 ghost use Rattle.up_script.specs.Turns.{IsGood, enrol_said, host_said, sign_said};
 ghost use Rattle.up_text.specs.ClientFaults.{fault_lines};
 ghost use Rattle.up_text.specs.Replies.{reply_lines};
 
-use crate::script_lines::{NewHost, NewSession, NewUser, ScriptLine, script_line};
+
 use crate::stop::LineStop;
 use std::alloc::{AllocError, Global};
 use up_bytes::Bytes;
@@ -25,6 +26,7 @@ use up_ends::{Clock, Nonces, Verifier};
 use up_journal::{AppendWhy, Limits};
 use up_names::{Path, User};
 use up_peer::Loader;
+use up_script_lines::{NewHost, NewSession, NewUser, ScriptLine, script_line};
 use up_sessions::{LineFault, Sessions};
 use up_sign::HostName;
 use up_text::{ClientLine, read_request};
