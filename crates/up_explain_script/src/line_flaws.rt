@@ -162,17 +162,17 @@ fn judge_key(alloc: Global, word: &[u8]) -> Result<(), Why> {
             drop(key);
             Ok(())
         }
-        None => Err(bad_word(alloc, word, key_flaw(word))),
+        None => Err(bad_key(alloc, word)),
     }
 }
 
-/// What is wrong with a word that stands for no key.
-fn key_flaw(word: &[u8]) -> Flaw {
+/// Why a word stands for no key.
+fn bad_key(alloc: Global, word: &[u8]) -> Why {
     if word == b"-".as_slice() {
-        Flaw::KeyEmpty
+        bad_word(alloc, b"", Flaw::KeyEmpty)
     } else if word.len() > LONGEST_KEY {
-        Flaw::KeyLong
+        bad_word(alloc, word, Flaw::KeyLong)
     } else {
-        Flaw::Percent
+        bad_word(alloc, word, Flaw::Percent)
     }
 }

@@ -15,7 +15,6 @@ ghost use Rattle.up_script.specs.Turns.{IsGood, enrol_said, host_said, sign_said
 ghost use Rattle.up_text.specs.ClientFaults.{fault_lines};
 ghost use Rattle.up_text.specs.Replies.{reply_lines};
 
-
 use crate::stop::LineStop;
 use std::alloc::{AllocError, Global};
 use up_bytes::Bytes;
