@@ -35,8 +35,13 @@ pub(crate) fn take(alloc: Global, hosts: &mut Items<NewHost>, says: ScriptLine) 
             drop(session);
             known
         }
-        other => {
-            drop(other);
+        ScriptLine::Silent => Ok(()),
+        ScriptLine::Request(_, words) => {
+            drop(words);
+            Ok(())
+        }
+        ScriptLine::Client(_, call) => {
+            drop(call);
             Ok(())
         }
     }
