@@ -17,6 +17,7 @@ use Rattle.up_host.specs.Settled.{owner_of}
 use Rattle.up_host.specs.declared.held.Held.{Held}
 use Rattle.up_journal.specs.declared.limits.Limits.{Limits}
 use Rattle.up_lists.specs.Runs.{Run}
+use Rattle.up_names.proofs.CutLemmas.{list_any-placed}
 use Rattle.up_names.specs.Texts.{Text, UserName}
 use Rattle.up_script.specs.ScriptAnswers.{Means, among}
 use Rattle.up_script_lines.specs.ScriptLines.{has_user, line_of}
@@ -61,11 +62,11 @@ any_alike p q same (x ∷ xs) = ap (λ b. b || list_any p xs) (same x) ∙ ap (�
 
 found_any : {X : Type 0} (test : X → Bool) (xs : List X) → is_some (find test xs) ≡ list_any test xs
 found_any test [] = refl
-found_any test (x ∷ xs) = by (test x)
+found_any test (x ∷ xs) = by (test x) (found_any test xs)
   where
-    by : (b : Bool) → is_some (cond b (Some x) (find test xs)) ≡ (b || list_any test xs)
-    by true = refl
-    by false = found_any test xs
+    by : (b : Bool) → is_some (find test xs) ≡ list_any test xs → is_some (cond b (Some x) (find test xs)) ≡ (b || list_any test xs)
+    by true rest = refl
+    by false rest = rest
 
 map_set : {X Y : Type 0} (f : X → Y) (xs : List X) (place : ℕ) (before after : X) → slice_get xs place ≡ Some before → f after ≡ f before → map f (slice_set xs place after) ≡ map f xs
 map_set f [] place before after there same = absurd (cc)
@@ -74,12 +75,7 @@ map_set f (x ∷ xs) (suc place) before after there same = ap (λ ys. f x ∷ ys
 
 -- the place of the first element that passes is there where one passes
 placed : {X : Type 0} (test : X → Bool) (xs : List X) → nat_lt (position_or_len test xs) (length xs) ≡ list_any test xs
-placed test [] = refl
-placed test (x ∷ xs) = by (test x)
-  where
-    by : (b : Bool) → nat_lt (cond (not b) (suc (position_or_len test xs)) 0) (suc (length xs)) ≡ (b || list_any test xs)
-    by true = refl
-    by false = placed test xs
+placed test xs = sym (list_any-placed test xs)
 
 unplaced : {X : Type 0} (test : X → Bool) (xs : List X) → is_none (position test xs) ≡ not (list_any test xs)
 unplaced test xs = by (nat_lt (position_or_len test xs) (length xs)) refl
@@ -92,8 +88,11 @@ not_not : (b : Bool) → not (not b) ≡ b
 not_not true = refl
 not_not false = refl
 
-pair_of : {X Y : Type 0} {a b : X} {c d : Y} → a ≡ b → c ≡ d → (a, c) ≡ (b, d)
-pair_of {b = b} {c = c} one other = ap (λ x. (x, c)) one ∙ ap (λ y. (b, y)) other
+pair_of : {X Y : Type 0} {a b : X} {c d : Y} → a ≡ b → c ≡ d → ◌≡◌ {A = X × Y} (a, c) (b, d)
+pair_of {X} {Y} {a} {b} {c} {d} one other = subst (λ y. ◌≡◌ {A = X × Y} (a, c) (b, y)) other (subst (λ x. ◌≡◌ {A = X × Y} (a, c) (x, c)) one refl)
+
+first_number : (number : ℕ) → number ≡ 0 + number
+first_number number = omega arith
 
 next_number : (n number : ℕ) → n + (number + 1) ≡ suc n + number
 next_number n number = omega arith
@@ -112,6 +111,12 @@ has_name all name = list_any (λ one. bytes_eq one.0 name) all
 abbrev has_owner : List Seen → UserName → Bool
 has_owner all owner = list_any (λ one. has_user one.1 owner) all
 
+named_names : (hosts : List NewHost) (name : Text) → told.has_host hosts name ≡ has_name (map named hosts) name
+named_names hosts name = sym (any_map (λ one. bytes_eq one.0 name) named hosts)
+
+named_owners : (hosts : List NewHost) (owner : UserName) → told.has_tree hosts owner ≡ has_owner (map named hosts) owner
+named_owners hosts owner = sym (any_map (λ one. has_user one.1 owner) named hosts)
+
 module _ {D : Type 0} where
   abbrev seen : HostState D → Seen
   seen host = (host.name, map owner_of host.trees)
@@ -119,12 +124,6 @@ module _ {D : Type 0} where
   -- the hosts that were named are those that are open
   abbrev Same : List NewHost → Hosts D → Type 0
   Same hosts x = map seen x.hosts ≡ map named hosts
-
-  named_names : (hosts : List NewHost) (name : Text) → told.has_host hosts name ≡ has_name (map named hosts) name
-  named_names hosts name = sym (any_map (λ one. bytes_eq one.0 name) named hosts)
-
-  named_owners : (hosts : List NewHost) (owner : UserName) → told.has_tree hosts owner ≡ has_owner (map named hosts) owner
-  named_owners hosts owner = sym (any_map (λ one. has_user one.1 owner) named hosts)
 
   seen_names : (x : Hosts D) (name : Text) → list_any (is_named name) x.hosts ≡ has_name (map seen x.hosts) name
   seen_names x name = sym (any_map (λ one. bytes_eq one.0 name) seen x.hosts)
@@ -143,7 +142,7 @@ module _ {D : Type 0} where
   same_owners hosts x same owner = seen_owners x owner ∙ (ap (λ all. has_owner all owner) same ∙ sym (named_owners hosts owner))
 
   same_size : (hosts : List NewHost) (x : Hosts D) → Same hosts x → length x.hosts ≡ length hosts
-  same_size hosts x same = sym (length-map seen x.hosts) ∙ (ap length same ∙ length-map named hosts)
+  same_size hosts x same = sym (length-map x.hosts seen) ∙ (ap length same ∙ length-map hosts named)
 
   no_place : (x : Hosts D) (name : Text) → is_none (place_of x name) ≡ not (list_any (is_named name) x.hosts)
   no_place x name = unplaced (is_named name) x.hosts
@@ -270,7 +269,7 @@ module _ {D P V C N : Type 0} (who : Parties D P V C N) (limits : Limits) where
   done_lines : (number : ℕ) (hosts : List NewHost) (a last : World D P V C N) (done left : List Text) (dids : List Did) → Same hosts a.state → Run (LineDoes who limits) a done dids last
       → (next : List NewHost) × ((bad_from line_behind number hosts (done ++ left) ≡ bad_from line_behind (length done + number) next left) × Same next last.state)
   unfolding bad_from
-  done_lines number hosts a last [] left [] same run = (hosts, (refl, ap (λ w. map seen w.state.hosts) run ∙ same))
+  done_lines number hosts a last [] left [] same run = (hosts, (ap (λ n. bad_from line_behind n hosts left) (first_number number), ap (λ w. map seen w.state.hosts) run ∙ same))
   done_lines number hosts a last (line ∷ done) left (did ∷ dids) same run =
       let one = line_agrees hosts a run.0 line (Ok did) same run.1.0 in
       let rest = done_lines (number + 1) one.0 run.0 last done left dids one.1.1 run.1.1 in
