@@ -1,5 +1,5 @@
 -- The hosts that the good lines of a script have named are those that its run has opened.
-use Rattle.std.proofs.Common.{◌≡◌, ◌≢◌, ℕ, zero, suc, ◌+◌, Bool, true, false, not, ◌&&◌, ◌||◌, nat_lt, cond, List, [], ◌∷◌, ◌++◌, length, map, Option, Some, None, is_none, is_some, Result, Ok, Err, arith, refl, sym, ap, subst, ◌∙◌, append_assoc}
+use Rattle.std.proofs.Common.{◌≡◌, ℕ, zero, suc, ◌+◌, Bool, true, false, not, ◌&&◌, ◌||◌, nat_lt, cond, List, [], ◌∷◌, ◌++◌, length, map, Option, Some, None, is_none, is_some, Result, Ok, Err, arith, refl, sym, ap, subst, ◌∙◌}
 use Rattle.std.proofs.lemmas.List.{length-map, map-append}
 use Rattle.std.specs.List.{find, list_all, list_any, position, position_or_len}
 use Rattle.std.specs.Option.{option_and_then}
@@ -11,7 +11,7 @@ use Rattle.up_client.specs.declared.fault.ClientFault.TheVariants as client
 use Rattle.up_command.specs.Printed.{bad_line}
 use Rattle.up_disk.specs.declared.disk.Disk.{Ghosts}
 use Rattle.up_explain_can.specs.Explaining.{bad_from, number_if, stands}
-use Rattle.up_host.specs.Alone.{HostState, is_of, tree_for}
+use Rattle.up_host.specs.Alone.{HostState, is_of}
 use Rattle.up_host.specs.Opens.{OpensTrees}
 use Rattle.up_host.specs.Settled.{owner_of}
 use Rattle.up_host.specs.declared.held.Held.{Held}
@@ -20,7 +20,7 @@ use Rattle.up_lists.specs.Runs.{Run}
 use Rattle.up_names.proofs.CutLemmas.{list_any-placed}
 use Rattle.up_names.specs.Texts.{Text, UserName}
 use Rattle.up_script.specs.ScriptAnswers.{Means, among}
-use Rattle.up_script_lines.specs.ScriptLines.{has_user, line_of}
+use Rattle.up_script_lines.specs.ScriptLines.{has_user}
 use Rattle.up_script.specs.ScriptRuns.{Ends, LineDoes, Scripted, is_cut, printed}
 use Rattle.up_script.specs.Scripts.{AskCame, CallCame, CallDone, Came, Did, EnrolCame, HostCame, LineCame, OpenCame, SaysCame, got_said, place_of, put_said, replied}
 use Rattle.up_script.specs.Scripts as script
@@ -30,7 +30,6 @@ use Rattle.up_script_lines.specs.declared.script_lines.NewSession.{NewSession}
 use Rattle.up_script_lines.specs.declared.script_lines.NewUser.{NewUser}
 use Rattle.up_script_lines.specs.declared.script_lines.ScriptLine.{ScriptLine}
 use Rattle.up_script_lines.specs.declared.script_lines.ScriptLine.TheVariants as lines
-use Rattle.up_script.specs.declared.stop.LineStop.{LineStop}
 use Rattle.up_script.specs.declared.stop.LineStop.TheVariants as stop
 use Rattle.up_sessions.specs.Others.{has_tree}
 use Rattle.up_sessions.specs.Signing.{Signed, signed_on}
