@@ -31,11 +31,11 @@ use Rattle.up_script.proofs.LineLemmas.{Kept, kept_of}
 use Rattle.up_script.specs.ScriptAnswers.{among}
 use Rattle.up_script.specs.Scripts.{AskCame, CallCame, CallDone, Came, Did, EnrolCame, HostCame, LineCame, OpenCame, SaysCame, got_said, put_said, replied, signed}
 use Rattle.up_script.specs.Standing.{world}
-use Rattle.up_script.specs.declared.script_lines.NewHost.{NewHost}
-use Rattle.up_script.specs.declared.script_lines.NewSession.{NewSession}
-use Rattle.up_script.specs.declared.script_lines.NewUser.{NewUser}
-use Rattle.up_script.specs.declared.script_lines.ScriptLine.{ScriptLine}
-use Rattle.up_script.specs.declared.script_lines.ScriptLine.TheVariants as lines
+use Rattle.up_script_lines.specs.declared.script_lines.NewHost.{NewHost}
+use Rattle.up_script_lines.specs.declared.script_lines.NewSession.{NewSession}
+use Rattle.up_script_lines.specs.declared.script_lines.NewUser.{NewUser}
+use Rattle.up_script_lines.specs.declared.script_lines.ScriptLine.{ScriptLine}
+use Rattle.up_script_lines.specs.declared.script_lines.ScriptLine.TheVariants as lines
 use Rattle.up_script.specs.declared.stop.LineStop.TheVariants as stop
 
 -- the lines `io` of what is said of a reply

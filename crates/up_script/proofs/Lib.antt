@@ -1,7 +1,7 @@
-pub mod UserListLemmas
 pub mod OwnerLemmas
 pub mod LineLemmas
 pub mod FactLemmas
 pub mod RunningLemmas
 pub mod TurnLemmas
 pub mod ScriptRunLemmas
+mod TieLemmas

@@ -14,9 +14,9 @@ use Rattle.up_text.specs.Words.{decoded}
 use Rattle.up_text.specs.declared.requests.ClientLine.{ClientLine}
 use Rattle.up_command.specs.Words.{is_key, key_named, user_named}
 use Rattle.up_sign.specs.HostNames.{host_named}
-use Rattle.up_script.specs.ScriptLines.{are_owners, asked_line, enrol_line, host_line, if_owners, line_of, open_line, session_line, session_named, trees_named, users_named, words_line}
-use Rattle.up_script.specs.declared.script_lines.ScriptLine.{ScriptLine}
-use Rattle.up_script.specs.declared.script_lines.ScriptLine.TheVariants as lines
+use Rattle.up_script_lines.specs.ScriptLines.{are_owners, asked_line, enrol_line, host_line, if_owners, line_of, open_line, session_line, session_named, trees_named, users_named, words_line}
+use Rattle.up_script_lines.specs.declared.script_lines.ScriptLine.{ScriptLine}
+use Rattle.up_script_lines.specs.declared.script_lines.ScriptLine.TheVariants as lines
 
 -- of two steps that give something together, each gives something
 pub record Steps {X Y : Type 0} (first : Option X) (next : X → Option Y) (y : Y) : Type 0 where

@@ -7,7 +7,7 @@ use Rattle.std.specs.Prelude.{nat_le, not}
 use Rattle.std.specs.Str.{bytes_eq}
 use Rattle.up_names.specs.Texts.{Text, UserName}
 use Rattle.up_policy.specs.Trees.{owns_snapshots}
-use Rattle.up_script.specs.ScriptLines.{are_different, are_owners, has_user}
+use Rattle.up_script_lines.specs.ScriptLines.{are_different, are_owners, has_user}
 
 pub owners_few : (owners : List UserName) → are_owners owners ≡ true → length owners ≤ 8
 owners_few owners is = leb-true (length owners) 8 (and_parts (nat_le (length owners) 8) _ (and_parts _ (are_different owners) is).0).0

@@ -39,18 +39,18 @@ use Rattle.up_wire.specs.declared.replies.Reply.TheVariants as reply
 use Rattle.up_wire.specs.declared.requests.Request.{Request}
 use Rattle.up_script.proofs.LineLemmas.{Good, good_of}
 use Rattle.up_script.proofs.OwnerLemmas.{owners_few}
-use Rattle.up_script.specs.ScriptLines.{are_owners, line_of}
+use Rattle.up_script_lines.specs.ScriptLines.{are_owners, line_of}
 use Rattle.up_script.specs.ScriptRuns.{Turned}
 use Rattle.up_command.specs.Printed.{all_numbered}
 use Rattle.up_command.specs.Words.{call_path}
 use Rattle.up_script.specs.Scripts.{AskCame, CallCame, CallDone, Came, Did, EnrolCame, HostCame, OpenCame, got_said, is_new, place_of, put_said, replied, said}
-use Rattle.up_script.specs.Standing.{IsAskable}
+use Rattle.up_script_lines.specs.Askable.{IsAskable}
 use Rattle.up_script.specs.Turns.{IsGood, enrol_said, host_said, sign_said}
-use Rattle.up_script.specs.declared.script_lines.NewHost.{NewHost}
-use Rattle.up_script.specs.declared.script_lines.NewSession.{NewSession}
-use Rattle.up_script.specs.declared.script_lines.NewUser.{NewUser}
-use Rattle.up_script.specs.declared.script_lines.ScriptLine.{ScriptLine}
-use Rattle.up_script.specs.declared.script_lines.ScriptLine.TheVariants as lines
+use Rattle.up_script_lines.specs.declared.script_lines.NewHost.{NewHost}
+use Rattle.up_script_lines.specs.declared.script_lines.NewSession.{NewSession}
+use Rattle.up_script_lines.specs.declared.script_lines.NewUser.{NewUser}
+use Rattle.up_script_lines.specs.declared.script_lines.ScriptLine.{ScriptLine}
+use Rattle.up_script_lines.specs.declared.script_lines.ScriptLine.TheVariants as lines
 use Rattle.up_script.specs.declared.stop.LineStop.{LineStop}
 use Rattle.up_script.specs.declared.stop.LineStop.TheVariants as stop
 

@@ -1,7 +1,7 @@
-pub mod ScriptLines
 pub mod Scripts
 pub mod ScriptRuns
 pub mod Standing
 pub mod ScriptAnswers
+pub mod ScriptEnds
 pub mod Facts
 pub mod Turns

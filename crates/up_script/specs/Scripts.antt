@@ -1,6 +1,6 @@
 -- What each line of a script does where the script stands, and what it prints. This project's own.
 use Rattle.std.specs.Prelude.{◌≡◌, ℕ, ℤ, Bool, true, false, not, nat_lt, ◌&&◌, List, [], ◌++◌, length, position, codes, decimal, Option, Some, None, Result, Ok, Err, is_none}
-use Rattle.std.specs.List.{flat_map, list_all, list_any}
+use Rattle.std.specs.List.{list_all, list_any}
 use Rattle.up_client.specs.declared.fault.ClientFault.{ClientFault}
 use Rattle.up_client.specs.declared.fault.ClientFault.TheVariants as client
 use Rattle.up_disk.specs.declared.disk.Disk as disk
@@ -33,12 +33,12 @@ use Rattle.up_wire.specs.declared.replies.Reply.TheVariants as reply
 use Rattle.up_wire.specs.declared.requests.Request.{Request}
 use Rattle.up_command.specs.Printed.{all_numbered, ended, got_lines, numbered, put_lines}
 use Rattle.up_command.specs.Words.{call_path}
-use Rattle.up_script.specs.ScriptLines.{line_of}
-use Rattle.up_script.specs.declared.script_lines.NewHost.{NewHost}
-use Rattle.up_script.specs.declared.script_lines.NewSession.{NewSession}
-use Rattle.up_script.specs.declared.script_lines.NewUser.{NewUser}
-use Rattle.up_script.specs.declared.script_lines.ScriptLine.{ScriptLine}
-use Rattle.up_script.specs.declared.script_lines.ScriptLine.TheVariants as lines
+use Rattle.up_script_lines.specs.ScriptLines.{line_of}
+use Rattle.up_script_lines.specs.declared.script_lines.NewHost.{NewHost}
+use Rattle.up_script_lines.specs.declared.script_lines.NewSession.{NewSession}
+use Rattle.up_script_lines.specs.declared.script_lines.NewUser.{NewUser}
+use Rattle.up_script_lines.specs.declared.script_lines.ScriptLine.{ScriptLine}
+use Rattle.up_script_lines.specs.declared.script_lines.ScriptLine.TheVariants as lines
 use Rattle.up_script.specs.declared.stop.LineStop.{LineStop}
 use Rattle.up_script.specs.declared.stop.LineStop.TheVariants as stop
 

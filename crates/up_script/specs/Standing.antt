@@ -1,5 +1,5 @@
 -- What calls on a script know of what it stands among. This project's own.
-use Rattle.std.specs.Prelude.{◌≡◌, ◌≤◌, true, List, [], is_some}
+use Rattle.std.specs.Prelude.{◌≤◌, List, []}
 use Rattle.up_disk.specs.declared.disk.Disk as disk
 use Rattle.up_ends.specs.declared.clock.Clock as clock
 use Rattle.up_ends.specs.declared.nonces.Nonces as nonces
@@ -7,12 +7,8 @@ use Rattle.up_ends.specs.declared.verifier.Verifier as verifier
 use Rattle.up_journal.specs.Journal.{AreLimits}
 use Rattle.up_journal.specs.declared.limits.Limits.{Limits}
 use Rattle.up_keys.specs.Records.{largest_room}
-use Rattle.up_names.specs.Texts.{Text, UserName}
 use Rattle.up_peer.specs.declared.loader.Loader as loader
 use Rattle.up_sessions.specs.Worlds.{Around, Hosts, Parties, World, no_session}
-use Rattle.up_text.specs.Requests.{request_of}
-use Rattle.up_script.specs.declared.script_lines.ScriptLine.{ScriptLine}
-use Rattle.up_script.specs.declared.script_lines.ScriptLine.TheVariants as lines
 
 -- what disks, peers, verifiers, clocks and nonces tell
 abbrev pub parties : {D P V C N : Type 0} → disk.Ghosts D → loader.Ghosts P → verifier.Ghosts V → clock.Ghosts C → nonces.Ghosts N → Parties D P V C N
@@ -39,16 +35,3 @@ script_limits = record { records = 1048576; device = 1073741824; largest = 13107
 -- before the first line there is no host and no session, and all disks are free
 abbrev pub at_first : {D : Type 0} → List D → Hosts D
 at_first disks = record { hosts = []; sessions = no_session; free = disks }
-
--- words ask something, whoever signed on
-abbrev pub AskSomething : List Text → Type 0
-AskSomething words = (user : UserName) → is_some (request_of user words) ≡ true
-
--- and so do those of a line that asks
-abbrev pub IsAskable : ScriptLine → Type 0
-IsAskable (lines.Request number words) = AskSomething words
-IsAskable lines.Silent = Unit {0}
-IsAskable (lines.Host host) = Unit {0}
-IsAskable (lines.Enrol user) = Unit {0}
-IsAskable (lines.Open session) = Unit {0}
-IsAskable (lines.Client number call) = Unit {0}

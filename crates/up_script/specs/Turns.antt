@@ -6,11 +6,11 @@ use Rattle.up_names.specs.Texts.{Text, UserName}
 use Rattle.up_sessions.specs.declared.fault.LineFault.{LineFault}
 use Rattle.up_sessions.specs.declared.fault.LineFault.TheVariants as fault
 use Rattle.up_command.specs.Words.{is_key}
-use Rattle.up_script.specs.ScriptLines.{are_owners}
+use Rattle.up_script_lines.specs.ScriptLines.{are_owners}
 use Rattle.up_script.specs.Scripts.{Came, Did, signed}
-use Rattle.up_script.specs.Standing.{AskSomething}
-use Rattle.up_script.specs.declared.script_lines.ScriptLine.{ScriptLine}
-use Rattle.up_script.specs.declared.script_lines.ScriptLine.TheVariants as lines
+use Rattle.up_script_lines.specs.Askable.{AskSomething}
+use Rattle.up_script_lines.specs.declared.script_lines.ScriptLine.{ScriptLine}
+use Rattle.up_script_lines.specs.declared.script_lines.ScriptLine.TheVariants as lines
 use Rattle.up_script.specs.declared.stop.LineStop.TheVariants as stop
 
 -- the trees of a host are few and of different users, a key has its bounds, a number is one of the hundred, and words ask something

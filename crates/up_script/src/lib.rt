@@ -7,14 +7,15 @@
 //! disks and peers failed, as long as their counts have not come to their end. Each status has its cause (`read_fault`,
 //! `write_fault`, `helper_fault`, `disk_fault`, `too_long`, `usage_only`), all disks come back in their places, and of each log a
 //! crash leaves that log, or it with its doubtful record. [`script_within`] is the same over any peers, with any limits of the hosts.
+//! [`script_ends_at_the_first`] ties each such run to the numbers that `upspin explain script` prints of its input.
 #![tactic(auto)]
 
+mod laws;
 mod script;
-mod script_lines;
 mod stop;
 mod turns;
 
+pub use laws::script_ends_at_the_first;
 pub use script::{script_run, script_within};
-pub use script_lines::{NewHost, NewSession, NewUser, ScriptLine};
 pub use stop::LineStop;
 pub use up_can::can_run;

@@ -46,7 +46,8 @@ fn status_of<R: Threads + Wait + Clock + Sync>(
         Command::Audit => reports::audit_status(&rt, words),
         Command::Share => reports::share_status(&rt, words),
         Command::Can => scripts::can_status(&rt, words),
-        Command::Explain => scripts::explain_status(&rt),
+        Command::ExplainCan => scripts::explain_can_status(&rt),
+        Command::ExplainScript => scripts::explain_script_status(&rt),
         Command::Script => scripts::script_status(&rt, words),
     }
 }

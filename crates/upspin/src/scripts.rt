@@ -5,6 +5,7 @@ use std::hash::RandomState;
 use up_disk::blank_disks;
 use up_ends::{StdSink, StdSource};
 use up_explain_can::explain_can;
+use up_explain_script::explain_script;
 use up_net::{HelperVerifier, HostClock, Machine, SeedNonces};
 use up_peer::Peers;
 use up_script::{can_run, script_run};
@@ -20,10 +21,17 @@ pub fn can_status(rt: &HostRuntime, words: &[String]) -> u8 {
 }
 
 /// Runs `upspin explain can`, and answers its status.
-pub fn explain_status(rt: &HostRuntime) -> u8 {
+pub fn explain_can_status(rt: &HostRuntime) -> u8 {
     let mut source = StdSource::new(rt.stdin());
     let mut sink = StdSink::new(rt.stdout());
     explain_can(rt.alloc(), &mut source, &mut sink)
+}
+
+/// Runs `upspin explain script`, and answers its status.
+pub fn explain_script_status(rt: &HostRuntime) -> u8 {
+    let mut source = StdSource::new(rt.stdin());
+    let mut sink = StdSink::new(rt.stdout());
+    explain_script(rt.alloc(), &mut source, &mut sink)
 }
 
 /// Runs `upspin script`, and answers its status. The words of no command get the usage line from it.

@@ -6,7 +6,7 @@ const VERSION: &str = "0.1";
 
 /// The commands, those too that the usage line has not, and where to read on.
 const COMMANDS: &str =
-    "can, script, explain can, serve, client, copy, audit, share, verify, sign (README.md says what each does)";
+    "can, script, explain can, explain script, serve, client, copy, audit, share, verify, sign (README.md says what each does)";
 
 /// The status where the words are not those of a command; the usage line was printed.
 const USAGE: u8 = 64;
@@ -21,7 +21,9 @@ pub fn tell(rt: &HostRuntime, command: Command, words: &[String], status: u8) {
         Command::Serve => serve_meaning(status),
         Command::Audit | Command::Share => report_meaning(status),
         Command::Can => can_meaning(status),
-        Command::Client | Command::Copy | Command::Explain | Command::Script => meaning(status),
+        Command::Script => script_meaning(status),
+        Command::ExplainCan | Command::ExplainScript => explain_meaning(status),
+        Command::Client | Command::Copy => meaning(status),
     };
     if let Some(line) = meaning {
         // Where even this line cannot be written, the status says it.
@@ -80,6 +82,24 @@ fn report_meaning(status: u8) -> Option<&'static str> {
 fn can_meaning(status: u8) -> Option<&'static str> {
     match status {
         1 => Some("upspin: a line is malformed: `upspin explain can` says why (docs/MISTAKES.md)"),
+        _ => meaning(status),
+    }
+}
+
+/// What a status of `script` means for people.
+fn script_meaning(status: u8) -> Option<&'static str> {
+    match status {
+        1 => Some(
+            "upspin: a line is malformed: `upspin explain script` says why (docs/MISTAKES.md)",
+        ),
+        _ => meaning(status),
+    }
+}
+
+/// What a status of `explain` means for people.
+fn explain_meaning(status: u8) -> Option<&'static str> {
+    match status {
+        1 => Some("upspin: these lines are malformed (docs/MISTAKES.md, docs/SCRIPTS.md)"),
         _ => meaning(status),
     }
 }

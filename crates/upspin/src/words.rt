@@ -13,7 +13,9 @@ pub enum Command {
     Share,
     Can,
     /// The words `explain can`, and no others.
-    Explain,
+    ExplainCan,
+    /// The words `explain script`, and no others.
+    ExplainScript,
     /// `script`, and the words of no command, which get the usage line from it.
     Script,
 }
@@ -47,7 +49,8 @@ pub fn command_of(words: &[String]) -> Command {
 
 fn explained(kind: &str) -> Command {
     match kind {
-        "can" => Command::Explain,
+        "can" => Command::ExplainCan,
+        "script" => Command::ExplainScript,
         _ => Command::Script,
     }
 }

@@ -1,7 +1,8 @@
 use Rattle.std.proofs.Common.{refl, subst, sym, ◌∙◌}
 use Rattle.std.specs.Prelude.{IfSome}
 use Rattle.up_script.specs.Scripts.{LineCame, SaysCame}
-use Rattle.up_script.specs.Standing.{IsAskable, parties, world}
+use Rattle.up_script.specs.Standing.{parties, world}
+use Rattle.up_script_lines.specs.Askable.{IsAskable}
 use Rattle.up_script.proofs.TurnLemmas.{good_line, unmade, weaker}
 use Rattle.up_script.proofs.turns.run_line.Goals as goal
 

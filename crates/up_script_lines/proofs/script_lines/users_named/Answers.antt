@@ -6,10 +6,10 @@ use Rattle.std.proofs.lemmas.Iterator.Consumers.{YieldsList-turn, YieldsList-end
 use Rattle.std.proofs.lemmas.Iterator.Splits.{YieldsList-from_slice_split}
 use Rattle.std.proofs.lemmas.List.{drop_all, drop_more, length_push}
 use Rattle.up_text.specs.Lists.{is_comma}
-use Rattle.up_script.specs.ScriptLines.{users_named}
-use Rattle.up_script.proofs.UserListLemmas.{UsersGoing, users_bad, users_end, users_step}
-use Rattle.up_script.proofs.script_lines.users_named.Goals as goal
-use Rattle.up_script.proofs.script_lines.users_named.Goals.{In-Some}
+use Rattle.up_script_lines.specs.ScriptLines.{users_named}
+use Rattle.up_script_lines.proofs.UserListLemmas.{UsersGoing, users_bad, users_end, users_step}
+use Rattle.up_script_lines.proofs.script_lines.users_named.Goals as goal
+use Rattle.up_script_lines.proofs.script_lines.users_named.Goals.{In-Some}
 
 -- the word of this turn is the next of the list
 ahead : (c : In-Some) → let all = slice_split is_comma c.args.list.now in

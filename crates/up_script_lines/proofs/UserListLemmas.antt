@@ -2,7 +2,7 @@
 use Rattle.std.proofs.Common.{◌≡◌, ℕ, List, [], ◌∷◌, ◌++◌, Option, Some, None, option_map, refl, sym, ap, ◌∙◌, append_assoc, append-nil}
 use Rattle.up_names.specs.Texts.{UserName}
 use Rattle.up_command.specs.Words.{◌>>=◌, user_named}
-use Rattle.up_script.specs.ScriptLines.{users_named}
+use Rattle.up_script_lines.specs.ScriptLines.{users_named}
 
 -- users, and others behind them if these are there
 abbrev pub behind : List UserName → Option (List UserName) → Option (List UserName)

@@ -7,8 +7,8 @@ ghost use Rattle.up_text.specs.Lines.{words_left};
 ghost use Rattle.up_text.specs.Lists.{is_comma};
 ghost use Rattle.up_text.specs.Words.{decoded};
 ghost use Rattle.up_command.specs.Words.{key_named, user_named};
-ghost use Rattle.up_script.specs.ScriptLines.{are_different, are_owners, enrol_line, host_line, line_of, open_line, session_line, session_named, trees_named, users_named};
-ghost use Rattle.up_script.specs.Standing.{IsAskable};
+ghost use Rattle.up_script_lines.specs.ScriptLines.{are_different, are_owners, enrol_line, host_line, line_of, open_line, session_line, session_named, trees_named, users_named};
+ghost use Rattle.up_script_lines.specs.Askable.{IsAskable};
 
 use std::alloc::{AllocError, Global};
 use up_bytes::Bytes;
@@ -248,7 +248,7 @@ fn four_words(words: Option<&[u8]>) -> Option<(&[u8], &[u8], &[u8], &[u8])>
 
 /// The number of a session that a word is.
 #[tactic(auto, unfolding(crate::specs::ScriptLines::session_named))]
-fn session_named(word: &[u8]) -> Option<u64>
+pub fn session_named(word: &[u8]) -> Option<u64>
     ensures { result ≡ session_named word.now }
 {
     let number = read_num(word)?;
@@ -313,7 +313,8 @@ fn are_plain(owners: &[User]) -> bool
     owners.iter().all(|owner| !owns_snapshots(owner))
 }
 
-fn owns_snapshots(owner: &User) -> bool
+/// Whether a user is a snapshot user.
+pub fn owns_snapshots(owner: &User) -> bool
     ensures { result ≡ owns_snapshots owner.now }
 {
     match owner.suffix() {

@@ -1,7 +1,7 @@
 -- What is left is different exactly where all is.
 use Rattle.std.proofs.Common.{◌≡◌, length}
-use Rattle.up_script.specs.ScriptLines.{are_different}
-use Rattle.up_script.proofs.script_lines.are_different.Given as goal
+use Rattle.up_script_lines.specs.ScriptLines.{are_different}
+use Rattle.up_script_lines.proofs.script_lines.are_different.Given as goal
 
 abbrev pub invariant-loop-first : goal.invariant-loop-first
 invariant-loop-first l = are_different l.left ≡ are_different l.fn.users
