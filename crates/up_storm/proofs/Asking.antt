@@ -1,5 +1,5 @@
 -- What one call of a session is made of.
-use Rattle.std.proofs.Common.{◌≡◌, ℕ, Bool, false, ◌++◌, refl, sym, ap, subst, ◌∙◌}
+use Rattle.std.proofs.Common.{◌≡◌, ℕ, Bool, false, ◌++◌, sym, ap, subst, ◌∙◌}
 use Rattle.up_calls.specs.Alike.{TellsNoMore}
 use Rattle.up_calls.specs.Answered.{Leaves, LoadsInRounds, Risen}
 use Rattle.up_calls.specs.Calls.{Asked}

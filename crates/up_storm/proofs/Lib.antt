@@ -9,3 +9,4 @@ pub mod PreparingLemmas
 pub mod ReadingLemmas
 pub mod Wholeness
 pub mod StormLemmas
+pub mod Ending

@@ -1,6 +1,6 @@
 -- The owners of a storm's trees are users by their names.
-use Rattle.std.proofs.Common.{◌≡◌, List, ◌∷◌, [], codes, refl, sym, subst, Bool, true, false}
-use Rattle.std.specs.Prelude.{Ok, Result, ⊤}
+use Rattle.std.proofs.Common.{◌≡◌, List, ◌∷◌, [], codes, refl, sym, subst}
+use Rattle.std.specs.Prelude.{Ok, Result}
 use Rattle.std.specs.List.{IsDistinct}
 use Rattle.std.specs.Str.{bytes_eq}
 use Rattle.up_names.specs.Texts.{UserName}

@@ -1,12 +1,9 @@
 -- Calls that prepare a host are added to a list, one after the other.
-use Rattle.std.proofs.Common.{◌≡◌, ℕ, zero, suc, ◌+◌, ◌-◌, ◌<◌, List, [], ◌∷◌, ◌++◌, refl, sym, ap, subst, ◌∙◌, append_assoc, append-nil, arith}
+use Rattle.std.proofs.Common.{◌≡◌, ℕ, suc, ◌+◌, ◌-◌, ◌<◌, List, [], ◌∷◌, ◌++◌, sym, ap, subst, ◌∙◌, append_assoc, append-nil, arith}
 use Rattle.std.specs.List.{AllByRecursion}
-use Rattle.up_disk.specs.declared.disk.Disk as disk
-use Rattle.up_host.specs.Alone.{HostState}
 use Rattle.up_host.specs.declared.run.Call.{Call}
-use Rattle.up_peer.specs.declared.loader.Loader.{Ghosts}
 use Rattle.up_shared.specs.Sharing.{EachPair}
-use Rattle.up_storm.specs.Preparing.{AddsWanted, HasAskedAll, HasPrepared, IsWanted, Wanted, prepares, prepares_from, preparing, roots}
+use Rattle.up_storm.specs.Preparing.{AddsWanted, IsWanted, Wanted, prepares, prepares_from}
 
 -- two lists of pairs, one after the other
 pub each_pair_append : {X Y : Type 0} (P : X → Y → Type 0) (xs : List X) (ys : List Y) (us : List X) (vs : List Y) → EachPair P xs ys → EachPair P us vs → EachPair P (xs ++ us) (ys ++ vs)

@@ -10,7 +10,7 @@ use Rattle.up_journal.specs.declared.limits.Limits.{Limits}
 use Rattle.up_lists.specs.Begins.{Begins}
 use Rattle.up_names.specs.Texts.{UserName}
 use Rattle.up_storm.specs.Logs.{IsLogRead, IsReadBy, ReadsLog}
-use Rattle.up_storm.specs.Seating.{HasRead, IsRead}
+use Rattle.up_storm.specs.Seating.{HasRead}
 use Rattle.up_shared.specs.declared.shared.Seats.{Seats}
 use Rattle.up_shared.specs.declared.shared.TreeSeat.{TreeSeat}
 use Rattle.up_storm.specs.declared.logs.LogRead.{LogRead}

@@ -18,7 +18,7 @@ use Rattle.up_names.specs.PathOrder.{path_cmp, path_eq}
 use Rattle.up_names.specs.PathOrderLaws.{path_exact}
 use Rattle.up_nodes.proofs.Named.{last_change-none, last_change-push}
 use Rattle.up_replay.proofs.Fronts.{take_next, whole_front}
-use Rattle.up_replay.proofs.Paths.{path_eq_itself, path_eq_turned, some_none, some_same}
+use Rattle.up_replay.proofs.Paths.{path_eq_itself, path_eq_turned, some_none}
 use Rattle.up_replay.proofs.Rising.{keys-filter, keys-put, place_of, with_there, without_removed}
 use Rattle.up_replay.proofs.Trees.{has_node, node_at-delete, node_at-empty, node_at-put, node_at-snap, rising_tree, tree_of-push}
 use Rattle.up_replay.specs.Changes.{change_before, changes_some, last_change, path_of_change, record_at}

@@ -1,6 +1,6 @@
 -- A whole storm, put together.
-use Rattle.std.proofs.Common.{◌≡◌, ◌≤◌, ◌<◌, ℕ, zero, suc, ◌+◌, ◌*◌, Bool, true, false, List, [], ◌∷◌, ◌++◌, length, refl, sym, ap, subst, ◌∙◌, arith, slice_get, Option, Some, None}
-use Rattle.std.specs.Prelude.{◌||◌, codes, decimal, map, slice_index_or, if◌then◌else◌}
+use Rattle.std.proofs.Common.{◌≡◌, ◌≤◌, ◌<◌, ℕ, zero, suc, Bool, true, false, List, [], ◌∷◌, ◌++◌, length, refl, sym, ap, subst, ◌∙◌, arith, slice_get, Option, Some, None}
+use Rattle.std.specs.Prelude.{◌||◌, codes, map, slice_index_or, if◌then◌else◌}
 use Rattle.std.specs.List.{AllByRecursion, list_any}
 use Rattle.up_command.specs.Printed.{ended}
 use Rattle.up_command.specs.Statuses.{AnswersWith}
@@ -25,10 +25,10 @@ use Rattle.up_shared.specs.declared.shared.TreeSeat.{TreeSeat}
 use Rattle.up_storm.specs.Preparing.{IsPrepared, storm_limits}
 use Rattle.up_storm.specs.Storms.{HasTold, IsStorm, Means}
 use Rattle.up_tree.specs.States.{State}
-use Rattle.up_storm.specs.Logs.{IsLogRead, full_of, logged, summary_of, told_text}
+use Rattle.up_storm.specs.Logs.{IsLogRead, full_of, logged, told_text}
 use Rattle.up_storm.specs.Seating.{AreBegun, AreJoined, HasEnded, HasRead}
 use Rattle.up_storm.specs.Sessions.{HasRun, Session, said_of}
-use Rattle.up_storm.specs.Telling.{IsFew, all_counted, full_text, heading, log_text, numbers_line, records_text, sessions_text, storm_text, summary_text, tally_line, tree_line}
+use Rattle.up_storm.specs.Telling.{IsFew, all_counted, full_text, heading, log_text, numbers_line, sessions_text, storm_text, summary_text, tally_line, tree_line}
 use Rattle.up_storm.specs.declared.logs.LogRead.{LogRead}
 use Rattle.up_storm.specs.declared.plan.Plan.{Plan}
 use Rattle.up_storm.specs.declared.session.Said.{Said}

@@ -1,5 +1,5 @@
 -- The sessions' shares: what was split off from the seats of the host's first caller comes back to them.
-use Rattle.std.proofs.Common.{◌≡◌, ℕ, zero, suc, ◌+◌, ◌*◌, ◌-◌, ◌^◌, ◌≤◌, Bool, List, [], ◌∷◌, length, refl, sym, ap, subst, ◌∙◌, arith, slice_get, Option, Some, None}
+use Rattle.std.proofs.Common.{◌≡◌, ℕ, zero, suc, ◌+◌, ◌*◌, ◌-◌, ◌^◌, ◌≤◌, Bool, List, [], ◌∷◌, length, refl, sym, ap, subst, ◌∙◌, arith, slice_get, Some}
 use Rattle.std.specs.Prelude.{⊤, map}
 use Rattle.up_cell.specs.Known.{Known}
 use Rattle.up_host.specs.Alone.{HostState}
@@ -9,7 +9,7 @@ use Rattle.up_peer.specs.declared.loader.Loader.{Ghosts}
 use Rattle.up_shared.proofs.Adding.{parts_of_whole, whole_by_parts}
 use Rattle.up_shared.specs.Callers.{seats_same, seats_trans}
 use Rattle.up_shared.specs.Sharing.{EachPair, SeatsLater, TreeSeatLater}
-use Rattle.up_shared.specs.Splits.{AreBoth, AreFirsts, AreSeconds, AreWhole, AreWholeTrees, IsWhole, SeatsAdd, TreesAdd, first_tree, joined_trees, parts, second_tree}
+use Rattle.up_shared.specs.Splits.{AreBoth, AreFirsts, AreSeconds, AreWhole, AreWholeTrees, IsWhole, SeatsAdd, TreesAdd, first_tree, joined_trees, second_tree}
 use Rattle.up_shared.specs.declared.shared.Seats.{Seats}
 use Rattle.up_shared.specs.declared.shared.Shared.{Shared}
 use Rattle.up_shared.specs.declared.shared.TreeCell.{TreeCell}

@@ -1,5 +1,5 @@
 -- Who takes part in a storm, and what they ask. This project's own.
-use Rattle.std.specs.Prelude.{ℕ, ◌+◌, ◌%◌, ◌==◌, if◌then◌else◌, List, [], ◌∷◌, ◌++◌, codes, decimal, pos}
+use Rattle.std.specs.Prelude.{ℕ, ◌+◌, ◌%◌, ◌==◌, if◌then◌else◌, List, [], ◌++◌, codes, decimal, pos}
 use Rattle.up_command.specs.Printed.{ended}
 use Rattle.up_entry.specs.declared.entries.Block.{Block}
 use Rattle.up_names.specs.Texts.{Text}

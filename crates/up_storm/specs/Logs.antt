@@ -1,9 +1,9 @@
 -- How a log is read for printing. This project's own.
-use Rattle.std.specs.Prelude.{◌≡◌, ℕ, ◌*◌, Bool, true, false, if◌then◌else◌, List, [], ◌++◌, length, codes, decimal, Option, Some, None, Result, IfOk}
+use Rattle.std.specs.Prelude.{◌≡◌, ℕ, Bool, true, false, if◌then◌else◌, List, [], ◌++◌, length, codes, Option, Some, None, Result, IfOk}
 use Rattle.up_cell.specs.Known.{HasEvery, Known}
 use Rattle.up_command.specs.Printed.{ended}
 use Rattle.up_entry.specs.declared.records.Rec.{Rec}
-use Rattle.up_entry.specs.declared.records.Rec.TheVariants.{Delete, Put, Snap}
+use Rattle.up_entry.specs.declared.records.Rec.TheVariants.{Put}
 use Rattle.up_lists.specs.Begins.{Begins}
 use Rattle.up_replay.specs.Changes.{change_before, record_at}
 use Rattle.up_replay.specs.Trees.{tree_of}

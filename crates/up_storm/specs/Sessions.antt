@@ -1,5 +1,5 @@
 -- The sessions of a storm: what one call of a session is, and a run of them. This project's own.
-use Rattle.std.specs.Prelude.{◌≡◌, ℕ, zero, suc, Bool, true, false, List, ◌++◌}
+use Rattle.std.specs.Prelude.{◌≡◌, ℕ, zero, suc, Bool, true, false, ◌++◌}
 use Rattle.up_calls.specs.Alike.{TellsNoMore}
 use Rattle.up_calls.specs.Answered.{Leaves, LoadsInRounds, Risen}
 use Rattle.up_calls.specs.Calls.{Asked}
