@@ -5,6 +5,7 @@
 mod asking;
 mod reports;
 mod scripts;
+mod storms;
 mod telling;
 mod words;
 
@@ -41,6 +42,7 @@ fn status_of<R: Threads + Wait + Clock + Sync>(
 ) -> u8 {
     match command {
         Command::Serve => serve(threads, rt, words, &mut StdSink::new(rt.stdout())),
+        Command::Storm => storms::storm_status(threads, rt, words),
         Command::Client => asking::client_status(&rt, words),
         Command::Copy => asking::copy_status(&rt, words),
         Command::Audit => reports::audit_status(&rt, words),

@@ -6,7 +6,7 @@ const VERSION: &str = "0.1";
 
 /// The commands, those too that the usage line has not, and where to read on.
 const COMMANDS: &str =
-    "can, script, explain can, explain script, serve, client, copy, audit, share, verify, sign (README.md says what each does)";
+    "can, script, explain can, explain script, serve, client, copy, audit, share, storm, verify, sign (README.md says what each does)";
 
 /// The status where the words are not those of a command; the usage line was printed.
 const USAGE: u8 = 64;
@@ -20,6 +20,7 @@ pub fn tell(rt: &HostRuntime, command: Command, words: &[String], status: u8) {
     let meaning = match command {
         Command::Serve => serve_meaning(status),
         Command::Audit | Command::Share => report_meaning(status),
+        Command::Storm => storm_meaning(status),
         Command::Can => can_meaning(status),
         Command::Script => script_meaning(status),
         Command::ExplainCan | Command::ExplainScript => explain_meaning(status),
@@ -74,6 +75,16 @@ fn report_meaning(status: u8) -> Option<&'static str> {
             "upspin: a log cannot be had or read, or a server runs over it (docs/REPORTS.md)",
         ),
         8 => Some("upspin: a log is damaged, and was not opened (docs/REPORTS.md)"),
+        _ => None,
+    }
+}
+
+/// What a status of `storm` means for people.
+fn storm_meaning(status: u8) -> Option<&'static str> {
+    match status {
+        2 => Some("upspin: no random bytes (docs/STORM.md)"),
+        3 => Some("upspin: standard output failed, and not all was printed (docs/STORM.md)"),
+        4 => Some("upspin: there was no memory, and nothing was printed (docs/STORM.md)"),
         _ => None,
     }
 }

@@ -11,6 +11,7 @@ pub enum Command {
     Copy,
     Audit,
     Share,
+    Storm,
     Can,
     /// The words `explain can`, and no others.
     ExplainCan,
@@ -69,6 +70,7 @@ fn other_command(word: &str) -> Command {
         "copy" => Command::Copy,
         "audit" => Command::Audit,
         "share" => Command::Share,
+        "storm" => Command::Storm,
         _ => Command::Script,
     }
 }

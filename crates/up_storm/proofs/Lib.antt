@@ -1,0 +1,12 @@
+pub mod Names
+pub mod Asking
+pub mod Running
+pub mod Beginning
+pub mod Saying
+pub mod Rows
+pub mod OpeningLemmas
+pub mod PreparingLemmas
+pub mod ReadingLemmas
+pub mod Wholeness
+pub mod StormLemmas
+pub mod Ending

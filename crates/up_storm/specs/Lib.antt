@@ -1,0 +1,9 @@
+pub mod Plans
+pub mod Generator
+pub mod Asked
+pub mod Telling
+pub mod Logs
+pub mod Sessions
+pub mod Seating
+pub mod Preparing
+pub mod Storms
