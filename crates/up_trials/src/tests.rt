@@ -4,7 +4,6 @@ mod ends;
 mod files;
 mod folder;
 mod machine;
-mod pipes;
 mod server;
 mod sockets;
 mod streams;

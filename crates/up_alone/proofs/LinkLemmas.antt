@@ -24,7 +24,7 @@ use Rattle.up_replay.proofs.Paths.{some_none, some_same}
 use Rattle.up_list.specs.Checks.{link_at}
 use Rattle.up_list.specs.Entries.{entry_of, if_link}
 use Rattle.up_answers.specs.SnapshotTrees.{directories_above, has_room, made_up, moved_node, moved_nodes, snapshot_tree, snapshots_to, with_new, with_node, with_snapshot, with_snapshot_of}
-use Rattle.up_bounds.proofs.EachLemmas.{Each, all_filter, all_fold, all_got, all_map, all_take, each_found, each_put, each_value}
+use Rattle.up_alone.proofs.EachLemmas.{Each, all_filter, all_fold, all_got, all_map, all_take, each_found, each_put, each_value}
 
 -- neither blocks nor packdata
 abbrev pub IsBare : Entry → Type 0

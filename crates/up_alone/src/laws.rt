@@ -1,5 +1,5 @@
 //! Laws of the length of replies. Each function does nothing; its contract is the law.
-ghost use Rattle.up_bounds.specs.Short.{ConnectionRepliesAreShort, HostRepliesAreShort, KeyRepliesAreShort, StoreRepliesAreShort, TreeRepliesAreShort};
+ghost use Rattle.up_alone.specs.Short.{ConnectionRepliesAreShort, HostRepliesAreShort, KeyRepliesAreShort, StoreRepliesAreShort, TreeRepliesAreShort};
 
 use up_disk::Disk;
 use up_peer::Loader;

@@ -38,9 +38,9 @@ use Rattle.up_wire.specs.declared.replies.Reply.{Reply}
 use Rattle.up_wire.specs.declared.replies.Reply.TheVariants as reply
 use Rattle.up_wire.specs.declared.requests.Request.{Request}
 use Rattle.up_answers.specs.Answers.{log_owner}
-use Rattle.up_bounds.specs.Short.{ConnectionRepliesAreShort, HostRepliesAreShort, IsShort, KeyRepliesAreShort, LogsFit, StoreRepliesAreShort, TreeRepliesAreShort, most_bytes}
-use Rattle.up_bounds.proofs.ReplyLemmas.{keys_short, store_short, tree_short}
-use Rattle.up_bounds.proofs.SizeLemmas.{IsFew, few_short}
+use Rattle.up_alone.specs.Short.{ConnectionRepliesAreShort, HostRepliesAreShort, IsShort, KeyRepliesAreShort, LogsFit, StoreRepliesAreShort, TreeRepliesAreShort, most_bytes}
+use Rattle.up_alone.proofs.ReplyLemmas.{keys_short, store_short, tree_short}
+use Rattle.up_alone.proofs.SizeLemmas.{IsFew, few_short}
 
 pub tree_replies_are_short : TreeRepliesAreShort
 tree_replies_are_short = tree_short

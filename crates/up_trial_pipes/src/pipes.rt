@@ -1,5 +1,4 @@
-//! A connection to a host over a pair of pipes. Its client asks again only once it was answered, so a server that kept a reply back until
-//! more is asked would wait for it forever.
+//! The host, its client, and the pipes between them.
 ghost use Rattle.std.specs.Prelude.{◌≡◌, true, length, IfOk};
 ghost use Rattle.up_keys.specs.Records.{has_bounds};
 
@@ -8,7 +7,6 @@ use std::fs::Files;
 use std::hash::RandomState;
 use std::io;
 use std::io::{ErrorKind, PipeReader, PipeWriter, Read, Write, pipe};
-use std::test::Fail;
 use std::thread::{Threads, join};
 use up_alone::talk_alone;
 use up_bytes::copy_of;
@@ -214,7 +212,7 @@ fn converse(mut client: Client) -> io::Result<bool> {
     answered
 }
 
-/// How the connection ended, and whether the client was answered as it should be.
+/// The connection, with a thread for each of its ends.
 fn talk(
     alloc: Global,
     files: &impl Files,
@@ -232,8 +230,8 @@ fn talk(
     Ok((end, answered?))
 }
 
-/// The same of a host that knows the user's key.
-fn talked(
+/// How the connection ended to a host that knows the user's key, and whether the client was answered as it should be.
+pub fn talked(
     alloc: Global,
     files: &impl Files,
     threads: &impl Threads,
@@ -248,12 +246,4 @@ fn talked(
         }
     }
     talk(alloc, files, threads, host)
-}
-
-#[test]
-fn client_that_waits_for_each_reply(rt: HostRuntime) -> Result<(), Fail> {
-    let random = RandomState::new(&rt)?;
-    let came = talked(rt.alloc(), &rt, &rt, random)?;
-    assert_eq!(rt; came, (TalkEnd::Ended, true));
-    Ok(())
 }

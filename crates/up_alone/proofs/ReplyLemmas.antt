@@ -39,10 +39,10 @@ use Rattle.up_wire.specs.declared.replies.Reply.{Reply}
 use Rattle.up_wire.specs.declared.replies.Reply.TheVariants as reply
 use Rattle.up_wire.specs.declared.requests.Request.{Request}
 use Rattle.up_wire.specs.declared.requests.Request.TheVariants as request
-use Rattle.up_bounds.specs.Short.{IsShort, KeyRepliesAreShort, StoreRepliesAreShort, TreeRepliesAreShort}
-use Rattle.up_bounds.proofs.BareLemmas.{BareLed, outcome_bare}
-use Rattle.up_bounds.proofs.EachLemmas.{Each, all_filter, all_fold, all_got, each_found, each_put}
-use Rattle.up_bounds.proofs.SizeLemmas.{IsFew, bounded_short, few_short}
+use Rattle.up_alone.specs.Short.{IsShort, KeyRepliesAreShort, StoreRepliesAreShort, TreeRepliesAreShort}
+use Rattle.up_alone.proofs.BareLemmas.{BareLed, outcome_bare}
+use Rattle.up_alone.proofs.EachLemmas.{Each, all_filter, all_fold, all_got, each_found, each_put}
+use Rattle.up_alone.proofs.SizeLemmas.{IsFew, bounded_short, few_short}
 
 -- ---- a tree
 

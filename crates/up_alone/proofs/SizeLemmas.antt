@@ -26,9 +26,9 @@ use Rattle.up_wire.specs.declared.replies.Done.{Done}
 use Rattle.up_wire.specs.declared.replies.Done.TheVariants as done
 use Rattle.up_wire.specs.declared.replies.Reply.{Reply}
 use Rattle.up_wire.specs.declared.replies.Reply.TheVariants as reply
-use Rattle.up_bounds.specs.Short.{IsShort, most_bytes}
-use Rattle.up_bounds.proofs.BareLemmas.{BareReply}
-use Rattle.up_bounds.proofs.LinkLemmas.{IsBare}
+use Rattle.up_alone.specs.Short.{IsShort, most_bytes}
+use Rattle.up_alone.proofs.BareLemmas.{BareReply}
+use Rattle.up_alone.proofs.LinkLemmas.{IsBare}
 
 text_small : (bytes : List ℕ) (n : ℕ) → length bytes ≤ n → length (text bytes) ≤ 10 + n
 text_small bytes n le = omega (arith, length-append (num (length bytes)) bytes, length-num (length bytes))

@@ -53,7 +53,7 @@ use Rattle.up_answers.specs.SnapshotReplies.{snapshot_delete, snapshot_outcome, 
 use Rattle.up_answers.specs.SnapshotTrees.{snapshot_look}
 use Rattle.up_answers.specs.Watches.{batch, is_watched, watch_reply, watched}
 use Rattle.up_replay.proofs.Paths.{some_none, some_same}
-use Rattle.up_bounds.proofs.LinkLemmas.{IsBare, ShowsBareLinks, snapshot_links, tree_links}
+use Rattle.up_alone.proofs.LinkLemmas.{IsBare, ShowsBareLinks, snapshot_links, tree_links}
 
 -- where the reply is to follow a link, that has neither blocks nor packdata
 abbrev pub BareReply : Reply → Type 0

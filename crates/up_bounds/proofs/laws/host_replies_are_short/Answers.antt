@@ -1,5 +1,0 @@
-use Rattle.up_bounds.proofs.CallLemmas.{host_replies_are_short}
-use Rattle.up_bounds.proofs.laws.host_replies_are_short.Goals as goal
-
-pub returns : goal.returns
-returns c = host_replies_are_short

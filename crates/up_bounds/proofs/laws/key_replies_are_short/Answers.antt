@@ -1,5 +1,0 @@
-use Rattle.up_bounds.proofs.CallLemmas.{key_replies_are_short}
-use Rattle.up_bounds.proofs.laws.key_replies_are_short.Goals as goal
-
-pub returns : goal.returns
-returns c = key_replies_are_short
