@@ -8,6 +8,7 @@ mod opening;
 mod peers;
 mod requests;
 mod sessions;
+mod stopping;
 mod talking;
 mod waiting;
 mod words;

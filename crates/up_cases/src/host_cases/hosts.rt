@@ -7,6 +7,7 @@ use crate::host_cases::direct::direct_line;
 use crate::host_cases::lines::{enrol_line, key_line, text_line};
 use crate::host_cases::opening::{add_sizes, host_over, new_host};
 use crate::host_cases::peers::{Has, Kind, Told, ask_peer, ask_with, has_of, kind_of, tree};
+use crate::host_cases::stopping::{Asked, add_images};
 use crate::host_cases::talking::{failing_line, many_line, prefixes_line, talk_line};
 use crate::host_cases::waiting::waits_line;
 use crate::host_cases::words::cut;
@@ -119,6 +120,7 @@ impl Topic for Hosts {
             "with" => self.with_line(alloc, words, answer),
             "peer" => self.peer_line(alloc, words, answer),
             "disks" => self.disks_line(words, answer),
+            "images" => self.images_line(alloc, words, answer),
             keyword => self.host_turn(alloc, keyword, words, answer),
         }
     }
@@ -158,6 +160,24 @@ impl Hosts {
         Ok(())
     }
 
+    // `images NAME OPERATOR OWNERS : USER WORDS; ..`: what a host answers that is opened over what a crash leaves of the disks of the host
+    // of this name, which stands no longer, for each image.
+    fn images_line(
+        &mut self,
+        alloc: Global,
+        mut words: Words<'_>,
+        answer: &mut Answer,
+    ) -> Result<(), Fault> {
+        let name = words.word()?;
+        let (whose, lines) = cut_asks(words.some()?)?;
+        let disks = self.take_disks(name)?;
+        let asked = Asked {
+            whose: Words::new(whose),
+            lines,
+        };
+        add_images(alloc, self.random, disks, asked, answer)
+    }
+
     // The disks that the host of this name hands back.
     fn take_disks(&mut self, name: &str) -> Result<Disks<MemDisk>, Fault> {
         match self.take(name) {
@@ -188,7 +208,7 @@ impl Hosts {
         answer: &mut Answer,
     ) -> Result<(), Fault> {
         let name = words.word()?;
-        let (peers, asks) = peers_and_asks(words.some()?)?;
+        let (peers, asks) = cut_asks(words.some()?)?;
         self.add_all(alloc, peers, told)?;
         let told = mem::replace(told, Vec::new(alloc));
         match self.get(name) {
@@ -316,6 +336,6 @@ fn peer_of(alloc: Global, host: Host<MemDisk>, asker: &str) -> Result<TreePeer<M
 }
 
 // What stands before the first ` : `, and behind it.
-fn peers_and_asks(words: &str) -> Result<(&str, &str), Fault> {
+fn cut_asks(words: &str) -> Result<(&str, &str), Fault> {
     words.split_once(" : ").ok_or(Fault::BadLine)
 }
