@@ -1,5 +1,5 @@
 -- What the words of `upspin serve` say. This project's own.
-use Rattle.std.specs.Prelude.{◌≡◌, ◌==◌, ℕ, Bool, true, false, not, ◌&&◌, ◌||◌, if◌then◌else◌, List, [], ◌∷◌, codes, Option, Some, None}
+use Rattle.std.specs.Prelude.{◌≡◌, ◌==◌, ℕ, Bool, true, false, not, ◌&&◌, ◌||◌, if◌then◌else◌, List, [], ◌∷◌, codes, length, Option, Some, None}
 use Rattle.std.specs.List.{AllByRecursion, IsDistinct, after_first, before_first, list_all, list_any}
 use Rattle.std.specs.Result.{result_ok}
 use Rattle.std.specs.Str.{bytes_eq}
@@ -19,6 +19,7 @@ abbrev pub is_option : Text → Bool
 is_option word =
     bytes_eq word (codes "--listen") || bytes_eq word (codes "--host") || bytes_eq word (codes "--operator") || bytes_eq word (codes "--tree") || bytes_eq word (codes "--folder")
     || bytes_eq word (codes "--helper") || bytes_eq word (codes "--enrol") || bytes_eq word (codes "--peer") || bytes_eq word (codes "--connections")
+    || bytes_eq word (codes "--feed") || bytes_eq word (codes "--feeds")
 
 -- words that are pairs of an option and its value
 abbrev pub are_pairs : List Text → Bool
@@ -72,6 +73,17 @@ peer_in value = do
   address ← address_in (after_first is_equals value)
   if list_any is_equals value then Some (user, address) else None
 
+-- where followers are listened for, and how many of their connections come: two options that stand both, each once; or neither does, and
+-- then it is the empty text and 0
+unfoldable pub given_feed : List Text → List Text → Option (Text × ℕ)
+given_feed addresses numbers = do
+  address ← once addresses >>= address_in
+  number ← once numbers >>= num_of
+  Some (address, number)
+
+abbrev pub feed_in : List Text → List Text → Option (Text × ℕ)
+feed_in addresses numbers = if (length addresses == 0) && (length numbers == 0) then Some ([], 0) else given_feed addresses numbers
+
 -- ---- trees
 
 -- one of these users is this one
@@ -100,11 +112,12 @@ options_plan options = do
   helper ← once (values_of (codes "--helper") options)
   enrol ← at_most_once (values_of (codes "--enrol") options)
   connections ← once (values_of (codes "--connections") options) >>= num_of
+  feed ← feed_in (values_of (codes "--feed") options) (values_of (codes "--feeds") options)
   host ← once (values_of (codes "--host") options) >>= host_named
   operator ← once (values_of (codes "--operator") options) >>= user_in
   trees ← all_read user_in (values_of (codes "--tree") options) >>= if_owners
   peers ← all_read peer_in (values_of (codes "--peer") options)
-  Some (record { listen = listen; host = host; operator = operator; trees = trees; folder = folder; helper = helper; enrol = enrol; peers = peers; connections = connections })
+  Some (record { listen = listen; host = host; operator = operator; trees = trees; folder = folder; helper = helper; enrol = enrol; peers = peers; connections = connections; feed = feed.0; feeds = feed.1 })
 
 -- what the words say: `serve`, and then pairs of an option and its value, in any order; none where they do not fit
 unfoldable pub plan_of : List Text → Option ServePlan

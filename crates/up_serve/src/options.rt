@@ -1,5 +1,5 @@
 //! Options and their values, among words.
-ghost use Rattle.std.specs.Prelude.{◌≡◌, ◌<◌, [], ◌∷◌, length, map, string_bytes, IfNone, IfSome};
+ghost use Rattle.std.specs.Prelude.{◌≡◌, ◌<◌, ◌==◌, [], ◌∷◌, length, map, string_bytes, IfNone, IfSome};
 ghost use Rattle.std.specs.Option.{option_copied};
 ghost use Rattle.up_serve.specs.Plans.{are_pairs, at_most_once, is_option, once, values_of};
 
@@ -33,6 +33,8 @@ fn is_option(word: &str) -> bool
             | "--enrol"
             | "--peer"
             | "--connections"
+            | "--feed"
+            | "--feeds"
     )
 }
 
@@ -56,6 +58,13 @@ pub fn at_most_once<'a>(options: &'a [String], option: &str) -> Option<&'a str>
         Some(_) => once(options, option),
         None => Some(""),
     }
+}
+
+/// Whether an option does not stand.
+pub fn lacks(options: &[String], option: &str) -> bool
+    ensures { result ≡ (length (values_of option.now (map string_bytes options.now)) == 0) }
+{
+    next_value(options, option).is_none()
 }
 
 /// The first value of an option, and the words behind it.

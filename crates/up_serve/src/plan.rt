@@ -3,11 +3,11 @@ ghost use Rattle.std.specs.Prelude.{◌≡◌, ◌++◌, [], ◌∷◌, codes, f
 ghost use Rattle.std.specs.List.{after_first, before_first, list_all, list_any};
 ghost use Rattle.std.specs.Option.{option_and_then, option_copied};
 ghost use Rattle.up_policy.specs.Trees.{owns_snapshots};
-ghost use Rattle.up_serve.specs.Plans.{IsPlan, address_in, all_read, are_different, are_owners, if_owners, is_equals, once, options_plan, peer_in, plan_of, user_in, values_of};
+ghost use Rattle.up_serve.specs.Plans.{IsPlan, address_in, all_read, are_different, are_owners, feed_in, given_feed, if_owners, is_equals, once, options_plan, peer_in, plan_of, user_in, values_of};
 ghost use Rattle.up_sign.specs.HostNames.{host_named, is_host_name};
 ghost use Rattle.up_text.specs.Numbers.{num_of};
 
-use crate::options::{are_pairs, at_most_once, next_value, once};
+use crate::options::{are_pairs, at_most_once, lacks, next_value, once};
 use std::alloc::{AllocError, Global};
 use std::collections::BTreeSet;
 use up_bytes::{Bytes, copy_of};
@@ -38,11 +38,16 @@ pub struct ServePlan {
     pub peers: Items<(User, Bytes)>,
     /// After how many connections it ends.
     pub connections: u64,
+    /// The address at which it listens for followers, of the same form as `listen`; empty where there is none.
+    pub feed: Bytes,
+    /// After how many connections of followers it ends; 0 where there is no such address.
+    pub feeds: u64,
 }
 
 /// The plan that words say: `serve`, and then pairs of an option and its value, in any order. `None` exactly where they do not fit. The
-/// options are `--listen`, `--host`, `--operator`, `--folder`, `--helper` and `--connections`, each once; `--enrol`, at most once; and
-/// `--tree` and `--peer`, any number of times. A value is read as it stands; a peer's is a user, `=` and an address.
+/// options are `--listen`, `--host`, `--operator`, `--folder`, `--helper` and `--connections`, each once; `--enrol`, at most once; `--feed`
+/// and `--feeds`, both once or neither; and `--tree` and `--peer`, any number of times. A value is read as it stands; a peer's is a user,
+/// `=` and an address.
 #[tactic(auto, unfolding(crate::specs::Plans::plan_of))]
 pub fn serve_words(alloc: Global, words: &[String]) -> Result<Option<ServePlan>, AllocError>
     ensures plan { IfOk result (λ found. found ≡ plan_of (map string_bytes words.now)) }
@@ -63,7 +68,7 @@ fn options_plan(alloc: Global, options: &[String]) -> Result<Option<ServePlan>, 
     ensures plan { IfOk result (λ found. found ≡ options_plan (map string_bytes options.now)) }
     ensures keeps { IfOk result (λ found. IfSome found IsPlan) }
 {
-    let Some(listen) = listen_in(options) else {
+    let Some(listen) = address_in(options, "--listen") else {
         return Ok(None);
     };
     let Some(folder) = once(options, "--folder") else {
@@ -75,7 +80,10 @@ fn options_plan(alloc: Global, options: &[String]) -> Result<Option<ServePlan>, 
     let Some(enrol) = at_most_once(options, "--enrol") else {
         return Ok(None);
     };
-    let Some(connections) = connections_in(options) else {
+    let Some(connections) = number_in(options, "--connections") else {
+        return Ok(None);
+    };
+    let Some((feed, feeds)) = feed_in(options) else {
         return Ok(None);
     };
     let Some(host) = host_in(alloc, options)? else {
@@ -100,6 +108,8 @@ fn options_plan(alloc: Global, options: &[String]) -> Result<Option<ServePlan>, 
         enrol: text_of(alloc, enrol)?,
         peers,
         connections,
+        feed: text_of(alloc, feed)?,
+        feeds,
     }))
 }
 
@@ -109,24 +119,48 @@ fn text_of(alloc: Global, value: &str) -> Result<Bytes, AllocError>
     copy_of(alloc, value.as_bytes())
 }
 
-// The address at which the server listens.
-fn listen_in(options: &[String]) -> Option<&str>
+// The address that is the value of an option.
+fn address_in<'a>(options: &'a [String], option: &str) -> Option<&'a str>
     ensures { option_copied result ≡ option_and_then address_in
-        (once (values_of (codes "--listen") (map string_bytes options.now))) }
+        (once (values_of option.now (map string_bytes options.now))) }
 {
-    let address = once(options, "--listen")?;
+    let address = once(options, option)?;
     if !is_address(address.as_bytes()) {
         return None;
     }
     Some(address)
 }
 
-// After how many connections the server ends.
-fn connections_in(options: &[String]) -> Option<u64>
+// The number that is the value of an option.
+fn number_in(options: &[String], option: &str) -> Option<u64>
     ensures { result ≡ option_and_then num_of
-        (once (values_of (codes "--connections") (map string_bytes options.now))) }
+        (once (values_of option.now (map string_bytes options.now))) }
 {
-    read_num(once(options, "--connections")?.as_bytes())
+    read_num(once(options, option)?.as_bytes())
+}
+
+// Where followers are listened for, and after how many of their connections the server ends.
+fn feed_in(options: &[String]) -> Option<(&str, u64)>
+    ensures { option_map (λ found. (found.0.now, found.1)) result
+        ≡ feed_in (values_of (codes "--feed") (map string_bytes options.now))
+        (values_of (codes "--feeds") (map string_bytes options.now)) }
+{
+    if lacks(options, "--feed") && lacks(options, "--feeds") {
+        return Some(("", 0));
+    }
+    given_feed(options)
+}
+
+// The same where one of the two options stands.
+#[tactic(auto, unfolding(crate::specs::Plans::given_feed))]
+fn given_feed(options: &[String]) -> Option<(&str, u64)>
+    ensures { option_map (λ found. (found.0.now, found.1)) result
+        ≡ given_feed (values_of (codes "--feed") (map string_bytes options.now))
+        (values_of (codes "--feeds") (map string_bytes options.now)) }
+{
+    let address = address_in(options, "--feed")?;
+    let number = number_in(options, "--feeds")?;
+    Some((address, number))
 }
 
 // The name of the host.

@@ -205,6 +205,8 @@ fn open_host<D: Disk + Drop>(
                 enrol: _,
                 peers: _,
                 connections: _,
+                feed: _,
+                feeds: _,
             } = plan;
             Host::open(alloc, random, name.as_str(), operator, trees, disks, limits)
         }

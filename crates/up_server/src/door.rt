@@ -1,4 +1,5 @@
 //! The connections of a server.
+ghost use Rattle.std.specs.Prelude.{IfSome};
 ghost use Rattle.up_shared.specs.Sharing.{AreSeats};
 
 use crate::ending::{tell, tell_end};
@@ -36,6 +37,19 @@ pub(crate) struct Visit<D: Disk> {
     pub nonces: SeedNonces,
 }
 
+impl<D: Disk + Drop> Visit<D> {
+    /// What one connection more has of it. `None` where there is no memory.
+    pub fn split_off(&mut self, alloc: Global, shared: &Shared<D>) -> Option<Visit<D>>
+        requires { AreSeats shared.now self.old.seats }
+        ensures kept { AreSeats shared.now self.new.seats }
+        ensures other { IfSome result (λ visit. AreSeats shared.now visit.seats) }
+    {
+        let seats = shared.split(alloc, &mut self.seats).ok()?;
+        let nonces = SeedNonces::new(self.nonces.next());
+        Some(Visit { seats, nonces })
+    }
+}
+
 /// A host elsewhere, which is asked about the tree of an owner, and for blocks at its address.
 #[derive(Drop)]
 struct Neighbour {
@@ -52,9 +66,7 @@ impl<'a, D: Disk + Drop + Send> Attends for Door<'a, D> {
     ghost is_part = { λ door visit. AreSeats door.shared.now visit.seats };
 
     fn split(&self, part: &mut Visit<D>) -> Option<Visit<D>> {
-        let seats = self.shared.split(self.alloc, &mut part.seats).ok()?;
-        let nonces = SeedNonces::new(part.nonces.next());
-        Some(Visit { seats, nonces })
+        part.split_off(self.alloc, self.shared)
     }
 
     fn attend<R: Wait>(&self, rt: &R, part: &mut Visit<D>, stream: &TcpStream, from: SocketAddr) {

@@ -11,6 +11,7 @@
 
 mod door;
 mod ending;
+mod hatch;
 mod logs;
 mod naming;
 mod saying;

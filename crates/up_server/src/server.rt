@@ -3,16 +3,18 @@ ghost use Rattle.std.specs.Prelude.{◌≡◌, ◌<◌, ◌+◌, ◌^◌, [], �
 ghost use Rattle.up_command.specs.Statuses.{IsOneOf, usage_line};
 ghost use Rattle.up_ends.specs.Writing.{WritesPart};
 ghost use Rattle.up_serve.specs.Plans.{plan_of};
+ghost use Rattle.up_shared.specs.Sharing.{AreSeats};
 
 use crate::door::{Door, Visit};
+use crate::hatch::Hatch;
 use crate::logs::{Place, ServedDisk, served_disks};
 use crate::saying::say_listening;
 use std::alloc::Global;
 use std::fmt::Display;
 use std::hash::RandomState;
-use std::net::TcpListener;
+use std::net::{SocketAddr, TcpListener};
 use std::sync::Wait;
-use std::thread::Threads;
+use std::thread::{Threads, join};
 use std::time::Clock;
 use std::{io, str};
 use up_accept::{Bounds, serve_each};
@@ -24,15 +26,19 @@ use up_host::Host;
 use up_net::{Machine, SeedNonces, open_enrol};
 use up_serve::{ServeFault, ServePlan, serve_open, serve_words};
 
-/// How many connections are answered at once.
+/// How many connections are answered at once, those of followers among them.
 const AT_ONCE: u64 = 256;
 
+/// How many of these are kept for followers where they are listened for.
+const FOLLOWERS_AT_ONCE: u64 = 64;
+
 /// Runs `upspin serve`: reads the words, opens the logs of a folder, enrols users, listens, prints where, and answers so many
-/// connections, each in a thread of its own. It ends with 0 when all of them have ended.
+/// connections, each in a thread of its own; where the words say so, so many of followers besides, at an address of their own. It ends with
+/// 0 when all of them have ended.
 ///
 /// Words that do not fit get the usage line and 64, and touch no file. Any other status than 0 is that of what failed: 2 where the file of
 /// users, or the system's random bytes, cannot be read; 3 where the sink failed; 4 for want of memory; 6 where a disk failed; 7 for a file
-/// of users of over 67,108,864 bytes; 8 where a log is damaged; 9 where it cannot listen or accept; 10 at a bad line of the file of users;
+/// of users of over 67,108,864 bytes; 8 where a log is damaged; 9 where it cannot listen or accept, at either address; 10 at a bad line of the file of users;
 /// 12 where a log is full. A connection's end never ends the server.
 pub fn serve<R: Threads + Wait + Clock + Sync, K: Sink>(
     threads: &R,
@@ -135,6 +141,10 @@ fn listen<R: Threads + Wait + Clock + Sync, K: Sink>(
     let (Some(address), Some(helper)) = (text(&plan.listen), text(&plan.helper)) else {
         return Status::ListenFault;
     };
+    let feed = match feed_listener(rt, plan) {
+        Ok(feed) => feed,
+        Err(status) => return status,
+    };
     let door = Door {
         rt,
         alloc: rt.alloc(),
@@ -144,37 +154,157 @@ fn listen<R: Threads + Wait + Clock + Sync, K: Sink>(
     };
     let mut visit = Visit { seats, nonces };
     match listening(rt, address, sink) {
-        Ok(listener) => {
-            let bounds = Bounds {
-                connections: plan.connections,
-                at_once: AT_ONCE,
-            };
-            match serve_each(threads, &listener, &door, &mut visit, bounds) {
-                Ok(()) => Status::Done,
-                Err(why) => refused(rt, address, why),
-            }
-        }
+        Ok(listener) => match feed {
+            Some(feed) => answer_both(threads, rt, plan, &door, &mut visit, listener, feed),
+            None => answer(threads, rt, plan, &door, &mut visit, &listener, AT_ONCE),
+        },
         Err(status) => status,
+    }
+}
+
+// Answers the connections of a listener, at most so many at once.
+fn answer<R: Threads + Wait + Clock + Sync>(
+    threads: &R,
+    rt: HostRuntime,
+    plan: &ServePlan,
+    door: &Door<'_, ServedDisk>,
+    visit: &mut Visit<ServedDisk>,
+    listener: &TcpListener,
+    at_once: u64,
+) -> Status
+    requires { AreSeats door.now.shared.now visit.old.seats }
+{
+    let bounds = Bounds {
+        connections: plan.connections,
+        at_once,
+    };
+    match serve_each(threads, listener, door, visit, bounds) {
+        Ok(()) => Status::Done,
+        Err(why) => refused(rt, plan.listen.as_slice(), why),
+    }
+}
+
+// Answers the connections of followers, at most so many at once.
+fn answer_followers<R: Threads + Wait + Clock + Sync>(
+    threads: &R,
+    rt: HostRuntime,
+    plan: &ServePlan,
+    hatch: &Hatch<'_, ServedDisk>,
+    visit: &mut Visit<ServedDisk>,
+    listener: &TcpListener,
+    at_once: u64,
+) -> Status
+    requires { AreSeats hatch.now.shared.now visit.old.seats }
+{
+    let bounds = Bounds {
+        connections: plan.feeds,
+        at_once,
+    };
+    match serve_each(threads, listener, hatch, visit, bounds) {
+        Ok(()) => Status::Done,
+        Err(why) => refused(rt, plan.feed.as_slice(), why),
+    }
+}
+
+// Answers connections, and those of followers beside them, until both have ended.
+fn answer_both<R: Threads + Wait + Clock + Sync>(
+    threads: &R,
+    rt: HostRuntime,
+    plan: &ServePlan,
+    door: &Door<'_, ServedDisk>,
+    visit: &mut Visit<ServedDisk>,
+    listener: TcpListener,
+    feed: TcpListener,
+) -> Status
+    requires { AreSeats door.now.shared.now visit.old.seats }
+{
+    let Some(mut other) = visit.split_off(door.alloc, door.shared) else {
+        return Status::OutOfMemory;
+    };
+    let hatch = Hatch {
+        rt,
+        alloc: door.alloc,
+        shared: door.shared,
+        helper: door.helper,
+    };
+    let (followed, answered) = join(
+        threads,
+        ||
+            requires { AreSeats hatch.shared.now other.seats }
+        {
+            answer_followers(
+                threads,
+                rt,
+                plan,
+                &hatch,
+                &mut other,
+                &feed,
+                FOLLOWERS_AT_ONCE,
+            )
+        },
+        ||
+            requires { AreSeats door.now.shared.now visit.now.seats }
+        {
+            answer(
+                threads,
+                rt,
+                plan,
+                door,
+                visit,
+                &listener,
+                AT_ONCE - FOLLOWERS_AT_ONCE,
+            )
+        },
+    );
+    match answered {
+        Status::Done => followed,
+        status => status,
+    }
+}
+
+// The listener for followers, where the plan has one. The port of one whose address ends in `:0` is told on standard error.
+fn feed_listener(rt: HostRuntime, plan: &ServePlan) -> Result<Option<TcpListener>, Status> {
+    if plan.feed.is_empty() {
+        return Ok(None);
+    }
+    let Some(address) = text(&plan.feed) else {
+        return Err(Status::ListenFault);
+    };
+    match bound(rt, address) {
+        Ok((listener, here)) => {
+            if address.ends_with(":0") {
+                let _ = eprintln!(rt; "upspin: followers are listened for at {here}");
+            }
+            Ok(Some(listener))
+        }
+        Err(status) => Err(status),
     }
 }
 
 // The listener of an address, once it is printed.
 fn listening<K: Sink>(rt: HostRuntime, address: &str, sink: &mut K) -> Result<TcpListener, Status> {
+    let (listener, here) = bound(rt, address)?;
+    match say_listening(rt.alloc(), sink, here) {
+        Status::Done => Ok(listener),
+        status => Err(status),
+    }
+}
+
+// The listener of an address, and where it is.
+fn bound(rt: HostRuntime, address: &str) -> Result<(TcpListener, SocketAddr), Status> {
     let listener = match TcpListener::bind(&rt, address) {
         Ok(listener) => listener,
-        Err(why) => return Err(refused(rt, address, why)),
+        Err(why) => return Err(refused(rt, address.as_bytes(), why)),
     };
     match listener.local_addr() {
-        Ok(here) => match say_listening(rt.alloc(), sink, here) {
-            Status::Done => Ok(listener),
-            status => Err(status),
-        },
-        Err(why) => Err(refused(rt, address, why)),
+        Ok(here) => Ok((listener, here)),
+        Err(why) => Err(refused(rt, address.as_bytes(), why)),
     }
 }
 
 // Says why nobody is served at an address any more.
-fn refused(rt: HostRuntime, address: &str, why: impl Display + Drop) -> Status {
+fn refused(rt: HostRuntime, address: &[u8], why: impl Display + Drop) -> Status {
+    let address = str::from_utf8(address).unwrap_or("");
     let _ = eprintln!(rt; "upspin: {address}: {why}");
     Status::ListenFault
 }

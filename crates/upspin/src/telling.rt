@@ -6,7 +6,7 @@ const VERSION: &str = "0.1";
 
 /// The commands, those too that the usage line has not, and where to read on.
 const COMMANDS: &str =
-    "can, script, explain can, explain script, serve, client, copy, audit, share, storm, verify, sign (README.md says what each does)";
+    "can, script, explain can, explain script, serve, client, copy, follow, audit, share, storm, verify, sign (README.md says what each does)";
 
 /// The status where the words are not those of a command; the usage line was printed.
 const USAGE: u8 = 64;
@@ -19,6 +19,7 @@ pub fn tell(rt: &HostRuntime, command: Command, words: &[String], status: u8) {
     }
     let meaning = match command {
         Command::Serve => serve_meaning(status),
+        Command::Follow => follow_meaning(status),
         Command::Audit | Command::Share => report_meaning(status),
         Command::Storm => storm_meaning(status),
         Command::Can => can_meaning(status),
@@ -62,6 +63,20 @@ fn serve_meaning(status: u8) -> Option<&'static str> {
         10 => Some("upspin: a line of the file of users is bad (docs/SERVING.md, Statuses)"),
         12 => Some("upspin: a log has no room for what it is to take (docs/SERVING.md, Statuses)"),
         _ => None,
+    }
+}
+
+/// What a status of `follow` means for people.
+fn follow_meaning(status: u8) -> Option<&'static str> {
+    match status {
+        1 => Some("upspin: a line of the input is malformed (docs/FOLLOWING.md)"),
+        6 => Some(
+            "upspin: the log cannot be had or read, or another program has it (docs/FOLLOWING.md)",
+        ),
+        8 => Some(
+            "upspin: the log is damaged, or not of this owner, and was not opened (docs/FOLLOWING.md)",
+        ),
+        _ => meaning(status),
     }
 }
 

@@ -9,6 +9,7 @@ pub enum Command {
     Serve,
     Client,
     Copy,
+    Follow,
     Audit,
     Share,
     Storm,
@@ -68,6 +69,7 @@ fn command_named(word: &str) -> Command {
 fn other_command(word: &str) -> Command {
     match word {
         "copy" => Command::Copy,
+        "follow" => Command::Follow,
         "audit" => Command::Audit,
         "share" => Command::Share,
         "storm" => Command::Storm,
