@@ -25,6 +25,11 @@ fn add_fields(plan: &ServePlan, answer: &mut Answer) {
     answer.coded(plan.enrol.as_slice());
     add_peers(&plan.peers, answer);
     answer.number(plan.connections);
+    if !plan.feed.as_slice().is_empty() {
+        answer.word("feed");
+        answer.coded(plan.feed.as_slice());
+        answer.number(plan.feeds);
+    }
 }
 
 fn add_trees(trees: &[User], answer: &mut Answer) {
