@@ -1,14 +1,14 @@
 //! That the sessions of a storm run at once: a gate holds one of them, and sees another go on.
-ghost use Rattle.std.specs.Prelude.{◌<◌};
-
+use crate::words_of;
 use std::alloc::{AllocError, Global};
 use std::hash::RandomState;
 use std::sync::Wait;
 use std::sync::atomic::{AtomicU64, Ordering};
 use std::thread;
 use std::thread::Threads;
-use up_ends::Gate;
-use up_storm::{Plan, storm_within};
+use up_ends::{Gate, MemSink};
+use up_lists::Items;
+use up_storm::{Plan, storm_run, storm_within};
 
 /// For how many turns a held call waits at most for another thread: some seconds on a machine that has nothing else to do.
 const MANY_TURNS: u64 = 5_000_000;
@@ -56,33 +56,48 @@ impl Held {
         }
         self.late.store(1, Ordering::SeqCst);
     }
+
+    /// Whether session 1 went on before the turns were used up.
+    fn saw_the_other(&self) -> bool {
+        self.late.load(Ordering::SeqCst) == 0
+    }
 }
 
-// Whether a gate that holds session 0 for so many turns saw session 1 go on, over so many threads.
-fn saw_the_other<R: Threads + Wait + Sync>(
+// Whether session 1 goes on in a whole run while session 0 is held, and all ends well.
+fn goes_on<R: Threads + Wait + Sync>(
     rt: &R,
     alloc: Global,
     random: RandomState,
-    threads: usize,
-    turns: u64,
-) -> Result<bool, AllocError>
-    requires { 0 < threads }
-{
-    let gate = Held::new(turns);
+) -> Result<bool, AllocError> {
+    let gate = Held::new(MANY_TURNS);
+    let words = words_of(alloc, "storm 5 2 3")?;
+    let mut sink = MemSink::new(alloc, Items::new(alloc));
+    let status = storm_run(rt, alloc, random, &words, &mut sink, &gate);
+    Ok(status == 0 && gate.saw_the_other())
+}
+
+// The same where one thread runs all sessions.
+fn goes_on_alone<R: Threads + Wait + Sync>(
+    rt: &R,
+    alloc: Global,
+    random: RandomState,
+) -> Result<bool, AllocError> {
+    let gate = Held::new(FEW_TURNS);
     let plan = Plan {
         seed: 5,
         sessions: 2,
         requests: 3,
         full: false,
     };
-    let text = storm_within(rt, alloc, random, plan, threads, &gate)?;
-    Ok(gate.late.load(Ordering::SeqCst) == 0 && text.len() > 0)
+    let text = storm_within(rt, alloc, random, plan, 1, &gate)?;
+    drop(text);
+    Ok(gate.saw_the_other())
 }
 
 #[test]
 fn storm_at_once(rt: HostRuntime) {
     let random = RandomState::new(&rt).expect(&rt, "random bytes");
-    let at_once = saw_the_other(&rt, rt.alloc(), random, 2, MANY_TURNS).expect(&rt, "memory");
+    let at_once = goes_on(&rt, rt.alloc(), random).expect(&rt, "memory");
     assert!(rt; at_once);
 }
 
@@ -90,6 +105,6 @@ fn storm_at_once(rt: HostRuntime) {
 #[test]
 fn one_after_the_other_is_seen(rt: HostRuntime) {
     let random = RandomState::new(&rt).expect(&rt, "random bytes");
-    let at_once = saw_the_other(&rt, rt.alloc(), random, 1, FEW_TURNS).expect(&rt, "memory");
+    let at_once = goes_on_alone(&rt, rt.alloc(), random).expect(&rt, "memory");
     assert!(rt; !at_once);
 }
