@@ -4,10 +4,14 @@
 //! a line behind `= ` is what the line before it prints.
 //!
 //! The program is the server's and the clients' helper too: its words are then `verify ..` or `sign ..`. It prints how many examples and lines
-//! there were, and before that each line whose reply is another one; its status is 1 where there is one, or where an example could not be run.
+//! there were, and before that each line whose reply is another one; its status is 1 where there is one, or where an example, or the follower, could not be run.
+//!
+//! Then a server takes changes of a client while a follower pulls them from it; once all have ended, the two logs are compared, and the number
+//! of their records is printed.
 #![tactic(auto)]
 
 mod example;
+mod following;
 mod helper;
 mod serving;
 mod session;
@@ -42,6 +46,14 @@ fn run_all<R: Threads + Wait + Clock + Sync>(threads: &R, rt: HostRuntime) -> io
     Ok(tally)
 }
 
+/// Runs all examples, and then a server with a follower.
+fn run<R: Threads + Wait + Clock + Sync>(threads: &R, rt: HostRuntime) -> io::Result<(Tally, u64)> {
+    let tally = run_all(threads, rt)?;
+    let helper = helper::path(&rt)?;
+    let followed = following::run(threads, rt, helper.as_str())?;
+    Ok((tally, followed))
+}
+
 /// Runs one example, and counts it.
 fn run_one<R: Threads + Wait + Clock + Sync>(
     threads: &R,
@@ -58,26 +70,27 @@ fn run_one<R: Threads + Wait + Clock + Sync>(
 }
 
 /// Says what was counted.
-fn tell(rt: HostRuntime, tally: Tally) -> io::Result<()> {
+fn tell(rt: HostRuntime, tally: Tally, followed: u64) -> io::Result<()> {
     let Tally {
         examples,
         lines,
         others,
     } = tally;
-    println!(rt; "{examples} examples, {lines} lines, {others} answered otherwise")
+    println!(rt; "{examples} examples, {lines} lines, {others} answered otherwise")?;
+    println!(rt; "{followed} records followed")
 }
 
 fn main(rt: HostRuntime) -> ExitCode {
     if let Some(status) = helper::status(&rt) {
         return ExitCode::from(status);
     }
-    match run_all(&rt, rt) {
-        Ok(tally) => match tell(rt, tally) {
+    match run(&rt, rt) {
+        Ok((tally, followed)) => match tell(rt, tally, followed) {
             Ok(()) => ExitCode::from(u8::from(tally.others > 0)),
             Err(_) => ExitCode::from(3),
         },
         Err(why) => {
-            let _ = eprintln!(rt; "an example could not be run: {why}");
+            let _ = eprintln!(rt; "an example, or the follower, could not be run: {why}");
             ExitCode::from(1)
         }
     }

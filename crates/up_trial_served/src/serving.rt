@@ -10,7 +10,7 @@ use up_ends::StdSink;
 use up_server::serve;
 
 /// The server's file of users, in the folder in which the program runs, and its logs there.
-const USERS: &str = "users";
+pub const USERS: &str = "users";
 
 const LOGS: [&str; 3] = ["tree-0.log2", "store.log2", "keys.log2"];
 
@@ -40,7 +40,7 @@ pub fn run<R: Threads + Wait + Clock + Sync>(
 }
 
 /// Removes what an earlier example left.
-fn clear(rt: HostRuntime) {
+pub fn clear(rt: HostRuntime) {
     for log in LOGS {
         let _ = fs::remove_file(&rt, log);
     }
@@ -114,7 +114,8 @@ fn words(rt: HostRuntime, helper: &str, connections: u64) -> io::Result<Vec<Stri
     Ok(words)
 }
 
-fn served<R: Threads + Wait + Clock + Sync>(
+/// Runs a server with these words, which says on the pipe where it listens.
+pub fn served<R: Threads + Wait + Clock + Sync>(
     threads: &R,
     rt: HostRuntime,
     words: Vec<String>,
@@ -142,7 +143,7 @@ fn asked(
 }
 
 /// The port of the line `listening 127.0.0.1:PORT`.
-fn port_heard(rt: HostRuntime, hears: &mut PipeReader) -> io::Result<String> {
+pub fn port_heard(rt: HostRuntime, hears: &mut PipeReader) -> io::Result<String> {
     let mut line = String::new(rt.alloc());
     let mut byte = [0; 1];
     for _ in 0..100 {
