@@ -139,9 +139,8 @@ fn changed(rt: HostRuntime, helper: &str, port: String) -> io::Result<()> {
     let mut server = dialled(rt, helper, port.as_str())?;
     let mut source = source_of(rt, lines);
     let mut sink = MemSink::new(alloc, Items::new(alloc));
-    let words = all_words(rt, ["client", "home", helper, OWNER, ""].as_slice())?;
-    let (command, _) = words.as_slice().split_at(4);
-    let status = client_run(alloc, command, &mut source, &mut sink, &mut server);
+    let words = all_words(rt, ["client", "home", helper, OWNER].as_slice())?;
+    let status = client_run(alloc, words.as_slice(), &mut source, &mut sink, &mut server);
     if status == 0 { Ok(()) } else { Err(other()) }
 }
 
