@@ -35,7 +35,7 @@ use Rattle.up_answers.specs.Agreement.{Agree, SeesTheSame, used}
 use Rattle.up_answers.specs.Answers.{added, answer}
 use Rattle.up_answers.specs.Fetching.{Fetched}
 use Rattle.up_answers.specs.Needs.{needs_asked}
-use Rattle.up_list.specs.declared.asking.Asked.{Asked}
+use Rattle.up_list.specs.declared.asking.ReadRequest.{ReadRequest}
 use Rattle.up_answers.specs.Views.{View, view}
 use Rattle.up_answers.specs.Watches.{items_under}
 use Rattle.up_wire.specs.declared.replies.Row.{Row}
@@ -215,7 +215,7 @@ HistoriesAgree = (user : UserName) (loadings : List Loading) (one two : Log) (as
 -- some group needed in the other. So "the same answer" is one for the same loading, also where the other tree's host would have
 -- loaded more.
 abbrev pub NeedsMayDiffer : Type 0
-NeedsMayDiffer = (user : UserName) × (loaded : Loading) × (asked : Asked) × (one : Log) × (two : Log) × IsWhole one × IsWhole two × Agree user (loaded ∷ []) one two
+NeedsMayDiffer = (user : UserName) × (loaded : Loading) × (asked : ReadRequest) × (one : Log) × (two : Log) × IsWhole one × IsWhole two × Agree user (loaded ∷ []) one two
     × (needs_asked one loaded user asked ≡ []) × (needs_asked two loaded user asked ≢ [])
 
 -- the second loading has each answer of the first

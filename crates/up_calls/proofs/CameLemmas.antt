@@ -36,7 +36,7 @@ use Rattle.up_entry.specs.declared.fetch.Fetch.{Fetch}
 use Rattle.up_entry.specs.declared.fetch.Fetch.TheVariants as fetch
 use Rattle.up_entry.specs.declared.what.What.{What}
 use Rattle.up_list.specs.Asking.{asked_of, owner_asked}
-use Rattle.up_list.specs.declared.asking.Asked.{Asked as Asking}
+use Rattle.up_list.specs.declared.asking.ReadRequest.{ReadRequest as Asking}
 use Rattle.up_names.specs.Texts.{UserName}
 use Rattle.up_peer.specs.declared.loader.Loader.{Ghosts}
 use Rattle.up_policy.specs.Loadings.{Loading}

@@ -12,8 +12,8 @@ use Rattle.up_answers.specs.Needs.{Place, event_places, event_places_to, items_w
 use Rattle.up_entry.specs.ControlFiles.{is_ordinary}
 use Rattle.up_list.specs.Asking.{owner_asked}
 use Rattle.up_list.specs.Globs.{is_candidate, literal_path}
-use Rattle.up_list.specs.declared.asking.Asked.{Asked}
-use Rattle.up_list.specs.declared.asking.Asked.TheVariants.{Lookup, WhichAccess, GroupText, Delete, Put, Glob, Watch}
+use Rattle.up_list.specs.declared.asking.ReadRequest.{ReadRequest}
+use Rattle.up_list.specs.declared.asking.ReadRequest.TheVariants.{Lookup, WhichAccess, GroupText, Delete, Put, Glob, Watch}
 use Rattle.up_names.specs.PathNames.{PathName, control_of, is_under}
 use Rattle.up_names.specs.PathOrder.{path_cmp}
 use Rattle.up_names.specs.PathOrderLaws.{path_cmp_eq}
@@ -113,7 +113,7 @@ module _ (log : Log) where
     | inr there ↦ f place there
   ]
 
-  places_trees : (asked : Asked) (place : Place) → Contains (places log asked) place → IsTree place
+  places_trees : (asked : ReadRequest) (place : Place) → Contains (places log asked) place → IsTree place
   unfolding places
   places_trees (GroupText path) place h = absurd (no_member place h)
   places_trees (Lookup path) place h = one_tree (tree_of log.records) path now_sorted place h
@@ -130,7 +130,7 @@ module _ (log : Log) where
       by true h = one_tree (tree_of log.records) path now_sorted place h
       by false h = absurd (no_member place h)
 
-  owner_trees : (asked : Asked) (place : Place) → Contains (owner_places log asked) place → IsTree place
+  owner_trees : (asked : ReadRequest) (place : Place) → Contains (owner_places log asked) place → IsTree place
   unfolding owner_places
   owner_trees (Delete path) place h = ordinary_trees path place h
   owner_trees (Put put) place h = ordinary_trees put.entry.name place h
@@ -140,7 +140,7 @@ module _ (log : Log) where
   owner_trees (Glob pattern) place h = absurd (no_member place h)
   owner_trees (Watch path sequence) place h = absurd (no_member place h)
 
-  pub places_listed : (user : UserName) (asked : Asked) (place : Place) → Contains (places_for log user asked) place → ListsGroups (facts_of log.owner place.0) (group_paths place.0)
+  pub places_listed : (user : UserName) (asked : ReadRequest) (place : Place) → Contains (places_for log user asked) place → ListsGroups (facts_of log.owner place.0) (group_paths place.0)
   places_listed user asked place h = groups_listed log.owner place.0 (by (bytes_eq (owner_asked asked) log.owner) (bytes_eq user log.owner) h)
     where
       by : (here owner : Bool) → Contains (if not here then [] else if owner then owner_places log asked else places log asked) place → IsTree place

@@ -22,11 +22,11 @@ pub fn delete_record(
     tree: &MemTree,
     loaded: &Loaded,
     user: &User,
-    path: Path,
+    path: &Path,
 ) -> Result<Result<Rec, Reply>, AllocError>
-    requires { path.owner ≡ tree.now.owner }
+    requires { path.now.owner ≡ tree.now.owner }
     ensures outcome { IfOk result (λ outcome. outcome
-        ≡ delete_outcome (look_in tree.now loaded.now user.now) path) }
+        ≡ delete_outcome (look_in tree.now loaded.now user.now) path.now) }
     ensures fits { IfOk result (λ led. IfOk led (Fits tree.now.owner tree.now.log)) }
 {
     let led = delete_leads(alloc, tree, loaded, user, path)?;
@@ -39,22 +39,15 @@ fn delete_leads(
     tree: &MemTree,
     loaded: &Loaded,
     user: &User,
-    path: Path,
+    path: &Path,
 ) -> Result<Result<Rec, Reply>, AllocError>
-    requires { path.owner ≡ tree.now.owner }
+    requires { path.now.owner ≡ tree.now.owner }
     ensures { IfOk result (λ outcome. outcome
-        ≡ delete_outcome (look_in tree.now loaded.now user.now) path) }
+        ≡ delete_outcome (look_in tree.now loaded.now user.now) path.now) }
 {
-    match refusal_of(alloc, tree, loaded, user, &path) {
-        Ok(None) => Ok(Ok(Rec::Delete(path))),
-        Ok(Some(refusal)) => {
-            drop(path);
-            Ok(Err(refusal))
-        }
-        Err(fault) => {
-            drop(path);
-            Err(fault)
-        }
+    match refusal_of(alloc, tree, loaded, user, path)? {
+        None => Ok(Ok(Rec::Delete(path.clone()?))),
+        Some(refusal) => Ok(Err(refusal)),
     }
 }
 

@@ -36,13 +36,13 @@ pub fn put_record(
     loaded: &Loaded,
     user: &User,
     fetched: &[(Location, Fetch)],
-    put: Checked,
+    put: &Checked,
 ) -> Result<Result<Rec, Reply>, AllocError>
-    requires owned { put.entry.name.owner ≡ tree.now.owner }
-    requires formed { HasFixedForm put.entry }
+    requires owned { put.now.entry.name.owner ≡ tree.now.owner }
+    requires formed { HasFixedForm put.now.entry }
     ensures outcome { IfOk result (λ outcome. outcome
         ≡ put_outcome (look_in tree.now loaded.now user.now) (length tree.now.log)
-        fetched.now put) }
+        fetched.now put.now) }
     ensures fits { IfOk result (λ led. IfOk led (Fits tree.now.owner tree.now.log)) }
 {
     let led = put_leads(alloc, tree, loaded, user, fetched, put)?;
@@ -57,23 +57,16 @@ fn put_leads(
     loaded: &Loaded,
     user: &User,
     fetched: &[(Location, Fetch)],
-    put: Checked,
+    put: &Checked,
 ) -> Result<Result<Rec, Reply>, AllocError>
-    requires { put.entry.name.owner ≡ tree.now.owner }
+    requires { put.now.entry.name.owner ≡ tree.now.owner }
     ensures { IfOk result (λ outcome. outcome
         ≡ put_outcome (look_in tree.now loaded.now user.now) (length tree.now.log)
-        fetched.now put) }
+        fetched.now put.now) }
 {
-    match refusal_of(alloc, tree, loaded, user, &put) {
-        Ok(None) => record_of(alloc, tree, fetched, put.entry),
-        Ok(Some(refusal)) => {
-            drop(put);
-            Ok(Err(refusal))
-        }
-        Err(fault) => {
-            drop(put);
-            Err(fault)
-        }
+    match refusal_of(alloc, tree, loaded, user, put)? {
+        None => record_of(alloc, tree, fetched, &put.entry),
+        Some(refusal) => Ok(Err(refusal)),
     }
 }
 
@@ -104,37 +97,37 @@ fn record_of(
     alloc: Global,
     tree: &MemTree,
     fetched: &[(Location, Fetch)],
-    entry: Entry,
+    entry: &Entry,
 ) -> Result<Result<Rec, Reply>, AllocError>
     ensures { IfOk result (λ led. led
-        ≡ recorded tree.now.owner (length tree.now.log) fetched.now entry) }
+        ≡ recorded tree.now.owner (length tree.now.log) fetched.now entry.now) }
 {
-    match text_put(alloc, tree.owner(), fetched, &entry) {
-        Ok(Ok(text)) => record_with(tree, entry, text),
-        Ok(Err(refusal)) => {
-            drop(entry);
-            Ok(Err(refusal))
-        }
+    match text_put(alloc, tree.owner(), fetched, entry)? {
+        Ok(text) => record_with(tree, entry, text),
+        Err(refusal) => Ok(Err(refusal)),
+    }
+}
+
+/// The record of an entry with its text, behind those that the tree has.
+fn record_with(tree: &MemTree, entry: &Entry, text: Bytes) -> Result<Result<Rec, Reply>, AllocError>
+    ensures { IfOk result (λ led. led
+        ≡ std.Ok (rec.Put (record entry.now { sequence = length tree.now.log + 1 }) text)) }
+{
+    match entry_behind(entry, tree.position()) {
+        Ok(entry) => Ok(Ok(Rec::Put(entry, text))),
         Err(fault) => {
-            drop(entry);
+            drop(text);
             Err(fault)
         }
     }
 }
 
-/// The record of an entry with its text, behind those that the tree has.
-fn record_with(tree: &MemTree, entry: Entry, text: Bytes) -> Result<Result<Rec, Reply>, AllocError>
-    ensures { IfOk result (λ led. led
-        ≡ std.Ok (rec.Put (record entry { sequence = length tree.now.log + 1 }) text)) }
+/// A copy of an entry with the position behind so many records as its sequence.
+fn entry_behind(entry: &Entry, records: u64) -> Result<Entry, AllocError>
+    ensures { IfOk result (λ copy. copy ≡ record entry.now { sequence = records + 1 }) }
 {
-    match next_position(tree.position()) {
-        Ok(position) => Ok(Ok(Rec::Put(at_position(entry, position), text))),
-        Err(fault) => {
-            drop(entry);
-            drop(text);
-            Err(fault)
-        }
-    }
+    let position = next_position(records)?;
+    Ok(at_position(entry.clone()?, position))
 }
 
 /// The right that a Put needs, by what stands there.

@@ -5,14 +5,13 @@ ghost use Rattle.up_answers.specs.Routes.{locations_asked, locations_for, locati
 ghost use Rattle.up_policy.specs.Trees.{owns_snapshots};
 ghost use Rattle.up_changes.specs.Places.{AreKnown};
 ghost use Rattle.up_changes.specs.Routes.{route_of};
-ghost use Rattle.up_changes.specs.declared.routes.Route.TheVariants.{Tree};
 ghost use Rattle.up_list.specs.Asking.{owner_asked};
 
 use crate::index::Key;
 use std::alloc::{AllocError, Global};
 use std::collections::BTreeSet;
 use up_entry::{Block, Entry, EntryFault, Location, is_control_file};
-use up_list::{Asked, asked_of};
+use up_list::{ReadRequest, asked_of};
 use up_lists::Items;
 use up_names::User;
 use up_wire::{Reply, Request};
@@ -34,22 +33,25 @@ pub fn route_of(alloc: Global, user: &User, request: &Request) -> Result<Route, 
 {
     match asked_of(alloc, user, request) {
         Ok(asked) => {
-            let route = tree_asked(alloc, &asked);
+            let to = tree_asked(alloc, &asked);
             drop(asked);
-            route
+            let (owner, locations) = to?;
+            Ok(Route::Tree(owner, locations))
         }
         Err(EntryFault::Invalid(what)) => Ok(Route::Refused(Reply::Invalid(what))),
         Err(EntryFault::OutOfMemory) => Err(AllocError),
     }
 }
 
-/// Where a request goes of which nothing is malformed.
-fn tree_asked(alloc: Global, asked: &Asked) -> Result<Route, AllocError>
-    ensures { IfOk result (λ route. route
-        ≡ Tree (log_owner (owner_asked asked.now)) (locations_asked asked.now)) }
+/// Where a request goes of which nothing is malformed: the owner of the log to which its path belongs, which for a path of a snapshot tree
+/// is the base user; and for a Put of a control file the different locations of its blocks, in order. An `Err` is want of memory.
+pub fn tree_asked(alloc: Global, asked: &ReadRequest) -> Result<(User, Items<Location>), AllocError>
+    ensures { IfOk result (λ to. to
+        ≡ (log_owner (owner_asked asked.now), locations_asked asked.now)) }
 {
     let owner = log_owner(asked.owner())?;
-    Ok(Route::Tree(owner, locations_asked(alloc, asked)?))
+    let locations = locations_asked(alloc, asked)?;
+    Ok((owner, locations))
 }
 
 /// The owner of the log to which a path of this owner belongs.
@@ -74,17 +76,17 @@ pub(crate) fn owns_snapshots(owner: &User) -> bool
 }
 
 /// What has to be fetched for a request.
-fn locations_asked(alloc: Global, asked: &Asked) -> Result<Items<Location>, AllocError>
+fn locations_asked(alloc: Global, asked: &ReadRequest) -> Result<Items<Location>, AllocError>
     ensures { IfOk result (λ locations. locations ≡ locations_asked asked.now) }
 {
     match asked {
-        Asked::Put(put) => locations_for(alloc, &put.entry),
-        Asked::Lookup(_)
-        | Asked::WhichAccess(_)
-        | Asked::GroupText(_)
-        | Asked::Delete(_)
-        | Asked::Glob(_)
-        | Asked::Watch(_, _) => Ok(Items::new(alloc)),
+        ReadRequest::Put(put) => locations_for(alloc, &put.entry),
+        ReadRequest::Lookup(_)
+        | ReadRequest::WhichAccess(_)
+        | ReadRequest::GroupText(_)
+        | ReadRequest::Delete(_)
+        | ReadRequest::Glob(_)
+        | ReadRequest::Watch(_, _) => Ok(Items::new(alloc)),
     }
 }
 

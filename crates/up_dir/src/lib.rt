@@ -7,11 +7,16 @@
 //! `specs/Crashes.antt`).
 //!
 //! What comes before it is handed on here: [`route_of`] says where a request goes and which blocks have to be fetched for it,
-//! [`foreign`] which groups of other owners have to be loaded.
+//! [`foreign`] which groups of other owners have to be loaded. [`step_asked`], [`tree_asked`] and [`foreign_asked`] are the same for a
+//! request that was read before, by `asked_of` of `up_list`: whoever asks several times reads it once.
+//!
+//! A request on a path of the tree leads to a reply or to a record over the tree in memory (`leading.rt`), which changes nothing; then
+//! the record is added, or the reply told.
 #![tactic(auto)]
 
 mod answering;
+mod leading;
 
-pub use answering::step;
-pub use up_changes::{Fetched, Route, route_of};
-pub use up_needs::foreign;
+pub use answering::{step, step_asked};
+pub use up_changes::{Fetched, Route, route_of, tree_asked};
+pub use up_needs::{foreign, foreign_asked};

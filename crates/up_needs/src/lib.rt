@@ -1,7 +1,8 @@
 //! Which groups of other owners have to be loaded for a request.
 //!
 //! [`foreign`] over a tree and its log, and [`foreign_in`] over a tree in memory, give exactly the needed groups: those that are reached
-//! from the texts that govern the places at which the request looks (`up_answers/specs/Needs.antt`), without those that have an answer.
+//! from the texts that govern the places at which the request looks (`up_answers/specs/Needs.antt`), without those that have an answer;
+//! [`foreign_asked`] does so for a request that was read before.
 //!
 //! A Glob looks at each item that its pattern can match, a Watch at the path of each record above its sequence that is under the watched
 //! path: in the tree as it is, and in the tree directly after the record. These records are found by their positions. A text that governs
@@ -13,4 +14,4 @@ mod items;
 mod needed;
 mod noted;
 
-pub use needed::{foreign, foreign_in};
+pub use needed::{foreign, foreign_asked, foreign_in};

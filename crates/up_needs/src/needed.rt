@@ -23,7 +23,7 @@ use crate::noted::{Noted, Times};
 use std::alloc::{AllocError, Global};
 use up_disk::Disk;
 use up_entry::{EntryFault, Rec};
-use up_list::{Asked, MemView, asked_of};
+use up_list::{MemView, ReadRequest, asked_of};
 use up_maps::OrderedMap;
 use up_names::{Control, Path, User};
 use up_nodes::MemTree;
@@ -45,6 +45,20 @@ pub fn foreign<D: Disk>(
         ≡ needs (log_of state.now) loaded.now user.now request.now) }
 {
     foreign_in(alloc, state.memory(), user, request, loaded)
+}
+
+/// The same for a request whose texts were read.
+pub fn foreign_asked<D: Disk>(
+    alloc: Global,
+    state: &TreeState<D>,
+    user: &User,
+    asked: &ReadRequest,
+    loaded: &Loaded,
+) -> Result<Names, AllocError>
+    ensures { IfOk result (λ names. names
+        ≡ needs_asked (log_of state.now) loaded.now user.now asked.now) }
+{
+    names_for(alloc, state.memory(), user, asked, loaded)
 }
 
 /// The groups that have to be loaded for a user's request over a tree in memory: those of other owners that are reached from the texts
@@ -71,13 +85,13 @@ pub fn foreign_in(
     }
 }
 
-/// The same for a request whose texts were read.
+/// The same over a tree in memory, for a request whose texts were read.
 #[tactic(auto, unfolding(up_answers::specs::Needs::needs_asked))]
 fn names_for(
     alloc: Global,
     tree: &MemTree,
     user: &User,
-    asked: &Asked,
+    asked: &ReadRequest,
     loaded: &Loaded,
 ) -> Result<Names, AllocError>
     ensures { (limits : Limits) → IfOk result (λ names. names
@@ -98,7 +112,7 @@ fn note_asked(
     alloc: Global,
     tree: &MemTree,
     user: &User,
-    asked: &Asked,
+    asked: &ReadRequest,
     loaded: &Loaded,
     names: &mut Names,
 ) -> Result<(), AllocError>
@@ -122,7 +136,7 @@ fn note_for_owner(
     alloc: Global,
     tree: &MemTree,
     user: &User,
-    asked: &Asked,
+    asked: &ReadRequest,
     loaded: &Loaded,
     names: &mut Names,
 ) -> Result<(), AllocError>
@@ -132,13 +146,13 @@ fn note_for_owner(
         (owner_places (log_over limits tree.now) asked.now))) }
 {
     match asked {
-        Asked::Delete(path) => note_ordinary(alloc, tree, user, path, loaded, names),
-        Asked::Put(put) => note_ordinary(alloc, tree, user, &put.entry.name, loaded, names),
-        Asked::Lookup(_)
-        | Asked::WhichAccess(_)
-        | Asked::GroupText(_)
-        | Asked::Glob(_)
-        | Asked::Watch(_, _) => Ok(()),
+        ReadRequest::Delete(path) => note_ordinary(alloc, tree, user, path, loaded, names),
+        ReadRequest::Put(put) => note_ordinary(alloc, tree, user, &put.entry.name, loaded, names),
+        ReadRequest::Lookup(_)
+        | ReadRequest::WhichAccess(_)
+        | ReadRequest::GroupText(_)
+        | ReadRequest::Glob(_)
+        | ReadRequest::Watch(_, _) => Ok(()),
     }
 }
 
@@ -148,7 +162,7 @@ fn note_for_others(
     alloc: Global,
     tree: &MemTree,
     user: &User,
-    asked: &Asked,
+    asked: &ReadRequest,
     loaded: &Loaded,
     names: &mut Names,
 ) -> Result<(), AllocError>
@@ -158,13 +172,13 @@ fn note_for_others(
         (places (log_over limits tree.now) asked.now))) }
 {
     match asked {
-        Asked::GroupText(_) => Ok(()),
-        Asked::Lookup(path) | Asked::WhichAccess(path) | Asked::Delete(path) => {
+        ReadRequest::GroupText(_) => Ok(()),
+        ReadRequest::Lookup(path) | ReadRequest::WhichAccess(path) | ReadRequest::Delete(path) => {
             note_now(alloc, tree, user, path, loaded, names)
         }
-        Asked::Put(put) => note_now(alloc, tree, user, &put.entry.name, loaded, names),
-        Asked::Glob(pattern) => note_glob(alloc, tree, user, pattern, loaded, names),
-        Asked::Watch(path, sequence) => {
+        ReadRequest::Put(put) => note_now(alloc, tree, user, &put.entry.name, loaded, names),
+        ReadRequest::Glob(pattern) => note_glob(alloc, tree, user, pattern, loaded, names),
+        ReadRequest::Watch(path, sequence) => {
             note_now(alloc, tree, user, path, loaded, names)?;
             note_watched(alloc, tree, user, path, *sequence, loaded, names)
         }

@@ -23,7 +23,7 @@ use Rattle.up_list.specs.Changes.{answer_of}
 use Rattle.up_list.specs.Checks.{at_link, check, first_link, lacking, ways}
 use Rattle.up_list.specs.Looks.{Look, has_some, look_now, rights, shown}
 use Rattle.up_list.specs.Reads.{file_text, group_text_reply, text_reply}
-use Rattle.up_list.specs.declared.asking.Asked.TheVariants.{GroupText}
+use Rattle.up_list.specs.declared.asking.ReadRequest.TheVariants.{GroupText}
 use Rattle.up_names.specs.PathNames.{PathName, canonical}
 use Rattle.up_names.specs.Texts.{UserName}
 use Rattle.up_names.specs.declared.fault.TextFault.{TextFault}

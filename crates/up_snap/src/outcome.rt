@@ -16,7 +16,7 @@ ghost use Rattle.up_snap.specs.Outcomes.{log_with};
 use crate::look::is_there;
 use std::alloc::{AllocError, Global};
 use up_entry::{Entry, Kind, Rec, What};
-use up_list::{Asked, Onlooker, check, glob_for, group_text, lookup, which_access};
+use up_list::{Onlooker, ReadRequest, check, glob_for, group_text, lookup, which_access};
 use up_names::{Path, User};
 use up_nodes::MemTree;
 use up_rights::Right;
@@ -31,7 +31,7 @@ pub(crate) fn outcome_for<O: Onlooker>(
     alloc: Global,
     tree: &MemTree,
     look: &O,
-    asked: &Asked,
+    asked: &ReadRequest,
     now: u64,
 ) -> Result<Led, AllocError>
     requires shower { IsShower tree.now.owner (owner_asked asked.now) }
@@ -44,13 +44,13 @@ pub(crate) fn outcome_for<O: Onlooker>(
     ensures fits { IfOk result (λ led. IfOk led (Fits tree.now.owner tree.now.log)) }
 {
     match asked {
-        Asked::Lookup(path) => Ok(Err(lookup(alloc, look, path)?)),
-        Asked::WhichAccess(path) => Ok(Err(which_access(alloc, look, path)?)),
-        Asked::GroupText(path) => Ok(Err(group_text(alloc, look, path)?)),
-        Asked::Glob(pattern) => Ok(Err(glob_for(alloc, look, pattern)?)),
-        Asked::Watch(_, _) => Ok(Err(Reply::Invalid(What::SnapshotWatch))),
-        Asked::Delete(path) => Ok(Err(deleted(alloc, look, path)?)),
-        Asked::Put(put) => taken(alloc, tree, look, &put.entry, now),
+        ReadRequest::Lookup(path) => Ok(Err(lookup(alloc, look, path)?)),
+        ReadRequest::WhichAccess(path) => Ok(Err(which_access(alloc, look, path)?)),
+        ReadRequest::GroupText(path) => Ok(Err(group_text(alloc, look, path)?)),
+        ReadRequest::Glob(pattern) => Ok(Err(glob_for(alloc, look, pattern)?)),
+        ReadRequest::Watch(_, _) => Ok(Err(Reply::Invalid(What::SnapshotWatch))),
+        ReadRequest::Delete(path) => Ok(Err(deleted(alloc, look, path)?)),
+        ReadRequest::Put(put) => taken(alloc, tree, look, &put.entry, now),
     }
 }
 

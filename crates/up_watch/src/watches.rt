@@ -37,31 +37,15 @@ pub fn watch<D: Disk>(
         ≡ bounded (watch_reply (log_of state.now) loaded.now user.now path.now sequence) }
 {
     match watch_in(alloc, state.memory(), loaded, user, path, sequence) {
-        Ok(reply) => reply,
+        Ok(reply) => bounded(reply),
         Err(AllocError) => Reply::OutOfMemory,
     }
 }
 
-/// The reply to Watch of a path of a tree in memory: what happened under it above a sequence, or what there is. It looks at no
-/// limit of the log.
-pub fn watch_in(
-    alloc: Global,
-    tree: &MemTree,
-    loaded: &Loaded,
-    user: &User,
-    path: &Path,
-    sequence: i64,
-) -> Result<Reply, AllocError>
-    requires { path.now.owner ≡ tree.now.owner }
-    ensures { (limits : Bounds) → IfOk result (λ reply. reply
-        ≡ bounded (watch_reply (log_in tree.now limits) loaded.now user.now path.now sequence)) }
-{
-    Ok(bounded(reply_to(alloc, tree, loaded, user, path, sequence)?))
-}
-
-/// The reply, however long it is.
+/// The reply to Watch of a path of a tree in memory, however long it is: what happened under it above a sequence, or what there is. It
+/// looks at no limit of the log.
 #[tactic(auto, unfolding(up_answers::specs::Watches::watch_reply))]
-fn reply_to(
+pub fn watch_in(
     alloc: Global,
     tree: &MemTree,
     loaded: &Loaded,
