@@ -11,7 +11,8 @@
 //! changes, those that stand there now and those that stood there once.
 //!
 //! [`snap_step`] answers a request on the snapshot tree: exactly what `answer` of `up_answers` says, whatever was loaded or fetched. A
-//! snapshot is added exactly where the reply is its position. [`snap_path`] is where it is shown.
+//! snapshot is added exactly where the reply is its position. [`snap_asked`] answers so a request that was read before. [`snap_path`] is
+//! where a snapshot is shown.
 #![tactic(auto)]
 
 mod laws;
