@@ -29,11 +29,11 @@ use Rattle.up_wire.specs.declared.replies.Done.TheVariants as done
 use Rattle.up_wire.specs.declared.replies.Reply.{Reply}
 use Rattle.up_wire.specs.declared.replies.Reply.TheVariants as reply
 use Rattle.up_wire.specs.declared.requests.Request.{Request}
-use Rattle.up_replay.specs.declared.node.Node.{Node}
-use Rattle.up_replay.specs.Fits.{IsLog, root_of}
-use Rattle.up_replay.specs.Trees.{Tree, children, is_file, kind_of, node_at, tree_of}
-use Rattle.up_replay.specs.Snapshots.{snap_at}
-use Rattle.up_replay.specs.Logs.{Log}
+use Rattle.up_log_tree.specs.declared.node.Node.{Node}
+use Rattle.up_log_tree.specs.Fits.{IsLog, root_of}
+use Rattle.up_log_tree.specs.Trees.{Tree, children, is_file, kind_of, node_at, tree_of}
+use Rattle.up_log_tree.specs.Snapshots.{snap_at}
+use Rattle.up_log_tree.specs.Logs.{Log}
 use Rattle.up_list.specs.declared.asking.Asked.{Asked}
 use Rattle.up_list.specs.declared.asking.Asked.TheVariants.{Lookup, WhichAccess, GroupText, Delete, Put, Glob, Watch}
 use Rattle.up_list.specs.Asking.{asked_of, owner_asked}
@@ -52,7 +52,7 @@ use Rattle.up_answers.specs.Puts.{holds, is_in_file, is_new, lacks_parent, place
 use Rattle.up_answers.specs.SnapshotReplies.{snapshot_delete, snapshot_outcome, snapshot_put, snapshot_record, takes_snapshot}
 use Rattle.up_answers.specs.SnapshotTrees.{snapshot_look}
 use Rattle.up_answers.specs.Watches.{batch, is_watched, watch_reply, watched}
-use Rattle.up_replay.proofs.Paths.{some_none, some_same}
+use Rattle.up_log_tree.proofs.Paths.{some_none, some_same}
 use Rattle.up_alone.proofs.LinkLemmas.{IsBare, ShowsBareLinks, snapshot_links, tree_links}
 
 -- where the reply is to follow a link, that has neither blocks nor packdata

@@ -15,9 +15,9 @@ use Rattle.up_calls.specs.Views.{SeenKeys, SeenStore, SeenTree, Views, log_seen}
 use Rattle.up_calls.specs.declared.event.Event.{Event}
 use Rattle.up_calls.specs.declared.service.Service.{Service}
 use Rattle.up_calls.specs.declared.service.Service.TheVariants as service
-use Rattle.up_changes.specs.Routes.{route_of}
-use Rattle.up_changes.specs.declared.routes.Route.{Route}
-use Rattle.up_changes.specs.declared.routes.Route.TheVariants as route
+use Rattle.up_edits.specs.Routes.{route_of}
+use Rattle.up_edits.specs.declared.routes.Route.{Route}
+use Rattle.up_edits.specs.declared.routes.Route.TheVariants as route
 use Rattle.up_disk.specs.declared.disk.Disk as disk
 use Rattle.up_entry.specs.declared.fault.EntryFault.{EntryFault}
 use Rattle.up_entry.specs.declared.fault.EntryFault.TheVariants as fault
@@ -29,7 +29,7 @@ use Rattle.up_list.specs.Asking.{asked_of, owner_asked}
 use Rattle.up_list.specs.declared.asking.Asked.{Asked}
 use Rattle.up_names.specs.Texts.{UserName}
 use Rattle.up_peer.specs.declared.loader.Loader as loader
-use Rattle.up_replay.proofs.Paths.{some_none, some_same}
+use Rattle.up_log_tree.proofs.Paths.{some_none, some_same}
 use Rattle.up_wire.specs.Spelling.{IsReply, IsServer, server}
 use Rattle.up_wire.specs.declared.keys.KeyRecord.{KeyRecord}
 use Rattle.up_wire.specs.declared.messages.ServerFrame.{ServerFrame}

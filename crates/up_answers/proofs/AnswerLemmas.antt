@@ -25,13 +25,13 @@ use Rattle.up_wire.specs.declared.replies.Reply.TheVariants as reply
 use Rattle.up_wire.specs.declared.replies.Done.TheVariants as done
 use Rattle.up_wire.specs.declared.requests.Request.{Request}
 use Rattle.up_wire.specs.declared.requests.Request.TheVariants as request
-use Rattle.up_replay.specs.declared.node.Node.{Node}
-use Rattle.up_replay.specs.Trees.{node_at, tree_of}
-use Rattle.up_replay.specs.Rights.{is_group}
-use Rattle.up_replay.specs.Logs.{Limits, Log, bytes_of}
-use Rattle.up_replay.specs.Sizes.{size_of}
-use Rattle.up_replay.proofs.Trees.{tree_sorted}
-use Rattle.up_replay.proofs.Rooted.{IsRooted, rooted}
+use Rattle.up_log_tree.specs.declared.node.Node.{Node}
+use Rattle.up_log_tree.specs.Trees.{node_at, tree_of}
+use Rattle.up_log_tree.specs.Rights.{is_group}
+use Rattle.up_log_tree.specs.Logs.{Limits, Log, bytes_of}
+use Rattle.up_log_tree.specs.Sizes.{size_of}
+use Rattle.up_log_tree.proofs.Trees.{tree_sorted}
+use Rattle.up_log_tree.proofs.Rooted.{IsRooted, rooted}
 use Rattle.up_list.specs.declared.asking.ReadRequest.{ReadRequest}
 use Rattle.up_list.specs.declared.asking.ReadRequest.TheVariants.{Lookup, WhichAccess, GroupText, Delete, Put, Glob, Watch}
 use Rattle.up_list.specs.Asking.{asked_of, owner_asked, pattern_or_fault}

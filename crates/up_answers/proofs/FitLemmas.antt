@@ -35,12 +35,12 @@ use Rattle.up_policy.specs.Loadings.{Loading}
 use Rattle.up_policy.specs.Trees.{owns_snapshots}
 use Rattle.up_wire.specs.declared.replies.Reply.{Reply}
 use Rattle.up_wire.specs.declared.replies.Reply.TheVariants as reply
-use Rattle.up_replay.specs.declared.node.Node.{Node}
-use Rattle.up_replay.specs.Trees.{Tree, node_at, tree_of, kind_of, is_file, is_link, children}
-use Rattle.up_replay.specs.Fits.{Fits, HasDirectory, HasPlace, MayReplace, TextFits, control_for}
-use Rattle.up_replay.specs.Logs.{Log}
-use Rattle.up_replay.specs.Sizes.{size_of}
-use Rattle.up_replay.proofs.Paths.{cut_whole, parent_is, parent_none, some_none, some_same}
+use Rattle.up_log_tree.specs.declared.node.Node.{Node}
+use Rattle.up_log_tree.specs.Trees.{Tree, node_at, tree_of, kind_of, is_file, is_link, children}
+use Rattle.up_log_tree.specs.Fits.{Fits, HasDirectory, HasPlace, MayReplace, TextFits, control_for}
+use Rattle.up_log_tree.specs.Logs.{Log}
+use Rattle.up_log_tree.specs.Sizes.{size_of}
+use Rattle.up_log_tree.proofs.Paths.{cut_whole, parent_is, parent_none, some_none, some_same}
 use Rattle.up_list.specs.Checks.{check, first_link, link_at, ways_to, ways, ways_before}
 use Rattle.up_list.specs.Changes.{◌>>=◌, added_by, is_full, unless, refuse, right_to_put}
 use Rattle.up_list.specs.Entries.{entry_of, if_link}
@@ -58,10 +58,10 @@ use Rattle.up_names.proofs.PathAgain.{path_of-again}
 use Rattle.up_names.proofs.PathLaws.{canonical-proper}
 use Rattle.up_wire.specs.declared.requests.Request.{Request}
 use Rattle.up_wire.specs.declared.requests.Request.TheVariants as request
-use Rattle.up_replay.specs.Fits.{is_snap_at, root_of, snapshot_user}
-use Rattle.up_replay.specs.Rights.{is_group}
-use Rattle.up_replay.specs.Snapshots.{snap_at}
-use Rattle.up_replay.proofs.Paths.{path_same}
+use Rattle.up_log_tree.specs.Fits.{is_snap_at, root_of, snapshot_user}
+use Rattle.up_log_tree.specs.Rights.{is_group}
+use Rattle.up_log_tree.specs.Snapshots.{snap_at}
+use Rattle.up_log_tree.proofs.Paths.{path_same}
 use Rattle.up_list.specs.declared.asking.ReadRequest.{ReadRequest}
 use Rattle.up_list.specs.declared.asking.ReadRequest.TheVariants.{Lookup, WhichAccess, GroupText, Delete, Put, Glob, Watch}
 use Rattle.up_list.specs.Asking.{asked_of, owner_asked, pattern_or_fault}

@@ -20,10 +20,10 @@ use Rattle.up_policy.specs.Verdicts.{is_control, only_looks}
 use Rattle.up_wire.specs.declared.replies.Reply.{Reply}
 use Rattle.up_wire.specs.declared.replies.Reply.TheVariants as reply
 use Rattle.up_wire.specs.declared.requests.Request.{Request}
-use Rattle.up_replay.specs.declared.node.Node.{Node}
-use Rattle.up_replay.specs.Trees.{children, node_at}
-use Rattle.up_replay.specs.Logs.{Limits, Log, bytes_of}
-use Rattle.up_replay.specs.Sizes.{size_of}
+use Rattle.up_log_tree.specs.declared.node.Node.{Node}
+use Rattle.up_log_tree.specs.Trees.{children, node_at}
+use Rattle.up_log_tree.specs.Logs.{Limits, Log, bytes_of}
+use Rattle.up_log_tree.specs.Sizes.{size_of}
 use Rattle.up_list.specs.declared.asking.ReadRequest.{ReadRequest}
 use Rattle.up_list.specs.declared.asking.ReadRequest.TheVariants.{Lookup, WhichAccess, GroupText, Delete, Put, Glob, Watch}
 use Rattle.up_list.specs.Asking.{asked_of, owner_asked}

@@ -33,15 +33,15 @@ use Rattle.up_wire.specs.declared.replies.Reply.TheVariants as reply
 use Rattle.up_wire.specs.declared.replies.Done.TheVariants as done
 use Rattle.up_wire.specs.declared.replies.WatchEvent.{WatchEvent}
 use Rattle.up_wire.specs.declared.requests.Request.{Request}
-use Rattle.up_replay.specs.declared.node.Node.{Node}
-use Rattle.up_replay.specs.Trees.{Tree, children, node_at, tree_at, tree_of}
-use Rattle.up_replay.specs.Logs.{Log}
-use Rattle.up_replay.specs.Orders.{has_path as has}
-use Rattle.up_replay.specs.Rights.{facts_of, group_paths}
-use Rattle.up_replay.proofs.Paths.{cut_cut, length_cut, parent_is, path_same, some_none, some_same}
-use Rattle.up_replay.proofs.Rising.{has-filter}
-use Rattle.up_replay.proofs.Rooted.{IsRooted, rooted}
-use Rattle.up_replay.proofs.Trees.{has_node, made_same, tree_sorted}
+use Rattle.up_log_tree.specs.declared.node.Node.{Node}
+use Rattle.up_log_tree.specs.Trees.{Tree, children, node_at, tree_at, tree_of}
+use Rattle.up_log_tree.specs.Logs.{Log}
+use Rattle.up_log_tree.specs.Orders.{has_path as has}
+use Rattle.up_log_tree.specs.Rights.{facts_of, group_paths}
+use Rattle.up_log_tree.proofs.Paths.{cut_cut, length_cut, parent_is, path_same, some_none, some_same}
+use Rattle.up_log_tree.proofs.Rising.{has-filter}
+use Rattle.up_log_tree.proofs.Rooted.{IsRooted, rooted}
+use Rattle.up_log_tree.proofs.Trees.{has_node, made_same, tree_sorted}
 use Rattle.up_list.specs.declared.asking.ReadRequest.{ReadRequest}
 use Rattle.up_list.specs.declared.asking.ReadRequest.TheVariants.{Lookup, WhichAccess, GroupText, Delete, Put, Glob, Watch}
 use Rattle.up_list.specs.Asking.{asked_of, owner_asked}

@@ -13,7 +13,7 @@ use Rattle.up_policy.specs.Trees.{owns_snapshots}
 use Rattle.up_wire.specs.declared.requests.Request.{Request}
 use Rattle.up_wire.specs.declared.replies.Reply.{Reply}
 use Rattle.up_wire.specs.declared.replies.Reply.TheVariants as reply
-use Rattle.up_replay.specs.Logs.{Log}
+use Rattle.up_log_tree.specs.Logs.{Log}
 use Rattle.up_list.specs.declared.asking.ReadRequest.{ReadRequest}
 use Rattle.up_list.specs.declared.asking.ReadRequest.TheVariants.{Lookup, WhichAccess, GroupText, Delete, Put, Glob, Watch}
 use Rattle.up_list.specs.Looks.{look_now}

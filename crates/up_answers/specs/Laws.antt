@@ -22,12 +22,12 @@ use Rattle.up_wire.specs.declared.replies.Reply.{Reply}
 use Rattle.up_wire.specs.declared.replies.Done.TheVariants.{Rows}
 use Rattle.up_wire.specs.declared.replies.Reply.TheVariants.{Ok, Private}
 use Rattle.up_wire.specs.declared.requests.Request.{Request}
-use Rattle.up_replay.specs.Trees.{made_of, node_at, tree_of}
-use Rattle.up_replay.specs.declared.node.Node.{Node}
-use Rattle.up_replay.specs.Rights.{facts_of, group_node}
-use Rattle.up_replay.specs.Fits.{IsLog}
-use Rattle.up_replay.specs.Logs.{Log}
-use Rattle.up_replay.specs.Sizes.{size_of}
+use Rattle.up_log_tree.specs.Trees.{made_of, node_at, tree_of}
+use Rattle.up_log_tree.specs.declared.node.Node.{Node}
+use Rattle.up_log_tree.specs.Rights.{facts_of, group_node}
+use Rattle.up_log_tree.specs.Fits.{IsLog}
+use Rattle.up_log_tree.specs.Logs.{Log}
+use Rattle.up_log_tree.specs.Sizes.{size_of}
 use Rattle.up_list.specs.Looks.{Look, rights, has_some, look_now, shown}
 use Rattle.up_list.specs.Checks.{check, link_at, ways}
 use Rattle.up_list.specs.Globs.{ends_literal, glob_reply, is_met, is_whole, literal_path, row_of}

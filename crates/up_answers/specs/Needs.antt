@@ -10,9 +10,9 @@ use Rattle.up_entry.specs.ControlFiles.{is_ordinary}
 use Rattle.up_policy.specs.declared.load_answer.LoadAnswer.{LoadAnswer}
 use Rattle.up_policy.specs.Reached.{needed, with_paths}
 use Rattle.up_wire.specs.declared.requests.Request.{Request}
-use Rattle.up_replay.specs.Trees.{Tree, tree_of, tree_at}
-use Rattle.up_replay.specs.Rights.{facts_of, group_paths}
-use Rattle.up_replay.specs.Logs.{Log}
+use Rattle.up_log_tree.specs.Trees.{Tree, tree_of, tree_at}
+use Rattle.up_log_tree.specs.Rights.{facts_of, group_paths}
+use Rattle.up_log_tree.specs.Logs.{Log}
 use Rattle.up_list.specs.declared.asking.ReadRequest.{ReadRequest}
 use Rattle.up_list.specs.declared.asking.ReadRequest.TheVariants.{Lookup, WhichAccess, GroupText, Delete, Put, Glob, Watch}
 use Rattle.up_list.specs.Globs.{literal_path, is_candidate}

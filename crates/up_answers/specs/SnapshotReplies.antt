@@ -12,10 +12,10 @@ use Rattle.up_entry.specs.declared.records.Rec.TheVariants as rec
 use Rattle.up_entry.specs.declared.what.What.TheVariants as what
 use Rattle.up_wire.specs.declared.replies.Reply.{Reply}
 use Rattle.up_wire.specs.declared.replies.Reply.TheVariants as reply
-use Rattle.up_replay.specs.Trees.{node_at, is_file, tree_of}
-use Rattle.up_replay.specs.Fits.{root_of, snapshot_user}
-use Rattle.up_replay.specs.Snapshots.{snap_at}
-use Rattle.up_replay.specs.Logs.{Log}
+use Rattle.up_log_tree.specs.Trees.{node_at, is_file, tree_of}
+use Rattle.up_log_tree.specs.Fits.{root_of, snapshot_user}
+use Rattle.up_log_tree.specs.Snapshots.{snap_at}
+use Rattle.up_log_tree.specs.Logs.{Log}
 use Rattle.up_list.specs.Looks.{Look}
 use Rattle.up_list.specs.Checks.{check, ways, ways_before}
 use Rattle.up_list.specs.Reads.{lookup_reply, access_reply, group_text_reply}

@@ -10,8 +10,8 @@ use Rattle.up_entry.specs.declared.entries.Block.{Block}
 use Rattle.up_entry.specs.declared.entries.Entry.{Entry}
 use Rattle.up_entry.specs.declared.records.Rec.{Rec}
 use Rattle.up_entry.specs.declared.records.Rec.TheVariants.{Put, Delete, Snap}
-use Rattle.up_replay.specs.Changes.{positions_of}
-use Rattle.up_replay.specs.Trees.{Tree, tree_at, tree_of}
+use Rattle.up_log_tree.specs.Changes.{positions_of}
+use Rattle.up_log_tree.specs.Trees.{Tree, tree_at, tree_of}
 
 -- a reference, as its bytes
 abbrev pub Ref : Type 0

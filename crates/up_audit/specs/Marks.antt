@@ -6,7 +6,7 @@ use Rattle.up_audit.specs.Audits.{Ref, is_among, is_snap, references_of}
 use Rattle.up_blocks.specs.Records.{reference_cmp}
 use Rattle.up_entry.specs.declared.records.Rec.{Rec}
 use Rattle.up_entry.specs.declared.records.Rec.TheVariants.{Put, Delete, Snap}
-use Rattle.up_replay.specs.Changes.{change_before, last_change, path_of_change, record_at}
+use Rattle.up_log_tree.specs.Changes.{change_before, last_change, path_of_change, record_at}
 
 -- the references of the entry that a record puts
 abbrev pub put_references : Option Rec → List Ref

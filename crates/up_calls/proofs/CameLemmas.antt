@@ -25,9 +25,9 @@ use Rattle.up_calls.specs.Views.{Later, SeenTree, Views, log_after, log_seen}
 use Rattle.up_calls.specs.declared.event.Event.{Event}
 use Rattle.up_calls.specs.declared.service.Service.{Service}
 use Rattle.up_calls.specs.declared.service.Service.TheVariants as service
-use Rattle.up_changes.specs.Routes.{route_of}
-use Rattle.up_changes.specs.declared.routes.Route.{Route}
-use Rattle.up_changes.specs.declared.routes.Route.TheVariants as route
+use Rattle.up_edits.specs.Routes.{route_of}
+use Rattle.up_edits.specs.declared.routes.Route.{Route}
+use Rattle.up_edits.specs.declared.routes.Route.TheVariants as route
 use Rattle.up_entry.specs.declared.entries.Endpoint.{Endpoint}
 use Rattle.up_entry.specs.declared.entries.Endpoint.TheVariants as endpoint
 use Rattle.up_entry.specs.declared.entries.Location.{Location}

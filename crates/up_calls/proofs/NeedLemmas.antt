@@ -25,9 +25,9 @@ use Rattle.up_policy.specs.Members.{groups_in, names_in, text_of}
 use Rattle.up_policy.specs.Reached.{groups_named, is_wanted, met_after, needed, needed_by, reached}
 use Rattle.up_policy.specs.Trees.{TreeFacts}
 use Rattle.up_policy.specs.declared.load_answer.LoadAnswer.{LoadAnswer}
-use Rattle.up_replay.proofs.Paths.{some_none}
-use Rattle.up_replay.specs.Logs.{Log}
-use Rattle.up_replay.specs.Rights.{facts_of, group_paths}
+use Rattle.up_log_tree.proofs.Paths.{some_none}
+use Rattle.up_log_tree.specs.Logs.{Log}
+use Rattle.up_log_tree.specs.Rights.{facts_of, group_paths}
 use Rattle.up_wire.specs.declared.requests.Request.{Request}
 
 -- ---- lists

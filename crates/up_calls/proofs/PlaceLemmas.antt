@@ -21,12 +21,12 @@ use Rattle.up_names.specs.Texts.{UserName}
 use Rattle.up_policy.proofs.PathLists.{Contains-cons, no_member}
 use Rattle.up_policy.proofs.VerdictLemmas.{at_any}
 use Rattle.up_policy.specs.Laws.{ListsGroups}
-use Rattle.up_replay.proofs.Paths.{path_same}
-use Rattle.up_replay.proofs.Trees.{find-made, tree_sorted}
-use Rattle.up_replay.specs.Logs.{Log}
-use Rattle.up_replay.specs.Rights.{facts_of, group_node, group_paths, is_group_file, items_of}
-use Rattle.up_replay.specs.Trees.{Tree, made_of, node_at, tree_at, tree_of}
-use Rattle.up_replay.specs.declared.node.Node.{Node}
+use Rattle.up_log_tree.proofs.Paths.{path_same}
+use Rattle.up_log_tree.proofs.Trees.{find-made, tree_sorted}
+use Rattle.up_log_tree.specs.Logs.{Log}
+use Rattle.up_log_tree.specs.Rights.{facts_of, group_node, group_paths, is_group_file, items_of}
+use Rattle.up_log_tree.specs.Trees.{Tree, made_of, node_at, tree_at, tree_of}
+use Rattle.up_log_tree.specs.declared.node.Node.{Node}
 
 -- ---- the path of each Group file of a sorted tree is listed
 

@@ -3,9 +3,9 @@ use Rattle.std.proofs.Common.{◌≡◌, ap, Result, Ok, Err, List, []}
 use Rattle.up_answers.specs.Answers.{fault_reply, log_owner}
 use Rattle.up_answers.specs.Needs.{needs, needs_asked}
 use Rattle.up_answers.specs.Routes.{locations_asked}
-use Rattle.up_changes.specs.Routes.{route_of}
-use Rattle.up_changes.specs.declared.routes.Route.{Route}
-use Rattle.up_changes.specs.declared.routes.Route.TheVariants as route
+use Rattle.up_edits.specs.Routes.{route_of}
+use Rattle.up_edits.specs.declared.routes.Route.{Route}
+use Rattle.up_edits.specs.declared.routes.Route.TheVariants as route
 use Rattle.up_entry.specs.declared.fault.EntryFault.{EntryFault}
 use Rattle.up_entry.specs.declared.fault.EntryFault.TheVariants as fault
 use Rattle.up_entry.specs.declared.what.What.{What}
@@ -14,7 +14,7 @@ use Rattle.up_list.specs.declared.asking.ReadRequest.{ReadRequest}
 use Rattle.up_names.specs.PathNames.{PathName}
 use Rattle.up_names.specs.Texts.{UserName}
 use Rattle.up_policy.specs.Loadings.{Loading}
-use Rattle.up_replay.specs.Logs.{Log}
+use Rattle.up_log_tree.specs.Logs.{Log}
 use Rattle.up_wire.specs.declared.replies.Reply.TheVariants as reply
 use Rattle.up_wire.specs.declared.requests.Request.{Request}
 

@@ -5,8 +5,8 @@ ghost use Rattle.up_calls.specs.Asks.{Tries};
 ghost use Rattle.up_calls.specs.Calls.{IsTried};
 ghost use Rattle.up_calls.specs.Routes.{LogName, OwnStays, log_asked, service_of};
 ghost use Rattle.up_calls.specs.declared.service.Service.TheVariants as service;
-ghost use Rattle.up_changes.specs.Routes.{route_of};
-ghost use Rattle.up_changes.specs.declared.routes.Route.TheVariants as route;
+ghost use Rattle.up_edits.specs.Routes.{route_of};
+ghost use Rattle.up_edits.specs.declared.routes.Route.TheVariants as route;
 ghost use Rattle.up_list.specs.Asking.{asked_of};
 
 use crate::event::Event;

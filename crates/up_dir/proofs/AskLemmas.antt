@@ -19,8 +19,8 @@ use Rattle.up_tree.specs.States.{State, log_of}
 use Rattle.up_answers.specs.Answers.{added, answer, asked_outcome, fault_reply, log_owner, outcome, tree_outcome}
 use Rattle.up_answers.specs.Fetching.{Fetched}
 use Rattle.up_answers.specs.SnapshotReplies.{snapshot_outcome}
-use Rattle.up_adding.specs.Steps.{IsTold, Steps}
-use Rattle.up_adding.proofs.StepLemmas.{steps_told}
+use Rattle.up_commit.specs.Steps.{IsTold, Steps}
+use Rattle.up_commit.proofs.StepLemmas.{steps_told}
 
 module _ {D : Type 0} (disks : Ghosts D) where
   -- a request that changes nothing

@@ -6,7 +6,7 @@ use Rattle.up_entry.proofs.CheckedLemmas.{checked_kept}
 use Rattle.up_entry.specs.Checking.{checked_as, path_or, rule}
 use Rattle.up_entry.specs.declared.what.What.TheVariants as what
 use Rattle.up_policy.specs.Trees.{owns_snapshots}
-use Rattle.up_replay.specs.Rights.{is_group}
+use Rattle.up_log_tree.specs.Rights.{is_group}
 use Rattle.up_wire.specs.declared.requests.Request.{Request}
 use Rattle.up_wire.specs.declared.requests.Request.TheVariants as request
 use Rattle.up_list.specs.declared.asking.ReadRequest.{ReadRequest}

@@ -1,7 +1,7 @@
 //! A request, and what comes of it.
 ghost use Rattle.std.specs.Prelude.{◌≡◌, ◌<◌, IfOk};
 ghost use Rattle.std.specs.Str.{bytes_eq};
-ghost use Rattle.up_adding.specs.Steps.{Steps};
+ghost use Rattle.up_commit.specs.Steps.{Steps};
 ghost use Rattle.up_answers.specs.Answers.{added, answer, asked_outcome, log_owner, tree_outcome};
 ghost use Rattle.up_dir.specs.Crashes.{Survives};
 ghost use Rattle.up_dir.specs.Forms.{IsFormed};
@@ -13,9 +13,9 @@ ghost use Rattle.up_tree.specs.States.{entries_of, fixed_of, log_of};
 
 use crate::leading::led_in;
 use std::alloc::{AllocError, Global};
-use up_adding::change;
-use up_changes::{Fetched, log_owner};
+use up_commit::change;
 use up_disk::Disk;
+use up_edits::{Fetched, log_owner};
 use up_entry::EntryFault;
 use up_list::{ReadRequest, asked_of};
 use up_names::User;
@@ -57,7 +57,7 @@ pub fn step<D: Disk>(
 }
 
 /// The same, but for what a crash leaves.
-#[tactic(auto, using(crate::proofs::FormLemmas::formed, up_adding::proofs::StepLemmas::steps_memory))]
+#[tactic(auto, using(crate::proofs::FormLemmas::formed, up_commit::proofs::StepLemmas::steps_memory))]
 fn step_request<D: Disk>(
     alloc: Global,
     state: &mut TreeState<D>,
@@ -121,7 +121,7 @@ pub fn step_asked<D: Disk>(
 }
 
 /// The same, but for what a crash leaves.
-#[tactic(auto, using(up_adding::proofs::StepLemmas::steps_memory))]
+#[tactic(auto, using(up_commit::proofs::StepLemmas::steps_memory))]
 fn step_by_owner<D: Disk>(
     alloc: Global,
     state: &mut TreeState<D>,

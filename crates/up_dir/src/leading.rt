@@ -1,22 +1,22 @@
 //! What a request on a path of a tree leads to.
 ghost use Rattle.std.specs.Prelude.{◌≡◌, IfOk};
 ghost use Rattle.up_answers.specs.Answers.{tree_outcome};
-ghost use Rattle.up_changes.specs.Trees.{look_in};
+ghost use Rattle.up_edits.specs.Trees.{look_in};
 ghost use Rattle.up_dir.specs.Forms.{IsFormed};
 ghost use Rattle.up_list.specs.Asking.{owner_asked};
 ghost use Rattle.up_list.specs.Reads.{group_text_reply};
-ghost use Rattle.up_needs.specs.Trees.{log_over};
+ghost use Rattle.up_foreign.specs.Trees.{log_over};
 ghost use Rattle.up_policy.specs.Loadings.{Loading};
-ghost use Rattle.up_replay.specs.Fits.{Fits};
-ghost use Rattle.up_replay.specs.Logs.{Limits};
+ghost use Rattle.up_log_tree.specs.Fits.{Fits};
+ghost use Rattle.up_log_tree.specs.Logs.{Limits};
 
 use std::alloc::{AllocError, Global};
 use std::hash::RandomState;
-use up_changes::{Fetched, delete_record, put_record};
+use up_edits::{Fetched, delete_record, put_record};
 use up_entry::Rec;
 use up_list::{ReadRequest, TreeLook, glob_for, group_text, lookup, which_access};
+use up_mem_tree::MemTree;
 use up_names::{Path, User};
-use up_nodes::MemTree;
 use up_policy::Loaded;
 use up_watch::watch_in;
 use up_wire::Reply;

@@ -2,7 +2,7 @@
 //!
 //! [`step`] is all that a tree ever does for a user: it answers exactly as `answer` of `up_answers` says over the log, with what was
 //! loaded and fetched for the request, and adds exactly the record that `added` says where the reply is its position (`Steps` of
-//! `up_adding`). Want of memory may come in place of any answer, `Io` in place of a position alone where the disk failed, and the
+//! `up_commit`). Want of memory may come in place of any answer, `Io` in place of a position alone where the disk failed, and the
 //! disk's count of faults rises at no other answer (`quiet`). What a crash leaves is told of every moment of the call (`Survives` of
 //! `specs/Crashes.antt`).
 //!
@@ -18,5 +18,5 @@ mod answering;
 mod leading;
 
 pub use answering::{step, step_asked};
-pub use up_changes::{Fetched, Route, route_of, tree_asked};
-pub use up_needs::{foreign, foreign_asked};
+pub use up_edits::{Fetched, Route, route_of, tree_asked};
+pub use up_foreign::{foreign, foreign_asked};

@@ -4,7 +4,7 @@ use Rattle.std.specs.Prelude.{if◌then◌else◌, nat_lt, int_le, negsuc}
 use Rattle.std.specs.Prelude as std
 use Rattle.std.specs.Str.{bytes_eq}
 use Rattle.std.proofs.lemmas.Bool.{false≢true}
-use Rattle.up_adding.specs.Steps.{IsApplied, IsTold, Steps, is_changed}
+use Rattle.up_commit.specs.Steps.{IsApplied, IsTold, Steps, is_changed}
 use Rattle.up_answers.proofs.AnswerLemmas.{asked_same, not_asked, step_ok}
 use Rattle.up_answers.specs.Answers.{added, answer, asked_outcome, fault_reply, log_owner, outcome, tree_outcome}
 use Rattle.up_answers.specs.Fetching.{Fetched}
@@ -25,8 +25,8 @@ use Rattle.up_list.specs.declared.asking.Asked.{Asked}
 use Rattle.up_list.specs.declared.asking.Asked.TheVariants.{Lookup, WhichAccess, GroupText, Delete, Put, Glob, Watch}
 use Rattle.up_policy.specs.Loadings.{Loading}
 use Rattle.up_policy.specs.Trees.{owns_snapshots}
-use Rattle.up_replay.specs.Logs.{Log}
-use Rattle.up_replay.specs.Rights.{is_group}
+use Rattle.up_log_tree.specs.Logs.{Log}
+use Rattle.up_log_tree.specs.Rights.{is_group}
 use Rattle.up_tree.specs.States.{State, log_of}
 use Rattle.up_wire.specs.Bounds.{bounded, reply_size}
 use Rattle.up_wire.specs.declared.replies.Done.TheVariants as done

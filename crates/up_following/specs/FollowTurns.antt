@@ -1,7 +1,7 @@
 -- What comes of each line over a follower and its feed, and what it prints. This project's own.
 use Rattle.std.specs.Prelude.{◌≡◌, ◌⊎◌, ℕ, [], ◌++◌, codes, decimal, Option, Some, None, is_some, IfSome, Result, Ok, Err}
 use Rattle.std.specs.List.{flat_map}
-use Rattle.up_adding.specs.Steps.{IsTold}
+use Rattle.up_commit.specs.Steps.{IsTold}
 use Rattle.up_answers.specs.Answers.{answer}
 use Rattle.up_command.specs.Printed.{ended}
 use Rattle.up_disk.specs.declared.disk.Disk as disk

@@ -15,7 +15,7 @@ use Rattle.up_lists.proofs.RunLemmas.{Run-taken, length-Run}
 use Rattle.up_policy.specs.Loadings.{Loading}
 use Rattle.up_policy.proofs.PathLists.{Contains-cons, no_member}
 use Rattle.up_wire.specs.declared.replies.Reply.{Reply}
-use Rattle.up_replay.specs.Logs.{Log}
+use Rattle.up_log_tree.specs.Logs.{Log}
 use Rattle.up_tree.specs.States.{State, log_of}
 use Rattle.up_answers.specs.Agreement.{Agree, used}
 use Rattle.up_answers.specs.Laws.{AreInCalendar, InStep, Turn, after_request, after_turn}

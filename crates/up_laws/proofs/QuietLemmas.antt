@@ -29,12 +29,12 @@ use Rattle.up_policy.specs.Loadings.{Loading}
 use Rattle.up_wire.specs.declared.replies.Done.TheVariants as done
 use Rattle.up_wire.specs.declared.replies.Reply.{Reply}
 use Rattle.up_wire.specs.declared.replies.Reply.TheVariants as reply
-use Rattle.up_replay.specs.declared.node.Node.{Node}
-use Rattle.up_replay.specs.Trees.{children, is_file, kind_of, node_at, tree_of}
-use Rattle.up_replay.specs.Fits.{root_of, snapshot_user}
-use Rattle.up_replay.specs.Snapshots.{snap_at}
-use Rattle.up_replay.specs.Logs.{Log}
-use Rattle.up_replay.proofs.Paths.{path_same}
+use Rattle.up_log_tree.specs.declared.node.Node.{Node}
+use Rattle.up_log_tree.specs.Trees.{children, is_file, kind_of, node_at, tree_of}
+use Rattle.up_log_tree.specs.Fits.{root_of, snapshot_user}
+use Rattle.up_log_tree.specs.Snapshots.{snap_at}
+use Rattle.up_log_tree.specs.Logs.{Log}
+use Rattle.up_log_tree.proofs.Paths.{path_same}
 use Rattle.up_list.specs.declared.asking.ReadRequest.{ReadRequest}
 use Rattle.up_list.specs.declared.asking.ReadRequest.TheVariants.{Lookup, WhichAccess, GroupText, Delete, Put, Glob, Watch}
 use Rattle.up_list.specs.Asking.{owner_asked}
@@ -55,7 +55,7 @@ use Rattle.up_answers.specs.SnapshotReplies.{snapshot_delete, snapshot_outcome, 
 use Rattle.up_answers.specs.SnapshotTrees.{snapshot_look}
 use Rattle.up_answers.specs.Watches.{batch, is_watched, watch_reply, watched}
 use Rattle.up_answers.proofs.FitLemmas.{bind_ok, err_ok}
-use Rattle.up_adding.specs.Steps.{is_position}
+use Rattle.up_commit.specs.Steps.{is_position}
 use Rattle.up_laws.specs.Turns.{any_failed}
 use Rattle.up_laws.proofs.FetchLemmas.{failed_same}
 

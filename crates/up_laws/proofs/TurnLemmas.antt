@@ -14,8 +14,8 @@ use Rattle.up_wire.specs.Bounds.{bounded, reply_size}
 use Rattle.up_wire.specs.declared.replies.Done.TheVariants as done
 use Rattle.up_wire.specs.declared.replies.Reply.{Reply}
 use Rattle.up_wire.specs.declared.replies.Reply.TheVariants as reply
-use Rattle.up_replay.specs.Logs.{Log}
-use Rattle.up_replay.specs.Sizes.{size_of}
+use Rattle.up_log_tree.specs.Logs.{Log}
+use Rattle.up_log_tree.specs.Sizes.{size_of}
 use Rattle.up_list.specs.declared.asking.ReadRequest.{ReadRequest}
 use Rattle.up_list.specs.Asking.{asked_of, owner_asked}
 use Rattle.up_list.specs.Changes.{added_by, answer_of, is_full}
@@ -23,10 +23,10 @@ use Rattle.up_tree.specs.States.{State, entries_of, fixed_of, log_of}
 use Rattle.up_answers.specs.Answers.{added, answer, asked_outcome, fault_reply, log_owner, outcome}
 use Rattle.up_answers.specs.Laws.{IsWhole, Turn, after_turn}
 use Rattle.up_answers.specs.Routes.{locations_asked}
-use Rattle.up_changes.specs.Routes.{route_of}
-use Rattle.up_changes.specs.declared.routes.Route.{Route}
-use Rattle.up_changes.specs.declared.routes.Route.TheVariants.{Refused, Tree}
-use Rattle.up_adding.specs.Steps.{Steps, is_changed}
+use Rattle.up_edits.specs.Routes.{route_of}
+use Rattle.up_edits.specs.declared.routes.Route.{Route}
+use Rattle.up_edits.specs.declared.routes.Route.TheVariants.{Refused, Tree}
+use Rattle.up_commit.specs.Steps.{Steps, is_changed}
 use Rattle.up_laws.specs.Turns.{IsMade, added_in, answer_in, any_failed, fetch_failed, is_hindered, stops}
 use Rattle.up_laws.proofs.QuietLemmas.{asked_quiet, failed_adds_none, is_odd, leads_odd}
 

@@ -5,8 +5,8 @@ use Rattle.up_names.specs.PathNames.{PathName, control_of}
 use Rattle.up_names.specs.declared.paths.Control.TheVariants as control
 use Rattle.up_entry.specs.declared.records.Rec.{Rec}
 use Rattle.up_policy.specs.Loadings.{Loading}
-use Rattle.up_replay.specs.Logs.{Log}
-use Rattle.up_replay.specs.Sizes.{size_of}
+use Rattle.up_log_tree.specs.Logs.{Log}
+use Rattle.up_log_tree.specs.Sizes.{size_of}
 use Rattle.up_answers.specs.Agreement.{Agree, used}
 use Rattle.up_answers.specs.Laws.{AreInCalendar, InStep, IsApart, IsWhole, Turn, after_turn, touched}
 use Rattle.up_laws.specs.Turns.{added_in}

@@ -7,7 +7,7 @@ use Rattle.up_disk.specs.declared.disk.Disk.{Ghosts}
 use Rattle.up_lists.specs.Runs.{Run}
 use Rattle.up_policy.specs.Loadings.{Loading}
 use Rattle.up_wire.specs.declared.replies.Reply.{Reply}
-use Rattle.up_replay.specs.Logs.{Log}
+use Rattle.up_log_tree.specs.Logs.{Log}
 use Rattle.up_tree.specs.States.{State}
 use Rattle.up_answers.specs.Agreement.{Agree}
 use Rattle.up_answers.specs.Laws.{InStep, Turn, after_turn}

@@ -14,13 +14,13 @@ use Rattle.up_wire.specs.declared.requests.Request.{Request}
 use Rattle.up_wire.specs.declared.replies.Reply.{Reply}
 use Rattle.up_wire.specs.declared.replies.Reply.TheVariants as reply
 use Rattle.up_list.specs.Asking.{asked_of}
-use Rattle.up_replay.specs.Logs.{Log}
+use Rattle.up_log_tree.specs.Logs.{Log}
 use Rattle.up_tree.specs.States.{State, entries_of, fixed_of, log_of}
 use Rattle.up_answers.specs.Answers.{added, answer}
 use Rattle.up_answers.specs.Fetching.{Fetched, is_failed, location_eq}
 use Rattle.up_answers.specs.Laws.{IsWhole, Turn}
 use Rattle.up_answers.specs.Routes.{locations_asked}
-use Rattle.up_adding.specs.Steps.{Steps}
+use Rattle.up_commit.specs.Steps.{Steps}
 use Rattle.up_laws.specs.declared.turns.Turn as given
 
 -- a user's request at a moment, with what was loaded and fetched for it

@@ -9,9 +9,9 @@ use Rattle.std.proofs.lemmas.Bool.{false≢true}
 use Rattle.up_names.specs.PathNames.{PathName, parent_of}
 use Rattle.up_names.specs.PathOrder.{path_eq, path_cmp}
 use Rattle.up_entry.specs.declared.entries.Entry.{Entry}
-use Rattle.up_replay.specs.declared.node.Node.{Node}
-use Rattle.up_replay.specs.Trees.{Tree, node_at, is_parent}
-use Rattle.up_replay.proofs.Trees.{find-made, made_sorted}
+use Rattle.up_log_tree.specs.declared.node.Node.{Node}
+use Rattle.up_log_tree.specs.Trees.{Tree, node_at, is_parent}
+use Rattle.up_log_tree.proofs.Trees.{find-made, made_sorted}
 use Rattle.up_list.specs.Entries.{entry_of, entry_at, entries_in, nodes_in}
 use Rattle.up_list.specs.Looks.{Look}
 use Rattle.up_list.specs.Places.{IsIn, IsOwned}

@@ -6,9 +6,9 @@ use Rattle.std.specs.Option.{option_map, option_and_then, option_or}
 use Rattle.up_names.specs.PathNames.{PathName, cut, parent_of}
 use Rattle.up_entry.specs.declared.entries.Entry.{Entry}
 use Rattle.up_policy.specs.Governors.{prefixes_to}
-use Rattle.up_replay.specs.declared.node.Node.{Node}
-use Rattle.up_replay.specs.Trees.{Tree, node_at, is_link, standing_prefix}
-use Rattle.up_replay.specs.Fits.{HasPlace, HasDirectory}
+use Rattle.up_log_tree.specs.declared.node.Node.{Node}
+use Rattle.up_log_tree.specs.Trees.{Tree, node_at, is_link, standing_prefix}
+use Rattle.up_log_tree.specs.Fits.{HasPlace, HasDirectory}
 use Rattle.up_list.specs.Entries.{entry_of, entry_at, entry_on_way, if_link}
 use Rattle.up_list.specs.Rooted.{IsRooted}
 use Rattle.up_list.specs.Checks.{first_link, link_at, tested, ways, ways_to, ways_before}

@@ -14,7 +14,7 @@ use Rattle.up_entry.specs.declared.entries.Kind.{Kind}
 use Rattle.up_entry.specs.declared.entries.Kind.TheVariants.{File, Directory, Link}
 use Rattle.up_entry.specs.Rules.{is_directory}
 use Rattle.up_pattern.specs.Patterns.{PatternName}
-use Rattle.up_replay.specs.Trees.{is_link}
+use Rattle.up_log_tree.specs.Trees.{is_link}
 use Rattle.up_list.specs.Deciding.{IsDecided}
 use Rattle.up_list.specs.Looks.{Look, rights}
 use Rattle.up_list.specs.Places.{ArePlaces, IsIn, IsNextLevel, IsPlace, Meets, path_in}

@@ -10,7 +10,7 @@ use Rattle.up_pattern.specs.declared.fault.PatternFault.{PatternFault}
 use Rattle.up_pattern.specs.declared.fault.PatternFault.TheVariants as fault
 use Rattle.up_pattern.specs.Patterns.{PatternName, pattern_of}
 use Rattle.up_policy.specs.Trees.{owns_snapshots}
-use Rattle.up_replay.specs.Rights.{is_group}
+use Rattle.up_log_tree.specs.Rights.{is_group}
 use Rattle.up_wire.specs.declared.requests.Request.{Request}
 use Rattle.up_wire.specs.declared.requests.Request.TheVariants as request
 use Rattle.up_list.specs.declared.asking.ReadRequest.{ReadRequest}

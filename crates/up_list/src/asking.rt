@@ -4,7 +4,7 @@ ghost use Rattle.up_entry.specs.Checking.{Gives, path_or};
 ghost use Rattle.up_entry.specs.declared.what.What.TheVariants as what;
 ghost use Rattle.up_names.specs.Texts.{UserName};
 ghost use Rattle.up_names.specs.declared.fault.NameFault.TheVariants as name;
-ghost use Rattle.up_replay.specs.Rights.{is_group};
+ghost use Rattle.up_log_tree.specs.Rights.{is_group};
 ghost use Rattle.up_policy.specs.Trees.{owns_snapshots};
 ghost use Rattle.up_wire.specs.declared.requests.Request.TheVariants as request;
 ghost use Rattle.up_list.specs.Asking.{asked_of, owner_asked, pattern_or_fault};

@@ -32,9 +32,9 @@ use Rattle.up_names.specs.declared.items.Item.{Item}
 use Rattle.up_peer.specs.Loading.{text_answer}
 use Rattle.up_policy.specs.declared.load_answer.LoadAnswer.{LoadAnswer}
 use Rattle.up_policy.specs.declared.load_answer.LoadAnswer.TheVariants as loads
-use Rattle.up_replay.specs.Logs.{Log}
-use Rattle.up_replay.specs.Rights.{is_group}
-use Rattle.up_replay.specs.Trees.{node_at}
+use Rattle.up_log_tree.specs.Logs.{Log}
+use Rattle.up_log_tree.specs.Rights.{is_group}
+use Rattle.up_log_tree.specs.Trees.{node_at}
 use Rattle.up_rights.specs.RightSets.{Rights, has_any, has_right}
 use Rattle.up_rights.specs.declared.Right.{Right}
 use Rattle.up_rights.specs.declared.Right.TheVariants as right

@@ -9,8 +9,8 @@ use Rattle.up_names.specs.PathNames.{PathName}
 use Rattle.up_names.specs.PathOrder.{path_cmp}
 use Rattle.up_access.specs.declared.Rule.{Rule}
 use Rattle.up_text.specs.Words.{coded}
-use Rattle.up_replay.specs.Rights.{facts_of, group_paths}
-use Rattle.up_replay.specs.Trees.{Tree}
+use Rattle.up_log_tree.specs.Rights.{facts_of, group_paths}
+use Rattle.up_log_tree.specs.Trees.{Tree}
 use Rattle.up_share.specs.Orders.{Keys}
 use Rattle.up_share.specs.Readers.{lacking, readers_by}
 use Rattle.up_share.specs.Report.{file_line, is_file_at, items_text, readers_at, unread_at}

@@ -8,8 +8,8 @@ use Rattle.up_names.specs.PathNames.{PathName, canonical}
 use Rattle.up_names.specs.PathOrder.{path_cmp}
 use Rattle.up_access.specs.Printing.{item_text}
 use Rattle.up_text.specs.Words.{coded}
-use Rattle.up_replay.specs.Rights.{facts_of, group_paths}
-use Rattle.up_replay.specs.Trees.{Tree, is_file, kind_of, node_at}
+use Rattle.up_log_tree.specs.Rights.{facts_of, group_paths}
+use Rattle.up_log_tree.specs.Trees.{Tree, is_file, kind_of, node_at}
 use Rattle.up_share.specs.Orders.{in_order}
 use Rattle.up_share.specs.Readers.{readers, unread}
 

@@ -5,7 +5,7 @@ use Rattle.up_disk.specs.declared.disk.Disk.{Ghosts}
 use Rattle.up_journal.specs.declared.limits.Limits.{Limits}
 use Rattle.up_lists.specs.Counts.{Rose}
 use Rattle.up_names.specs.Texts.{Text, UserName}
-use Rattle.up_replay.specs.Trees.{tree_of}
+use Rattle.up_log_tree.specs.Trees.{tree_of}
 use Rattle.up_reports.specs.declared.refused.Refused.{Refused}
 use Rattle.up_reports.specs.Opens.{AreLogs, OpensTree, RefusesLogs, trees_of}
 use Rattle.up_reports.specs.Telling.{AnswersOne, Stays, told_of}

@@ -15,13 +15,13 @@ use Rattle.up_list.specs.Changes.{added_by, answer_of}
 use Rattle.up_wire.specs.declared.replies.Reply.{Reply}
 use Rattle.up_wire.specs.declared.replies.Reply.TheVariants as reply
 use Rattle.up_wire.specs.declared.requests.Request.{Request}
-use Rattle.up_replay.specs.Logs.{Log}
+use Rattle.up_log_tree.specs.Logs.{Log}
 use Rattle.up_tree.specs.States.{State, log_of}
 use Rattle.up_answers.specs.Answers.{added, answer, asked_outcome, fault_reply, log_owner, outcome, tree_outcome}
 use Rattle.up_answers.specs.Fetching.{Fetched}
 use Rattle.up_answers.specs.SnapshotReplies.{snapshot_outcome}
-use Rattle.up_adding.specs.Steps.{Steps}
-use Rattle.up_adding.proofs.StepLemmas.{steps_memory, steps_told}
+use Rattle.up_commit.specs.Steps.{Steps}
+use Rattle.up_commit.proofs.StepLemmas.{steps_memory, steps_told}
 use Rattle.up_snap.specs.Outcomes.{IsOfSnapshots}
 
 -- ---- what it leads to

@@ -7,8 +7,8 @@ use Rattle.up_entry.specs.declared.puts.Checked.{Checked}
 use Rattle.up_entry.specs.declared.records.Rec.{Rec}
 use Rattle.up_wire.specs.declared.replies.Reply.{Reply}
 use Rattle.up_wire.specs.declared.replies.Reply.TheVariants as reply
-use Rattle.up_replay.specs.Logs.{Log}
-use Rattle.up_replay.specs.Trees.{node_at}
+use Rattle.up_log_tree.specs.Logs.{Log}
+use Rattle.up_log_tree.specs.Trees.{node_at}
 use Rattle.up_list.specs.declared.asking.ReadRequest.{ReadRequest}
 use Rattle.up_list.specs.declared.asking.ReadRequest.TheVariants.{Put}
 use Rattle.up_list.specs.Changes.{◌>>=◌, right_to_put, unless}

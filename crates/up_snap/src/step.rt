@@ -1,6 +1,6 @@
 //! A request on a snapshot tree, and what comes of it.
 ghost use Rattle.std.specs.Prelude.{◌≡◌, ◌<◌, IfOk, Ok};
-ghost use Rattle.up_adding.specs.Steps.{Steps};
+ghost use Rattle.up_commit.specs.Steps.{Steps};
 ghost use Rattle.up_answers.specs.Answers.{added, answer, fault_reply};
 ghost use Rattle.up_answers.specs.Fetching.{Fetched};
 ghost use Rattle.up_answers.specs.SnapshotReplies.{snapshot_outcome};
@@ -11,7 +11,7 @@ ghost use Rattle.up_list.specs.Changes.{added_by, answer_of};
 ghost use Rattle.up_list.specs.declared.asking.ReadRequest.{ReadRequest};
 ghost use Rattle.up_lists.specs.Counts.{StaysUnless};
 ghost use Rattle.up_policy.specs.Loadings.{Loading};
-ghost use Rattle.up_replay.specs.Fits.{Fits};
+ghost use Rattle.up_log_tree.specs.Fits.{Fits};
 ghost use Rattle.up_snap.specs.Firsts.{IsMoment};
 ghost use Rattle.up_snap.specs.Outcomes.{IsOfSnapshots, log_with};
 ghost use Rattle.up_tree.specs.States.{entries_of, fixed_of, log_of};
@@ -19,12 +19,12 @@ ghost use Rattle.up_tree.specs.States.{entries_of, fixed_of, log_of};
 use crate::look::SnapLook;
 use crate::outcome::{Led, outcome_for};
 use std::alloc::{AllocError, Global};
-use up_adding::change;
+use up_commit::change;
 use up_disk::Disk;
 use up_entry::EntryFault;
 use up_list::{ReadRequest, asked_of};
+use up_mem_tree::MemTree;
 use up_names::User;
-use up_nodes::MemTree;
 use up_tree::TreeState;
 use up_wire::{Reply, Request};
 
@@ -92,7 +92,7 @@ pub fn snap_asked<D: Disk>(
 }
 
 /// What a user's request on the snapshot tree of a log in memory leads to.
-#[tactic(auto, using(crate::proofs::ShowerLemmas::is_shower))]
+#[tactic(auto, using(crate::proofs::SnapUserLemmas::is_snap_user))]
 fn asked_in_memory(
     alloc: Global,
     tree: &MemTree,
@@ -106,8 +106,8 @@ fn asked_in_memory(
         ≡ snapshot_outcome (log_with tree.now.owner limits tree.now.log) user.now asked.now now) }
     ensures fits { IfOk result (λ led. IfOk led (Fits tree.now.owner tree.now.log)) }
 {
-    let shower = asked.owner();
-    let _text = shower.text();
-    let look = SnapLook::new(tree, shower, user);
+    let snap_user = asked.owner();
+    let _text = snap_user.text();
+    let look = SnapLook::new(tree, snap_user, user);
     outcome_for(alloc, tree, &look, asked, now)
 }

@@ -5,8 +5,8 @@ use Rattle.up_command.specs.Printed.{ended}
 use Rattle.up_entry.specs.declared.records.Rec.{Rec}
 use Rattle.up_entry.specs.declared.records.Rec.TheVariants.{Put}
 use Rattle.up_lists.specs.Begins.{Begins}
-use Rattle.up_replay.specs.Changes.{change_before, record_at}
-use Rattle.up_replay.specs.Trees.{tree_of}
+use Rattle.up_log_tree.specs.Changes.{change_before, record_at}
+use Rattle.up_log_tree.specs.Trees.{tree_of}
 use Rattle.up_names.specs.Texts.{Text}
 use Rattle.up_storm.specs.Telling.{all_counted, heading, numbers_line, records_text, sessions_text, tally_line}
 use Rattle.up_storm.specs.declared.logs.LogRead.{LogRead}

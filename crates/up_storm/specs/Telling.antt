@@ -6,7 +6,7 @@ use Rattle.up_entry.specs.declared.records.Rec.TheVariants.{Delete, Put, Snap}
 use Rattle.up_calls.specs.declared.event.Event.{Event}
 use Rattle.up_names.specs.PathNames.{canonical}
 use Rattle.up_names.specs.Texts.{Text}
-use Rattle.up_replay.specs.Trees.{tree_of}
+use Rattle.up_log_tree.specs.Trees.{tree_of}
 use Rattle.up_storm.specs.Asked.{line_of}
 use Rattle.up_storm.specs.declared.generator.Draw.{Draw}
 use Rattle.up_storm.specs.declared.plan.Plan.{Plan}

@@ -10,7 +10,7 @@
 //! of the record before it on the same path (`deleted` of `proofs/Puts.antt`), and rights are read by the texts of control files
 //! as they were. What one Access text decided for the user is kept by the text's directory, with the number of records after which it
 //! did, once for the tree as it is and once for the tree as it was (`src/decided.rt`); it is decided again only where that text or a
-//! Group file has changed since (`texts_stay` of `up_nodes`). So no record is looked at but those of the watched paths, and what is
+//! Group file has changed since (`texts_stay` of `up_mem_tree`). So no record is looked at but those of the watched paths, and what is
 //! kept is what the text gave then (`AreDecided` of `specs/Decided.antt`). Items are found by a walk from the watched path down, which
 //! meets each once (`found_once` of `proofs/Closed.antt`), and are sorted then.
 #![tactic(auto)]

@@ -1,8 +1,8 @@
 //! The reply to Watch.
 ghost use Rattle.std.specs.Prelude.{◌≡◌, ◌≢◌, IfOk, pos};
 ghost use Rattle.up_answers.specs.Watches.{items_under, watch_reply, watched};
-ghost use Rattle.up_replay.specs.Logs.{Limits as Bounds};
-ghost use Rattle.up_replay.specs.Trees.{tree_of};
+ghost use Rattle.up_log_tree.specs.Logs.{Limits as Bounds};
+ghost use Rattle.up_log_tree.specs.Trees.{tree_of};
 ghost use Rattle.up_tree.specs.States.{log_of};
 ghost use Rattle.up_wire.specs.Bounds.{bounded};
 ghost use Rattle.up_wire.specs.declared.replies.Reply.TheVariants.{OutOfMemory};
@@ -16,8 +16,8 @@ use up_disk::Disk;
 use up_entry::What;
 use up_list::{TreeLook, check};
 use up_lists::Items;
+use up_mem_tree::MemTree;
 use up_names::{Path, User};
-use up_nodes::MemTree;
 use up_policy::Loaded;
 use up_tree::TreeState;
 use up_wire::{Done, Reply, WatchEvent, bounded};

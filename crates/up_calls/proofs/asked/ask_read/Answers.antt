@@ -4,8 +4,8 @@ use Rattle.up_calls.proofs.ReadLemmas.{route_read}
 use Rattle.up_calls.specs.Routes.{LogName, Question, log_asked, log_by}
 use Rattle.up_calls.specs.declared.service.Service.{Service}
 use Rattle.up_calls.specs.declared.service.Service.TheVariants as service
-use Rattle.up_changes.specs.Routes.{route_of}
-use Rattle.up_changes.specs.declared.routes.Route.TheVariants as route
+use Rattle.up_edits.specs.Routes.{route_of}
+use Rattle.up_edits.specs.declared.routes.Route.TheVariants as route
 use Rattle.up_calls.proofs.asked.ask_read.Goals as goal
 
 pub ask_owner-requires-clause-to : goal.ask_owner-requires-clause-to
