@@ -91,27 +91,6 @@ answer_put old new location fetch absent h = record { same = λ q. ap option_cop
     go q false e true s = absurd (false≢true (sym (s ∙ e)))
     go q false e false s = sym (ap (λ b. or_else (noted old q) (if b then Some fetch.now else None)) e ∙ or_none (noted old q))
 
--- where one stood, it stays
-pub answer_stays : (old : List (Location × Bor Fetch)) (location : Location) (fetch : Fetch) → is_some (lookup (is_at (location_cmp location)) old) ≡ true → NotesOne old old location fetch
-answer_stays old location fetch there = record { same = λ q. go q (location_eq q location) refl }
-  where
-    go : (q : Location) (b : Bool) → location_eq q location ≡ b → noted old q ≡ or_else (noted old q) (if location_eq q location then Some fetch else None)
-    go q true e = sym (copied_some (lookup (is_at (location_cmp q)) old) (if location_eq q location then Some fetch else None) (subst (λ l. is_some (lookup (is_at (location_cmp l)) old) ≡ true) (sym (same_location q location e)) there))
-    go q false e = sym (ap (λ b. or_else (noted old q) (if b then Some fetch else None)) e ∙ or_none (noted old q))
-
--- one more
-pub answers_next : (old new : List (Location × Bor Fetch)) (location : Location) (fetch : Fetch) (rest all : Fetched) → NotesOne old new location fetch → AreFirst old ((location, fetch) ∷ rest) all → AreFirst new rest all
-answers_next old new location fetch rest all notes are = record {
-  same = λ q.
-      ap (λ o. or_else o (lookup (location_eq q) rest)) (notes.same q)
-      ∙ (or_twice (noted old q) (if location_eq q location then Some fetch else None) (lookup (location_eq q) rest)
-      ∙ (ap (or_else (noted old q)) (either (location_eq q location) (lookup (location_eq q) rest)) ∙ are.same q));
-}
-  where
-    either : (b : Bool) (other : Option Fetch) → or_else (if b then Some fetch else None) other ≡ cond b (Some fetch) other
-    either true other = refl
-    either false other = refl
-
 -- the answer that is noted in the end is the first
 pub first_found : (answers : List (Location × Bor Fetch)) (all : Fetched) (location : Location) → AreFirst answers [] all → noted answers location ≡ lookup (location_eq location) all
 first_found answers all location are = sym (or_none (noted answers location)) ∙ are.same location

@@ -12,14 +12,6 @@ use Rattle.up_list.specs.Changes.{◌>>=◌}
 use Rattle.up_answers.specs.Fetching.{Fetched, fetch_for, is_failed, joined_bytes, parsed_as, text_put}
 use Rattle.up_edits.specs.Texts.{behind, bytes_of_all}
 
-pub behind_nothing : (rest : Result (List ℕ) Reply) → behind [] rest ≡ rest
-behind_nothing (Ok more) = refl
-behind_nothing (Err refusal) = refl
-
-behind_twice : (front more : List ℕ) (rest : Result (List ℕ) Reply) → behind (front ++ more) rest ≡ behind front (behind more rest)
-behind_twice front more (Ok bytes) = ap Ok (append_assoc front more bytes)
-behind_twice front more (Err refusal) = refl
-
 -- ---- the text of a control file
 
 module _ (owner : List ℕ) (fetched : Fetched) (entry : Entry) (control : is_control_file entry.attr.kind entry.name ≡ true) where

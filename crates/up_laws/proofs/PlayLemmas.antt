@@ -156,12 +156,6 @@ module _ {D E : Type 0} (one : Ghosts D) (two : Ghosts E) (user : List ℕ) (tur
 
 -- ---- a turn of each list
 
-pub takes_turns : {D E F : Type 0} (one : Ghosts D) (two : Ghosts E) (user : List ℕ) (x y : Turn) (a a' : State D) (b b' : State E) (before after : List (Reply × Reply)) (first second : Reply) (result : Result Bool F) →
-    IsMade one x a a' first → IsMade two y b b' second →
-    IfOk result (λ stopped. after ≡ (if are_of user (x, y) then before ++ (first, second) ∷ [] else before)) → IfOk result (λ stopped. stopped ≡ one_stops (x, y) (first, second)) →
-    TakesTurns {F = F} one two user (x, y) (a, b) (a', b') before after result
-takes_turns one two user x y a a' b b' before after first second result made made' kept stopped = record { replies = (first, second); made = (made, made'); kept = kept; stopped = stopped }
-
 -- ---- the turns at a place
 
 pub turns_at : (first second : List given.Turn) (i : ℕ) (x y : given.Turn) → slice_get first i ≡ Some x → slice_get second i ≡ Some y → slice_get (zip (turns_of first) (turns_of second)) i ≡ Some (turn_of x, turn_of y)

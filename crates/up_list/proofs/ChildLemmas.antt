@@ -43,13 +43,6 @@ parent_known dir path h = go (parent_of path) refl h
     go None e k = absurd (false≢true k)
     go (Some parent) e k = e ∙ ap Some (eq_same parent dir k)
 
-pub parent_tested : (dir path : PathName) → parent_of path ≡ Some dir → is_parent dir path ≡ true
-unfolding is_parent
-parent_tested dir path h = ap (λ o. elim o as (λ _. Bool) [ None ↦ false | Some parent ↦ path_eq parent dir ]) h ∙ eq_itself dir
-
-if_parent : PathName → PathName → Node → Option Node
-if_parent dir path node = if is_parent dir path then Some node else None
-
 module _ (owner : List ℕ) (tree : Tree) (rooted : IsRooted owner tree) (dir : PathName) where
   record IsChild (item : PathName × Node) : Type 0 where
     stands : node_at tree item.0 ≡ Some item.1

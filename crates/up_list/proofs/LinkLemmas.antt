@@ -61,10 +61,6 @@ parent_of_cut n path h =
 
 -- ---- what stands at the prefixes
 
-link_of_directory : (tree : Tree) (path : PathName) → HasDirectory tree path → link_at tree path ≡ None
-link_of_directory tree path dir =
-    ap (λ o. option_and_then if_link (option_map entry_of o)) dir.1 ∙ ap (λ kind. if is_link kind then Some dir.0.entry else None) dir.2
-
 module _ (owner : List ℕ) (tree : Tree) (rooted : IsRooted owner tree) (path : PathName) where
   -- above an item stands a directory
   pub above : (n : ℕ) (node : Node) → suc n ≤ length path.elements → node_at tree (cut (suc n) path) ≡ Some node → HasDirectory tree (cut n path)

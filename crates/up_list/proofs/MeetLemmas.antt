@@ -209,7 +209,3 @@ size_in look at dir entry stands =
     let whole = length_take (length entry.name.elements - 1) entry.name.elements (omega arith) in
     let size = stands.size in
     omega arith
-
--- its name has the owner
-pub owned_in : (look : Look) (at : ℕ) (dir : PathName) (entry : Entry) → IsIn look at dir entry → dir.owner ≡ look.owner → entry.name.owner ≡ look.owner
-owned_in look at dir entry stands owned = ap (λ (p : PathName). p.owner) (parent_is entry.name dir stands.parent).1 ∙ owned

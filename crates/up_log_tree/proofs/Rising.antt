@@ -231,9 +231,6 @@ with_there k paths h there = one_list (with_path k paths) paths (rising-with k p
 
 -- ---- at its place
 
-insert_first : (k : PathName) (paths : List PathName) → insert paths 0 k ≡ k ∷ paths
-insert_first k paths = refl
-
 -- a new path is inserted at its place
 pub with_inserted : (k : PathName) (paths : List PathName) (n : ℕ) → are_rising paths ≡ true → IsPlaceOf k paths n → (slice_get paths n ≡ Some k → ⊥) → with_path k paths ≡ insert paths n k
 with_inserted k [] zero h place new = refl

@@ -131,12 +131,6 @@ pub children_within : (tree : Tree) (dir : PathName) → list_all (is_parent dir
 unfolding children
 children_within tree dir = all_filtered (is_parent dir) (keys_of tree)
 
-pub children-put : (tree : Tree) (entry : Entry) (text : List ℕ) (dir : PathName) → T (is_sorted path_cmp tree)
-    → children (after_record tree (Put entry text)) dir ≡ cond (is_parent dir entry.name) (with_path entry.name (children tree dir)) (children tree dir)
-unfolding children after_record
-children-put tree entry text dir sorted =
-    ap (filter (is_parent dir)) (keys-put entry.name (record { entry = entry; text = text }) tree) ∙ filter-with (is_parent dir) entry.name (keys_of tree) (rising_keys tree sorted)
-
 twice : {X : Type 0} (p q : X → Bool) (xs : List X) → filter p (filter q xs) ≡ filter q (filter p xs)
 twice p q [] = refl
 twice p q (x ∷ xs) = go (p x) refl (q x) refl (twice p q xs)
@@ -146,15 +140,6 @@ twice p q (x ∷ xs) = go (p x) refl (q x) refl (twice p q xs)
     go true pa false qb rest = rest ∙ sym (ap (λ c. cond c (x ∷ filter q (filter p xs)) (filter q (filter p xs))) qb)
     go false pa true qb rest = ap (λ c. cond c (x ∷ filter p (filter q xs)) (filter p (filter q xs))) pa ∙ rest
     go false pa false qb rest = rest
-
-pub children-delete : (tree : Tree) (gone dir : PathName) → children (after_record tree (Delete gone)) dir ≡ filter (λ p. not (path_eq gone p)) (children tree dir)
-unfolding children after_record
-children-delete tree gone dir =
-    ap (filter (is_parent dir)) (keys-filter (λ p. not (path_eq gone p)) tree) ∙ twice (is_parent dir) (λ p. not (path_eq gone p)) (keys_of tree)
-
-pub children-snap : (tree : Tree) (time : ℕ) (dir : PathName) → children (after_record tree (Snap time)) dir ≡ children tree dir
-unfolding after_record
-children-snap tree time dir = refl
 
 pub no_children : (dir : PathName) → children (tree_of []) dir ≡ []
 unfolding children tree_of

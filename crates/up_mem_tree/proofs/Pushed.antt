@@ -99,9 +99,6 @@ before_last records rec =
     (ap (λ n. take n (records ++ rec ∷ [])) (let e : suc (length records) - 1 ≡ length records = omega arith in e) ∙ take-append-le (length records) records (rec ∷ []) (omega arith) ∙ take-length records)
     ∙ ap (λ o. option_and_then (last_change records) (option_and_then path_of_change o)) (get_last records rec)
 
-abbrev before_rec : List Rec → Rec → ℕ
-before_rec records rec = unwrap_or (option_and_then (last_change records) (path_of_change rec)) 0
-
 pub befores_more : (records : List Rec) (rec : Rec) → befores_of (records ++ rec ∷ []) ≡ befores_of records ++ unwrap_or (option_and_then (last_change records) (path_of_change rec)) 0 ∷ []
 befores_more records rec =
     let all = records ++ rec ∷ [] in

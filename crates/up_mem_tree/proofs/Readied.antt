@@ -33,9 +33,6 @@ made old new changes_below groups rec ready same stands noted grouped room fits 
 }
 
 module _ {A : Type 0} (kept : Kept) (changes_below : List Under) (groups : Vec ℕ A) (ready : Option Ready) (found : Ready) (is : IsMemTree kept changes_below groups ready) (some : ready ≡ Some found) where
-  pub can_enter : Fits kept.owner kept.log.items found.rec × IsReadyFor kept found.rec found.step
-  can_enter = subst (CanEnter kept) some is.can
-
   pub can_note : CanNoteRecord changes_below (slots_of kept) found.rec
   can_note = subst (CanBeNoted kept changes_below) some is.note
 

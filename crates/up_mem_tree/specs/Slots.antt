@@ -49,10 +49,6 @@ known_all slots = map known slots
 unfoldable pub path_in : List Known → ℕ → Option PathName
 path_in slots id = option_map (λ (slot : Known). slot.path) (slice_get slots id)
 
--- the number of the slot of a path
-unfoldable pub slot_of : List Known → PathName → Option ℕ
-slot_of slots path = position (λ (slot : Known). path_eq slot.path path) slots
-
 -- ---- the paths that records name
 
 -- the paths with the one that one more record changes

@@ -203,9 +203,6 @@ module _ (dir old : PathName) (make : PathName → Option Entry) where
 
 -- ---- the first items of a list
 
-pub made_none : {X Y : Type 0} (make : X → Option Y) → [] ≡ filter_map make (take 0 [])
-made_none make = refl
-
 module _ {X Y : Type 0} (make : X → Option Y) where
   made_more : (xs : List X) (x : X) → filter_map make (xs ++ x ∷ []) ≡ filter_map make xs ++ cons_option (make x) []
   made_more [] x = refl
