@@ -1,7 +1,7 @@
 use Rattle.std.proofs.Common.{◌≡◌, subst, false, arith}
 use Rattle.up_maps.specs.Joined.{IsAt}
 use Rattle.up_maps.proofs.Finds.{found}
-use Rattle.up_maps.proofs.pieces.LongList.find.Goals as goal
+use Rattle.up_maps.proofs.long_list.LongList.find.Goals as goal
 
 pub returns-clause-place : goal.returns-clause-place
 returns-clause-place g c ordered =

@@ -1,6 +1,6 @@
 use Rattle.std.proofs.Common.{ℕ, Bool, true, false, ◌-◌, ◌<◌, ◌≤◌, List, length}
 use Rattle.up_maps.specs.Joined.{IsAt}
-use Rattle.up_maps.proofs.pieces.LongList.find.Given as goal
+use Rattle.up_maps.proofs.long_list.LongList.find.Given as goal
 
 pub record Bisected {X : Type 0} (test : X → Bool) (xs : List X) (low high : ℕ) : Type 0 where
   pub order : low ≤ high
