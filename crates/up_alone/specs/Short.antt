@@ -42,12 +42,15 @@ TreeRepliesAreShort = (log : Log) (loaded : Loading) (fetched : Fetched) (user :
 
 -- What a store says over a log whose records fit.
 abbrev pub StoreRepliesAreShort : Type 0
-StoreRepliesAreShort = (operator user : UserName) (request : Request) (limits : Limits) (log added : List BlockRecord) (said : Reply) → EachFits blocks.fits log →
+StoreRepliesAreShort =
+    (operator user : UserName) (request : Request) (limits : Limits) (log added : List BlockRecord) (said : Reply)
+    → EachFits blocks.fits log →
     StoreSays log (store_leads operator user request limits log) said added → IsReply said → IsShort said
 
 -- What the keys say over a log whose records fit.
 abbrev pub KeyRepliesAreShort : Type 0
-KeyRepliesAreShort = (user : UserName) (request : Request) (limits : Limits) (log added : List KeyRecord) (said : Reply) → EachFits keys.fits log →
+KeyRepliesAreShort =
+    (user : UserName) (request : Request) (limits : Limits) (log added : List KeyRecord) (said : Reply) → EachFits keys.fits log →
     KeysSay (key_leads user request limits log) said added → IsReply said → IsShort said
 
 -- The records of the store and of the keys fit. (Those of a tree do where it answers.)
@@ -57,9 +60,13 @@ pub record LogsFit (seen : Views) : Type 0 where
 
 -- what a call of a host came to
 abbrev pub HostRepliesAreShort : Type 0
-HostRepliesAreShort = (operator : UserName) (a b : Views) (q : Question) (e : Event) → Outcome operator a b q e → LogsFit b → IsReply e.reply → IsShort e.reply
+HostRepliesAreShort =
+    (operator : UserName) (a b : Views) (q : Question) (e : Event)
+    → Outcome operator a b q e → LogsFit b → IsReply e.reply → IsShort e.reply
 
 -- what answers a request on a connection
 abbrev pub ConnectionRepliesAreShort : {D L : Type 0} → disk.Ghosts D → loader.Ghosts L → Type 0
-ConnectionRepliesAreShort {D} {L} disks loaders = (a : HostAlone D L) (user : UserName) (request : Request) (moment : ℕ) (frame : ServerFrame) (b : HostAlone D L) →
-    AnswersAlone disks loaders a user request moment frame b → LogsFit (views disks b.host) → IsServer frame → length (server frame) ≤ most_bytes
+ConnectionRepliesAreShort {D} {L} disks loaders =
+    (a : HostAlone D L) (user : UserName) (request : Request) (moment : ℕ) (frame : ServerFrame) (b : HostAlone D L) →
+    AnswersAlone disks loaders a user request moment frame b
+    → LogsFit (views disks b.host) → IsServer frame → length (server frame) ≤ most_bytes

@@ -75,13 +75,15 @@ RecalledReply None old None new = new ≡ old
 RecalledReply block old given new = ⊥
 
 -- Any other request is passed on once, and its reply is given.
-pub record PassedOn {S : Type 0} (answers : S → Request → Option Reply → S → Type 0) (old : Caching S) (request : Request) (given : Option Reply) (new : Caching S) : Type 0 where
+pub record PassedOn {S : Type 0} (answers : S → Request → Option Reply → S → Type 0)
+    (old : Caching S) (request : Request) (given : Option Reply) (new : Caching S) : Type 0 where
   pub answered : answers old.ask request given new.ask
   pub cache : Keeps old.cache (brought (wanted request) given) new.cache
   pub asked : new.asked ≡ (if is_get request then one_more old.asked else old.asked)
   pub kept : new.kept ≡ old.kept
 
 module _ {S : Type 0} (answers : S → Request → Option Reply → S → Type 0) where
+  -- a request is answered from here where its block is held, and else passed on
   abbrev pub AnsweredBy : Option Block → Caching S → Request → Option Reply → Caching S → Type 0
   AnsweredBy (Some block) old request given new = FromHere block old given new
   AnsweredBy None old request given new = PassedOn answers old request given new

@@ -5,7 +5,8 @@ use Rattle.std.specs.Io.KnownBytes.{Appends}
 use Rattle.up_names.specs.Texts.{Text}
 use Rattle.up_ends.specs.Writing.{WritesPart}
 use Rattle.up_command.specs.declared.status.Status.{Status}
-use Rattle.up_command.specs.declared.status.Status.TheVariants.{Done, BadLine, ReadFault, WriteFault, OutOfMemory, HelperFault, DiskFault, TooLong, Damaged, ListenFault, BadUser, AskFault, Full, Usage}
+use Rattle.up_command.specs.declared.status.Status.TheVariants.{Done, BadLine, ReadFault, WriteFault, OutOfMemory, HelperFault, DiskFault,
+    TooLong, Damaged, ListenFault, BadUser, AskFault, Full, Usage}
 
 -- the number of a status
 abbrev pub code_of : Status → ℕ
@@ -28,6 +29,7 @@ code_of Usage = 64
 abbrev pub input_limit : ℕ
 input_limit = 67108864
 
+-- the line that says how the program is called
 abbrev pub usage_line : Text
 usage_line = codes "usage: upspin can | script HELPER | storm SEED SESSIONS REQUESTS [--full] | serve OPTIONS\n"
 

@@ -1,5 +1,6 @@
 -- Which lines of a script are malformed, by their numbers, and what is printed of them. This project's own.
-use Rattle.std.specs.Prelude.{◌≡◌, ℕ, ◌+◌, nat_lt, Bool, true, false, List, [], ◌∷◌, ◌++◌, length, codes, decimal, Option, Some, None, Result, Ok, Err}
+use Rattle.std.specs.Prelude.{◌≡◌, ℕ, ◌+◌, nat_lt, Bool, true, false, List, [], ◌∷◌, ◌++◌, length, codes, decimal, Option, Some, None,
+    Result, Ok, Err}
 use Rattle.std.specs.List.{list_any}
 use Rattle.up_command.specs.Printed.{ended}
 use Rattle.up_command.specs.Statuses.{Answer, AnswersWith, code_of, input_limit}
@@ -25,7 +26,8 @@ number_if number (Some next) = []
 -- or none where the line is malformed.
 unfoldable pub bad_from : {S : Type 0} → (S → Text → Option S) → ℕ → S → List Text → List ℕ
 bad_from step number here [] = []
-bad_from step number here (line ∷ lines) = number_if number (step here line) ++ bad_from step (number + 1) (stands here (step here line)) lines
+bad_from step number here (line ∷ lines) =
+    number_if number (step here line) ++ bad_from step (number + 1) (stands here (step here line)) lines
 
 -- ---- what is printed
 
@@ -40,7 +42,8 @@ explained number why = codes "line " ++ decimal number ++ codes ": " ++ ended wh
 -- A text explains the lines with these numbers, in order, and no others: for each it has its number and one line of words, which are free.
 pub data Explains : List ℕ → Text → Type 0 where
   nothing : Explains [] []
-  further : {number : ℕ} {numbers : List ℕ} {later : Text} (why : Text) → IsOneLine why → Explains numbers later → Explains (number ∷ numbers) (explained number why ++ later)
+  further : {number : ℕ} {numbers : List ℕ} {later : Text} (why : Text) → IsOneLine why
+      → Explains numbers later → Explains (number ∷ numbers) (explained number why ++ later)
 
 -- the status where lines with these numbers are malformed
 abbrev pub status_for : List ℕ → ℕ
@@ -59,6 +62,7 @@ abbrev pub InputMeans : {S : Type 0} → Bool → (S → Text → Option S) → 
 InputMeans true step first input old new status = AnswersWith old new (record { text = []; status = 7 }) status
 InputMeans false step first input old new status = Explanation (bad_from step 1 first (script_lines input)) old new status
 
+-- what the explanation of an input means: one that is longer than the limit of inputs is not read
 abbrev pub ExplainsInput : {S : Type 0} → (S → Text → Option S) → S → Text → Option Text → Option Text → ℕ → Type 0
 ExplainsInput step first input old new status = InputMeans (nat_lt input_limit (length input)) step first input old new status
 

@@ -74,6 +74,7 @@ module _ {D : Type 0} where
 abbrev pub Leader : Type 0 → Type 0
 Leader D = HostTogether D (Unit {0})
 
+-- this shared host, with these seats
 abbrev pub leader_with : {D : Type 0} → Shared D → Seats D → Leader D
 leader_with shared seats = host_together shared seats tt
 
@@ -114,5 +115,7 @@ leader_among verifiers drawn = record {
   challenges = drawn.coming;
 }
 
+-- this shared host with these seats, and what a connection has around it: no clock
 abbrev pub leader_at : {D V N : Type 0} → Shared D → Seats D → V → N → Around (Leader D) V Timeless N
-leader_at shared seats verifier nonces = record { answerer = leader_with shared seats; verifier = verifier; clock = record {}; nonces = nonces }
+leader_at shared seats verifier nonces =
+    record { answerer = leader_with shared seats; verifier = verifier; clock = record {}; nonces = nonces }

@@ -59,7 +59,8 @@ module _ {D F : Type 0} (disks : disk.Ghosts D) (feeds : feed.Ghosts F) where
   -- last, and the status: there is no line left; or the next one was not done; or no more could be written.
   pub data Ends (last : World D F) (number : ℕ) : List Text → Text → ℕ → World D F → Type 0 where
     at_end : Ends last number [] [] 0 last
-    stopped : {line : Text} {more : List Text} {b : World D F} (why : LineStop) → LineCame disks feeds last line (Err why) b → Ends last number (line ∷ more) (stop_text number why) (stop_code why) b
+    stopped : {line : Text} {more : List Text} {b : World D F} (why : LineStop) → LineCame disks feeds last line (Err why) b
+        → Ends last number (line ∷ more) (stop_text number why) (stop_code why) b
     unwritten : {left : List Text} → Ends last number left [] 3 last
 
   -- From one state to another: the lines that were done, each with what it did, how that ended, and what was written. The text is written

@@ -27,6 +27,7 @@ use Rattle.up_following.specs.declared.stop.LineStop.TheVariants as stop
 
 -- ---- what a line did, and the text that it prints
 
+-- what a line did: of a pull, how many records it took or why it took none; of a request, its reply, or that it does not only look
 pub data Did : Type 0 where
   Nothing : Did
   Pulled : ℕ → Did
@@ -78,6 +79,7 @@ pub record World (D F : Type 0) : Type 0 where
   pub state : State D
   pub feed : F
 
+-- this follower, and this feed
 abbrev pub world : {D F : Type 0} → State D → F → World D F
 world state feed = record { state = state; feed = feed }
 

@@ -23,7 +23,11 @@ damaged_at which place = record { text = ended (codes "damaged " ++ decimal whic
 -- `chain I P WANTED GOT`: at byte P of it stands a record that has to carry the first digest, and carries the second
 abbrev pub chain_at : ℕ → ℕ → List ℕ → List ℕ → Answer
 chain_at which gate wanted got =
-    record { text = ended (codes "chain " ++ decimal which ++ codes " " ++ decimal gate ++ codes " " ++ text_of wanted ++ codes " " ++ text_of got); status = 8 }
+    record {
+      text =
+        ended (codes "chain " ++ decimal which ++ codes " " ++ decimal gate ++ codes " " ++ text_of wanted ++ codes " " ++ text_of got);
+      status = 8
+    }
 
 -- `oldformat I`: it is one of the first format
 abbrev pub old_format_at : ℕ → Answer
@@ -37,6 +41,7 @@ refused_by which why.OldFormat = old_format_at which
 refused_by which why.Fault = nothing_with 6
 refused_by which why.OutOfMemory = nothing_with 4
 
+-- what is printed of a refusal, and the status that goes with it
 abbrev pub told_of : Refused → Answer
 told_of refused = refused_by refused.which refused.why
 

@@ -1,5 +1,6 @@
 -- What a whole script means: from one world to another, what each line did there, what is printed, and how it ends. This project's own.
-use Rattle.std.specs.Prelude.{◌≡◌, ◌<◌, ◌-◌, ◌^◌, ◌≤◌, ◌⊎◌, ℕ, ◌+◌, ◌==◌, ◌||◌, Bool, false, List, [], ◌∷◌, ◌++◌, length, Option, Result, Ok, Err}
+use Rattle.std.specs.Prelude.{◌≡◌, ◌<◌, ◌-◌, ◌^◌, ◌≤◌, ◌⊎◌, ℕ, ◌+◌, ◌==◌, ◌||◌, Bool, false, List, [], ◌∷◌, ◌++◌, length, Option, Result,
+    Ok, Err}
 use Rattle.std.specs.List.{flat_map, sum_by}
 use Rattle.std.specs.Io.KnownBytes.{Appends}
 use Rattle.up_ends.specs.Writing.{WritesPart}
@@ -47,7 +48,8 @@ module _ {D P V C N : Type 0} (who : Parties D P V C N) (limits : Limits) where
   -- last, and the status: there is no line left; or the next one was not done; or no more could be written.
   pub data Ends (last : World D P V C N) (number : ℕ) : List Text → Text → ℕ → World D P V C N → Type 0 where
     at_end : Ends last number [] [] 0 last
-    stopped : {line : Text} {more : List Text} {b : World D P V C N} (why : LineStop) → LineCame who limits last line (Err why) b → Ends last number (line ∷ more) (stop_text number why) (stop_code why) b
+    stopped : {line : Text} {more : List Text} {b : World D P V C N} (why : LineStop)
+        → LineCame who limits last line (Err why) b → Ends last number (line ∷ more) (stop_text number why) (stop_code why) b
     unwritten : {left : List Text} → Ends last number left [] 3 last
 
   -- From one world to another: the lines that were done, each with what it did, how that ended, and what was written. The text is written

@@ -1,5 +1,6 @@
 -- What the text of users to be enrolled comes to at a host. This project's own.
-use Rattle.std.specs.Prelude.{◌≡◌, ◌+◌, ℕ, Bool, true, false, if◌then◌else◌, is_some, List, [], ◌∷◌, ◌++◌, length, Option, Some, None, Result, Ok, Err, OnErr}
+use Rattle.std.specs.Prelude.{◌≡◌, ◌+◌, ℕ, Bool, true, false, if◌then◌else◌, is_some, List, [], ◌∷◌, ◌++◌, length, Option, Some, None,
+    Result, Ok, Err, OnErr}
 use Rattle.up_disk.specs.declared.disk.Disk.{Ghosts}
 use Rattle.up_host.specs.Alone.{HostState}
 use Rattle.up_journal.specs.Journal.{is_full}
@@ -41,6 +42,7 @@ pub record Enrolment : Type 0 where
   pub log : List KeyRecord
   pub stop : Option EnrolStop
 
+-- this log, and why enrolling stopped, if it did
 abbrev pub ended : List KeyRecord → Option EnrolStop → Enrolment
 ended log stop = record { log = log; stop = stop }
 
@@ -82,9 +84,11 @@ pub record KeepsHost {D : Type 0} (disks : Ghosts D) (host after : HostState D) 
 
 -- The users of a text were enrolled, in the order of its lines: the log of keys is what it should be, and it stopped where it should;
 -- cut short by a fault or want of memory, the log is a front of that.
-pub record EnrolsUsers {D : Type 0} (disks : Ghosts D) (text : Text) (host after : HostState D) (result : Result (Unit {0}) EnrolStop) : Type 0 where
+pub record EnrolsUsers {D : Type 0} (disks : Ghosts D) (text : Text)
+    (host after : HostState D) (result : Result (Unit {0}) EnrolStop) : Type 0 where
   pub kept : KeepsHost disks host after (result ≡ Err stop.DiskFault)
-  pub exact : is_cut result ≡ false → enrolment host.keys.state.limits host.keys.state.log text ≡ ended after.keys.state.log (stop_of result)
+  pub exact : is_cut result ≡ false
+      → enrolment host.keys.state.limits host.keys.state.log text ≡ ended after.keys.state.log (stop_of result)
   pub front : Begins after.keys.state.log (enrolment host.keys.state.limits host.keys.state.log text).log
 
 -- why enrolling stops where a record was not put
@@ -101,13 +105,16 @@ IsAfter log (Ok done) meant = meant ≡ Ok log
 IsAfter log (Err why) meant = meant ≡ Err why
 
 -- a user's record was put where none was held, or not
-pub record PutsUser {D : Type 0} (disks : Ghosts D) (card : KeyRecord) (host after : HostState D) (result : Result (Unit {0}) EnrolStop) : Type 0 where
+pub record PutsUser {D : Type 0} (disks : Ghosts D) (card : KeyRecord)
+    (host after : HostState D) (result : Result (Unit {0}) EnrolStop) : Type 0 where
   pub kept : KeepsHost disks host after (result ≡ Err stop.DiskFault)
   pub exact : is_cut result ≡ false → IsAfter after.keys.state.log result (with_user host.keys.state.limits host.keys.state.log card)
   pub same : OnErr result (after.keys.state.log ≡ host.keys.state.log)
 
 -- what a line says was done, or not
-pub record DoesLine {D : Type 0} (disks : Ghosts D) (number : ℕ) (line : Text) (host after : HostState D) (result : Result (Unit {0}) EnrolStop) : Type 0 where
+pub record DoesLine {D : Type 0} (disks : Ghosts D) (number : ℕ) (line : Text)
+    (host after : HostState D) (result : Result (Unit {0}) EnrolStop) : Type 0 where
   pub kept : KeepsHost disks host after (result ≡ Err stop.DiskFault)
-  pub exact : is_cut result ≡ false → IsAfter after.keys.state.log result (after_line host.keys.state.limits number host.keys.state.log (enrol_line line))
+  pub exact : is_cut result ≡ false
+      → IsAfter after.keys.state.log result (after_line host.keys.state.limits number host.keys.state.log (enrol_line line))
   pub same : OnErr result (after.keys.state.log ≡ host.keys.state.log)

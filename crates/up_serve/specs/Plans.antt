@@ -1,5 +1,6 @@
 -- What the words of `upspin serve` say. This project's own.
-use Rattle.std.specs.Prelude.{◌≡◌, ◌==◌, ℕ, Bool, true, false, not, ◌&&◌, ◌||◌, if◌then◌else◌, List, [], ◌∷◌, codes, length, Option, Some, None}
+use Rattle.std.specs.Prelude.{◌≡◌, ◌==◌, ℕ, Bool, true, false, not, ◌&&◌, ◌||◌, if◌then◌else◌, List, [], ◌∷◌, codes, length, Option, Some,
+    None}
 use Rattle.std.specs.List.{AllByRecursion, IsDistinct, after_first, before_first, list_all, list_any}
 use Rattle.std.specs.Result.{result_ok}
 use Rattle.std.specs.Str.{bytes_eq}
@@ -17,8 +18,10 @@ use Rattle.up_text.specs.Numbers.{num_of}
 -- a word that is an option
 abbrev pub is_option : Text → Bool
 is_option word =
-    bytes_eq word (codes "--listen") || bytes_eq word (codes "--host") || bytes_eq word (codes "--operator") || bytes_eq word (codes "--tree") || bytes_eq word (codes "--folder")
-    || bytes_eq word (codes "--helper") || bytes_eq word (codes "--enrol") || bytes_eq word (codes "--peer") || bytes_eq word (codes "--connections")
+    bytes_eq word (codes "--listen") || bytes_eq word (codes "--host") || bytes_eq word (codes "--operator")
+    || bytes_eq word (codes "--tree") || bytes_eq word (codes "--folder")
+    || bytes_eq word (codes "--helper") || bytes_eq word (codes "--enrol")
+    || bytes_eq word (codes "--peer") || bytes_eq word (codes "--connections")
     || bytes_eq word (codes "--feed") || bytes_eq word (codes "--feeds")
 
 -- words that are pairs of an option and its value
@@ -63,24 +66,25 @@ user_in value = result_ok (user_of value)
 abbrev pub address_in : Text → Option Text
 address_in value = if is_address value then Some value else None
 
--- a peer: `USER=ADDR`, cut at the first `=`
+-- the byte `=`
 abbrev pub is_equals : ℕ → Bool
 is_equals b = b == 61
 
+-- a peer: `USER=ADDR`, cut at the first `=`
 unfoldable pub peer_in : Text → Option (UserName × Text)
 peer_in value = do
   user ← user_in (before_first is_equals value)
   address ← address_in (after_first is_equals value)
   if list_any is_equals value then Some (user, address) else None
 
--- where followers are listened for, and how many of their connections come: two options that stand both, each once; or neither does, and
--- then it is the empty text and 0
+-- where followers are listened for, and how many of their connections come: two options, each once
 unfoldable pub given_feed : List Text → List Text → Option (Text × ℕ)
 given_feed addresses numbers = do
   address ← once addresses >>= address_in
   number ← once numbers >>= num_of
   Some (address, number)
 
+-- the values of these two options, where both stand; where neither does, the empty text and 0
 abbrev pub feed_in : List Text → List Text → Option (Text × ℕ)
 feed_in addresses numbers = if (length addresses == 0) && (length numbers == 0) then Some ([], 0) else given_feed addresses numbers
 
@@ -99,6 +103,7 @@ are_different (user ∷ more) = not (has_user more user) && are_different more
 abbrev pub are_owners : List UserName → Bool
 are_owners owners = list_all (λ owner. not (owns_snapshots owner)) owners && are_different owners
 
+-- these users, where they may be the owners of trees
 abbrev pub if_owners : List UserName → Option (List UserName)
 if_owners owners = if are_owners owners then Some owners else None
 
@@ -117,7 +122,8 @@ options_plan options = do
   operator ← once (values_of (codes "--operator") options) >>= user_in
   trees ← all_read user_in (values_of (codes "--tree") options) >>= if_owners
   peers ← all_read peer_in (values_of (codes "--peer") options)
-  Some (record { listen = listen; host = host; operator = operator; trees = trees; folder = folder; helper = helper; enrol = enrol; peers = peers; connections = connections; feed = feed.0; feeds = feed.1 })
+  Some (record { listen = listen; host = host; operator = operator; trees = trees; folder = folder; helper = helper; enrol = enrol;
+      peers = peers; connections = connections; feed = feed.0; feeds = feed.1 })
 
 -- what the words say: `serve`, and then pairs of an option and its value, in any order; none where they do not fit
 unfoldable pub plan_of : List Text → Option ServePlan

@@ -1,6 +1,7 @@
 -- Who may read at a path, by name: users, domains and everyone. This project's own, over the rights of the Upspin access control
 -- document.
-use Rattle.std.specs.Prelude.{◌≡◌, ◌≢◌, ◌⊎◌, ◌↔◌, ◌&&◌, Bool, true, false, not, is_none, List, [], ◌∷◌, ◌++◌, filter, Contains, Some, None, unwrap_or}
+use Rattle.std.specs.Prelude.{◌≡◌, ◌≢◌, ◌⊎◌, ◌↔◌, ◌&&◌, Bool, true, false, not, is_none, List, [], ◌∷◌, ◌++◌, filter, Contains, Some, None,
+    unwrap_or}
 use Rattle.std.specs.List.{flat_map}
 use Rattle.std.specs.List.Sorted.{IsStrictlySortedBy}
 use Rattle.std.specs.Map.{keys_of}
@@ -35,11 +36,13 @@ Leads texts first (next ∷ behind) last = Contains (names_in texts first) next 
 
 -- A group is met: a list of groups leads to it from one that stands in a rule that holds read.
 abbrev pub IsMet : GroupTexts → List Rule → PathName → Type 0
-IsMet texts rules group = (first : PathName) × (behind : List PathName) × Contains (items_for Read rules) (Group first) × Leads texts first behind group
+IsMet texts rules group =
+    (first : PathName) × (behind : List PathName) × Contains (items_for Read rules) (Group first) × Leads texts first behind group
 
 -- An item stands in a rule that holds read, or in the text of a group that is met.
 abbrev pub StandsIn : GroupTexts → List Rule → Item → Type 0
-StandsIn texts rules item = Contains (items_for Read rules) item ⊎ ((group : PathName) × IsMet texts rules group × Contains (items_in texts group) item)
+StandsIn texts rules item =
+    Contains (items_for Read rules) item ⊎ ((group : PathName) × IsMet texts rules group × Contains (items_in texts group) item)
 
 -- Who reads at a path: the owner; and where a text governs the path, each user, each domain and everyone that stands in a rule of it
 -- that holds read, or in the text of a group that is met from there.
@@ -56,7 +59,8 @@ pub record AreReaders (tree : TreeFacts) (loaded : Loading) (path : PathName) (i
 -- A group of another owner is met on the way, and has no text.
 abbrev pub IsUnread : TreeFacts → Loading → PathName → PathName → Type 0
 IsUnread tree loaded path group =
-    (rules : List Rule) × IsGovernor tree path (Some rules) × IsMet (text_of tree loaded) rules group × (group.owner ≢ tree.owner) × (text_of tree loaded group ≡ None)
+    (rules : List Rule) × IsGovernor tree path (Some rules) × IsMet (text_of tree loaded) rules group
+    × (group.owner ≢ tree.owner) × (text_of tree loaded group ≡ None)
 
 -- All such groups, and no others, in order of paths and none twice.
 pub record AreUnread (tree : TreeFacts) (loaded : Loading) (path : PathName) (groups : List PathName) : Type 0 where
@@ -89,9 +93,10 @@ lacks_text tree loaded group = not (bytes_eq group.owner tree.owner) && is_none 
 unfoldable pub lacking : TreeFacts → List PathName → Loading → List Rule → List PathName
 lacking tree listed loaded rules = filter (lacks_text tree loaded) (met_groups tree listed loaded rules)
 
--- who reads at a path, and which groups are unread for it
+-- who reads at a path
 abbrev pub readers : TreeFacts → List PathName → Loading → PathName → List Item
 readers tree listed loaded path = readers_by tree listed loaded (governing_rules tree path)
 
+-- the groups that are unread for a path, in order, each once
 abbrev pub unread : TreeFacts → List PathName → Loading → PathName → List PathName
 unread tree listed loaded path = in_order path_cmp (lacking tree listed loaded (governing_rules tree path))

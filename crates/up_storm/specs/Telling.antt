@@ -84,12 +84,14 @@ tree_line owner log = numbers_line owner (length log) (length (tree_of log))
 
 -- `ok N notexist N private N`
 abbrev pub tally_line : Tally → Text
-tally_line t = ended (codes "ok " ++ (decimal t.ok ++ (codes " notexist " ++ (decimal t.notexist ++ (codes " private " ++ decimal t.private)))))
+tally_line t =
+    ended (codes "ok " ++ (decimal t.ok ++ (codes " notexist " ++ (decimal t.notexist ++ (codes " private " ++ decimal t.private)))))
 
 -- how many sessions there were, and how many requests they made together
 abbrev pub heading : Plan → Text
 heading plan = ended (codes "sessions " ++ decimal plan.sessions) ++ ended (codes "requests " ++ decimal (plan.sessions * plan.requests))
 
+-- the summary: how much was asked, the two trees by their logs, and how many replies of each kind there were
 abbrev pub summary_text : Plan → List Rec → List Rec → Tally → Text
 summary_text plan first second t =
     heading plan ++ ((tree_line (codes "a@storm.example") first ++ tree_line (codes "b@storm.example") second) ++ tally_line t)
@@ -101,6 +103,7 @@ abbrev pub sessions_text : ℕ → List Said → Text
 sessions_text k [] = []
 sessions_text k (said ∷ more) = (ended (codes "session " ++ decimal k) ++ said.text) ++ sessions_text (k + 1) more
 
+-- how many replies of each kind all sessions had together
 abbrev pub all_counted : List Said → Tally
 all_counted [] = none_counted
 all_counted (said ∷ more) = both_counted said.tally (all_counted more)
@@ -110,6 +113,7 @@ abbrev pub full_text : List Rec → List Rec → List Said → Text
 full_text first second said =
     log_text (codes "a@storm.example") first ++ (log_text (codes "b@storm.example") second ++ sessions_text 0 said)
 
+-- all that is printed: the summary, and the rest where it is asked for
 abbrev pub storm_text : Plan → List Rec → List Rec → List Said → Text
 storm_text plan first second said =
     summary_text plan first second (all_counted said) ++ (if plan.full then full_text first second said else [])

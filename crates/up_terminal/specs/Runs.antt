@@ -42,8 +42,10 @@ module _ {S : Type 0} (answers : S → Request → Option Reply → S → Type 0
   -- and the bytes behind these lines, with the text that is written last, and the status.
   pub data Ends (last : S) (number bytes : ℕ) (over : Bool) (rest : Text) : Text → ℕ → S → Type 0 where
     at_end : over ≡ true → rest ≡ [] → Ends last number bytes over rest [] 0 last
-    bad : (line more : Text) → rest ≡ line ++ 10 ∷ more → IsLine line → line_of user line ≡ None → Ends last number bytes over rest (bad_line number) 1 last
-    stopped : (line more : Text) {b : S} (why : LineStop) → rest ≡ line ++ 10 ∷ more → IsLine line → LineCame answers user last line (Err why) b → Ends last number bytes over rest [] (stop_code why) b
+    bad : (line more : Text) → rest ≡ line ++ 10 ∷ more → IsLine line
+        → line_of user line ≡ None → Ends last number bytes over rest (bad_line number) 1 last
+    stopped : (line more : Text) {b : S} (why : LineStop) → rest ≡ line ++ 10 ∷ more → IsLine line
+        → LineCame answers user last line (Err why) b → Ends last number bytes over rest [] (stop_code why) b
     unread : over ≡ false → IsLine rest → Ends last number bytes over rest [] 2 last
     unwritten : Ends last number bytes over rest [] 3 last
     too_long : input_limit < length (before_first is_line_end rest) → Ends last number bytes over rest [] 7 last
