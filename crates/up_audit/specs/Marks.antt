@@ -59,14 +59,14 @@ told_by records (suc n) = told_by records n ++ told_at records (suc n)
 
 -- ---- the references that were noted
 
--- a reference was noted
+-- whether a reference was noted
 abbrev pub has_noted : List (Ref × Bool) → Ref → Bool
 has_noted noted reference = is_some (find reference_cmp reference noted)
 
--- and so is no loose one
+-- a reference is loose where it was not noted
 abbrev pub is_loose : List (Ref × Bool) → Ref → Bool
 is_loose noted reference = not (has_noted noted reference)
 
--- these were noted besides
+-- these references were noted, besides those that were noted before
 pub record Notes (old new : List (Ref × Bool)) (more : List Ref) : Type 0 where
   pub each : (reference : Ref) → has_noted new reference ≡ (has_noted old reference || is_among more reference)

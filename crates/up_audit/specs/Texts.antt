@@ -15,7 +15,7 @@ use Rattle.up_tree.specs.States as tree
 abbrev pub held_line : ℕ → ℕ → Text
 held_line held loose = ended (codes "held " ++ decimal held ++ codes " loose " ++ decimal loose)
 
--- `loose REF`: one that is
+-- `loose REF`: the line of a loose reference
 abbrev pub loose_line : Ref → Text
 loose_line reference = ended (codes "loose " ++ text_of reference)
 

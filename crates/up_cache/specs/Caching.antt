@@ -18,7 +18,7 @@ pub record Caching (S : Type 0) : Type 0 where
   pub asked : ℕ
   pub kept : ℕ
 
--- nothing was asked yet
+-- a cache with no block, over whoever is asked, of which nothing was asked yet
 abbrev pub caching : {S : Type 0} → S → ℕ → Caching S
 caching ask capacity = record { ask = ask; cache = record { blocks = []; capacity = capacity }; asked = 0; kept = 0 }
 
@@ -26,7 +26,7 @@ caching ask capacity = record { ask = ask; cache = record { blocks = []; capacit
 abbrev pub one_more : ℕ → ℕ
 one_more count = count_after count 1
 
--- a request for a block
+-- whether a request is for a block
 abbrev pub is_get : Request → Bool
 is_get (requests.Get text) = true
 is_get request = false
@@ -41,7 +41,7 @@ abbrev pub held_for : List Block → Option (List ℕ) → Option Block
 held_for blocks None = None
 held_for blocks (Some reference) = held blocks reference
 
--- bytes whose reference is the wanted one
+-- the block of these bytes, where their reference is the wanted one
 abbrev pub block_of : List ℕ → List ℕ → Option Block
 block_of reference bytes = if bytes_eq (sha256 bytes) reference then Some (reference, bytes) else None
 

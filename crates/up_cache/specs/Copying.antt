@@ -116,7 +116,7 @@ pub record Copied {S : Type 0} (answers : S → Request → Option Reply → S �
   pub whole : is_cut status ≡ false → Appends old new (printed dids ++ tail)
   pub part : WritesPart old new (printed dids ++ tail)
 
--- the same from a new cache on, by what it leaves of whoever is asked
+-- Words were copied over a new cache, and whoever is asked was left so.
 pub record CopiedOver {S : Type 0} (answers : S → Request → Option Reply → S → Type 0)
     (old new : Option Text) (a : S) (words : List Text) (status : ℕ) (b : S) : Type 0 where
   pub end : Caching S

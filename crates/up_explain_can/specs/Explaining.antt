@@ -57,12 +57,12 @@ pub record Explanation (numbers : List ℕ) (old new : Option Text) (status : �
   pub explains : Explains numbers text
   pub answers : AnswersWith old new (record { text = text; status = status_for numbers }) status
 
--- the same of an input, by whether it is too long: then it is not read
+-- what the explanation of an input means, by whether the input is too long, and then is not read
 abbrev pub InputMeans : {S : Type 0} → Bool → (S → Text → Option S) → S → Text → Option Text → Option Text → ℕ → Type 0
 InputMeans true step first input old new status = AnswersWith old new (record { text = []; status = 7 }) status
 InputMeans false step first input old new status = Explanation (bad_from step 1 first (script_lines input)) old new status
 
--- what the explanation of an input means: one that is longer than the limit of inputs is not read
+-- what the explanation of an input means: it is too long above the limit of inputs
 abbrev pub ExplainsInput : {S : Type 0} → (S → Text → Option S) → S → Text → Option Text → Option Text → ℕ → Type 0
 ExplainsInput step first input old new status = InputMeans (nat_lt input_limit (length input)) step first input old new status
 

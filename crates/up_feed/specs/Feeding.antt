@@ -38,7 +38,7 @@ pub record ReadsBatch {D : Type 0} (from : ℕ) (old new : State D) (given : Opt
   pub stays : new ≡ old
   pub batch : IfSome given (λ batch. batch ≡ batch_in from old.log)
 
--- the owner that is there; where none is, no owner's text
+-- the name of an owner that is there; where none is, the empty text
 abbrev pub owner_by : Option UserName → UserName
 owner_by (Some owner) = owner
 owner_by None = []

@@ -38,7 +38,7 @@ AreFed None None asks answers = AllByRecursion (λ reply. reply ≡ replies.NoTr
 AreFed (Some v) None asks answers = ⊥
 AreFed None (Some w) asks answers = ⊥
 
--- So it is with all that a user is answered on one connection, one question after the other.
+-- the law of a feed: all that a user is answered on one connection, one question after the other, is over a log that never gets shorter
 abbrev pub FeedsNeverFall : (D : Type 0) → {V N : Type 0} → verifier.Ghosts V → nonces.Ghosts N → Type 0
 FeedsNeverFall D {V} {N} verifiers drawn =
     (user : UserName) (a b : Around (Leader D) V Timeless N) (asks : List FeedAsk) (answers : List FeedReply)

@@ -49,11 +49,11 @@ module _ {D F : Type 0} (disks : disk.Ghosts D) (feeds : feed.Ghosts F) (limits 
     pub back_is : back ≡ fault.disk ∷ []
     pub feed_is : after ≡ before
 
-  -- of an input that was read whole one of these came
+  -- of an input that was read whole the lines were done, or the disk was refused
   abbrev pub FollowsInput : Type 0
   FollowsInput = RunsLines ⊎ RefusesDisk
 
--- Of the input, which is what the source had left where it tells that; or there was no memory to read it.
+-- An input was followed, which is what the source had left where it tells that.
 pub record FollowsSource {D F : Type 0} (disks : disk.Ghosts D) (feeds : feed.Ghosts F) (limits : Limits)
     (owner : UserName) (left old new : Option Text) (given back : List D) (before after : F) (status : ℕ) : Type 0 where
   pub input : Text

@@ -38,7 +38,7 @@ pub data Did : Type 0 where
   ReadOnly : Did
   Replied : Reply → Did
 
--- the text that is printed
+-- the text that is printed of what a line did
 abbrev pub said : Did → Text
 said Did.Nothing = []
 said (Did.Pulled count) = ended (codes "pulled " ++ decimal count)
@@ -67,7 +67,7 @@ abbrev pub reply_said : Reply → Came
 reply_said reply.OutOfMemory = Err stop.OutOfMemory
 reply_said given = Ok (Did.Replied given)
 
--- and of an answer, which is none where the request does not only look
+-- what is said of an answer, which is none where the request does not only look
 abbrev pub answer_said : Option Reply → Came
 answer_said None = Ok Did.ReadOnly
 answer_said (Some given) = reply_said given

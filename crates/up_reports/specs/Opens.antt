@@ -17,7 +17,7 @@ use Rattle.up_tree.specs.States as tree
 
 -- ---- limits
 
--- those of the trees of the servers whose logs are read
+-- the limits of the trees of servers, whose logs are read
 abbrev pub report_limits : Limits
 report_limits = record { records = 1048576; device = 1073741824; largest = 131072 }
 
@@ -31,28 +31,28 @@ store_limits limits = record { records = limits.records; device = limits.device;
 abbrev pub Reader : Type 0 → Type 0
 Reader R = ℕ → List ℕ → Result (List R) Damage
 
--- It was opened, and did not fail.
+-- A log was opened on a disk, and the disk did not fail.
 pub record IsLogOn {D R : Type 0} (disks : Ghosts D) (read : Reader R) (limits : Limits) (disk : D) (log : LogState D R) : Type 0 where
   pub opens : OpensLog disks read limits disk log
   pub opened : IsOpened disks limits.largest disk log.disk ⊥
   pub counts : HasCause (disks.faults disk) (disks.faults log.disk) ⊥
 
--- It was refused. It failed where the fault says so.
+-- A disk was refused as a log, and failed where the fault says so.
 pub record IsNoLog {D R : Type 0} (disks : Ghosts D) (read : Reader R) (limits : Limits) (disk : D) (fault : OpenFault D) : Type 0 where
   pub refuses : RefusesLog disks read limits disk fault
   pub opened : IsOpened disks limits.largest disk fault.disk (fault.why ≡ why.Fault)
   pub counts : HasCause (disks.faults disk) (disks.faults fault.disk) (fault.why ≡ why.Fault)
 
--- it was opened as the tree of an owner
+-- a disk was opened as the tree of an owner
 pub record OpensTree {D : Type 0} (disks : Ghosts D) (limits : Limits) (owner : UserName) (disk : D) (state : tree.State D) : Type 0 where
   pub owner_is : state.owner ≡ owner
   pub log : IsLogOn disks (tree.records_in owner) limits disk (tree.over_journal state)
 
--- as the store
+-- a disk was opened as the store
 abbrev pub OpensStore : {D : Type 0} → Ghosts D → Limits → D → LogState D BlockRecord → Type 0
 OpensStore disks limits disk store = IsLogOn disks blocks.blocks_in (store_limits limits) disk store
 
--- it was opened, and was handed back
+-- a disk was opened as a log, and was handed back
 pub record WasOpened {D R : Type 0} (disks : Ghosts D) (read : Reader R) (limits : Limits) (disk after : D) : Type 0 where
   pub log : LogState D R
   pub opened : IsLogOn disks read limits disk log
@@ -79,7 +79,7 @@ IsRefusedAs disks limits LogKind.OfStore disk fault = IsNoLog disks blocks.block
 abbrev pub trees_of : List UserName → List LogKind
 trees_of owners = map LogKind.OfTree owners
 
--- and the store behind them
+-- the trees of these owners, in this order, and the store behind them
 abbrev pub logs_of : List UserName → List LogKind
 logs_of owners = trees_of owners ++ LogKind.OfStore ∷ []
 
@@ -106,7 +106,7 @@ pub record TakesTrees {D : Type 0} (disks : Ghosts D) (limits : Limits)
   pub given_is : given ≡ used ++ now
   pub opened : OpensTrees disks limits owners used trees
 
--- All were opened: the trees over the first disks, and the store over the last.
+-- All disks were opened: the first ones as the trees of these owners, and the last as the store.
 pub record OpensLogs {D : Type 0} (disks : Ghosts D) (limits : Limits) (owners : List UserName)
     (given : List D) (trees : List (tree.State D)) (store : LogState D BlockRecord) : Type 0 where
   pub of_trees : List D
@@ -133,7 +133,7 @@ pub record StopsAtOne {D : Type 0} (disks : Ghosts D) (limits : Limits)
   pub was_refused : IsRefusedAs disks limits log disk fault
   pub refused_is : refused ≡ record { which = length before; why = fault.why }
 
--- or no disk was opened, for want of memory
+-- No disk was opened, for want of memory.
 pub record OpensNone {D : Type 0} (given now : List D) (refused : Refused) : Type 0 where
   pub back_is : now ≡ given
   pub refused_is : refused ≡ record { which = 0; why = why.OutOfMemory }

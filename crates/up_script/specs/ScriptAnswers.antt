@@ -24,7 +24,7 @@ code_by (Ok status) = code_of status
 code_by (Err stop.WriteFault) = 3
 code_by (Err stop.OutOfMemory) = 4
 
--- the hosts, with what stands around them
+-- these hosts, with what stands around them
 abbrev pub among : {D P V C N : Type 0} → Hosts D → Around P V C N → World D P V C N
 among state around = record { state = state; around = around }
 

@@ -14,7 +14,8 @@ abbrev pub EndsAtFirst : List ℕ → Option Text → Option Text → ℕ → Ty
 EndsAtFirst [] old new status = status ≢ 1
 EndsAtFirst (number ∷ more) old new status = status ≡ 1 → (printed : Text) × Appends old new (printed ++ bad_line number)
 
--- so it is with every run over such parties
+-- The law of `upspin script`: a run that ends with 1 names the first malformed line of its input last, and no run ends with 1 where no line
+-- is malformed.
 abbrev pub ScriptEndsAtTheFirst : {D P V C N : Type 0} → Parties D P V C N → Type 0
 ScriptEndsAtTheFirst {D} {P} {V} {C} {N} who =
     (limits : Limits) (input : Text) (old new : Option Text) (given back : List D) (before after : Around P V C N) (status : ℕ)

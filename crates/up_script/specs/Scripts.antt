@@ -59,7 +59,7 @@ pub data Did : Type 0 where
   Put : ℕ → Result ℕ ClientFault → Did
   Got : ℕ → Result (List ℕ) ClientFault → Did
 
--- the text that is printed
+-- the text that is printed of what a line did
 abbrev pub said : Did → Text
 said Did.Nothing = []
 said (Did.HostOpened name) = ended (codes "host " ++ name)
@@ -73,7 +73,7 @@ said (Did.Replied number given) = all_numbered number (reply_lines given)
 said (Did.Put number result) = all_numbered number (put_lines result)
 said (Did.Got number result) = all_numbered number (got_lines result)
 
--- how many lines `io` that is
+-- how many lines `io` are printed of what a line did
 abbrev pub io_in : Did → ℕ
 io_in (Did.Replied number given) = io_of given
 io_in (Did.Put number result) = talking.io_in result
@@ -107,7 +107,7 @@ module _ {D : Type 0} (disks : disk.Ghosts D) (limits : Limits) where
         → HostCame host a (Err stop.OutOfMemory) b
 
 module _ {D : Type 0} (disks : disk.Ghosts D) where
-  -- `enrol`: a record without endpoints is put to the keys of the host with the name
+  -- `enrol`: a key record that names no endpoints is put to the keys of the host with the name
   pub data EnrolCame (user : NewUser) (a : Hosts D) : Came → Hosts D → Type 0 where
     enrolled : {place position : ℕ} {b : Hosts D} → place_of a user.host ≡ Some place
         → EnrolsAt disks place user.user user.key a (Ok position) b → EnrolCame user a (Ok (Did.Enrolled user.user)) b

@@ -15,7 +15,7 @@ use Rattle.up_text.specs.Numbers.{num_of}
 
 -- ---- options and their values
 
--- a word that is an option
+-- whether a word is an option
 abbrev pub is_option : Text → Bool
 is_option word =
     bytes_eq word (codes "--listen") || bytes_eq word (codes "--host") || bytes_eq word (codes "--operator")
@@ -24,7 +24,7 @@ is_option word =
     || bytes_eq word (codes "--peer") || bytes_eq word (codes "--connections")
     || bytes_eq word (codes "--feed") || bytes_eq word (codes "--feeds")
 
--- words that are pairs of an option and its value
+-- whether words are pairs of an option and its value
 abbrev pub are_pairs : List Text → Bool
 are_pairs [] = true
 are_pairs (name ∷ []) = false
@@ -58,7 +58,7 @@ all_read read (value ∷ more) = do
 
 -- ---- what a value is read as; it stands for itself, and nothing in it is coded
 
--- a user
+-- the user that a value names
 abbrev pub user_in : Text → Option UserName
 user_in value = result_ok (user_of value)
 
@@ -90,7 +90,7 @@ feed_in addresses numbers = if (length addresses == 0) && (length numbers == 0) 
 
 -- ---- trees
 
--- one of these users is this one
+-- whether one of these users is this one
 abbrev pub has_user : List UserName → UserName → Bool
 has_user users user = list_any (λ one. bytes_eq one user) users
 
@@ -99,7 +99,7 @@ abbrev pub are_different : List UserName → Bool
 are_different [] = true
 are_different (user ∷ more) = not (has_user more user) && are_different more
 
--- the owners of trees: all different, and none of them a snapshot user
+-- these users may be the owners of trees: all differ, and none of them is a snapshot user
 abbrev pub are_owners : List UserName → Bool
 are_owners owners = list_all (λ owner. not (owns_snapshots owner)) owners && are_different owners
 

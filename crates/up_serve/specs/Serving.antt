@@ -28,18 +28,18 @@ pub record AreServeLimits (limits : Limits) : Type 0 where
   pub least : keys.largest_room ≤ limits.largest
   pub most : limits.largest ≤ 1048000
 
--- those that the program gives them
+-- the limits that the program gives them
 abbrev pub serve_limits : Limits
 serve_limits = record { records = 1048576; device = 1073741824; largest = 131072 }
 
 -- ---- the result
 
--- its status; 0 is that of an opened host
+-- the status of what came of a plan; 0 is that of an opened host
 abbrev pub result_code : {D : Type 0} → Result (HostState D) (ServeFault D) → ℕ
 result_code (Ok host) = 0
 result_code (Err fault) = fault.status
 
--- the disks, in their places
+-- the disks after a plan, in their places
 abbrev pub disks_after : {D : Type 0} → Result (HostState D) (ServeFault D) → List D
 disks_after (Ok host) = disks_of host
 disks_after (Err fault) = fault.disks.disks

@@ -29,7 +29,7 @@ module _ {D P V C N : Type 0} (who : Parties D P V C N) where
     pub enrols : EnrolsAt who.disks place user key a.state result b.state
     pub around : b.around ≡ a.around
 
-  -- a user signs on at the host at a place: peers and clock stay
+  -- a user signs on at the host at a place, or is refused; peers and clock stay as they are
   pub record OpenLine (number place : ℕ) (user : UserName) (signature : List ℕ)
       (a : World D P V C N) (result : Result Bool LineFault) (b : World D P V C N) : Type 0 where
     pub signs : SignsOn who.verifiers who.nonces number place user signature a.state

@@ -26,12 +26,12 @@ pub record AddsHost {D : Type 0} (disks : Ghosts D) (limits : Limits) (name : Li
   pub hosts_are : b.hosts ≡ a.hosts ++ host ∷ []
   pub sessions_are : b.sessions ≡ a.sessions
 
--- why a host is refused whose line ends so
+-- the reason for which a host was refused, where the line that opens it stops for this fault
 abbrev pub why_refused : LineFault → OpenWhy
 why_refused fault.Fault = reason.Fault
 why_refused fault.OutOfMemory = reason.OutOfMemory
 
--- whether it is damage for which a host is refused
+-- whether a host is refused for what one of its logs holds, and not for a fault or for want of memory
 abbrev pub is_damage : OpenWhy → Bool
 is_damage reason.Fault = false
 is_damage reason.OutOfMemory = false
@@ -50,13 +50,13 @@ pub record RefusesNext {D : Type 0} (disks : Ghosts D) (limits : Limits)
   pub why_is : refused.why ≡ why_refused why
   pub whole : b ≡ record a { free = refused.disks.disks ++ rest }
 
--- a host was opened, or refused
+-- a host was opened over the next free disks, or refused
 abbrev pub OpensNext : {D : Type 0} → Ghosts D → Limits → List ℕ → UserName
     → List UserName → Hosts D → Result (Unit {0}) LineFault → Hosts D → Type 0
 OpensNext disks limits name operator owners a (Ok done) b = AddsHost disks limits name operator owners a b
 OpensNext disks limits name operator owners a (Err why) b = RefusesNext disks limits owners why a b
 
--- a record without endpoints
+-- a user's key record that names no endpoints
 abbrev pub plain_card : UserName → List ℕ → KeyRecord
 plain_card user key = record { user = user; dirs = []; stores = []; key = key }
 

@@ -9,7 +9,7 @@ use Rattle.up_peer.specs.Loading.{GroupQuestion}
 use Rattle.up_peer.specs.declared.loader.Loader.{Ghosts}
 use Rattle.up_policy.specs.declared.load_answer.LoadAnswer.{LoadAnswer}
 
--- all but the one at a place, in order
+-- all hosts but the one at a place, in order
 abbrev pub others : {X : Type 0} → ℕ → List X → List X
 others place hosts = take place hosts ++ drop (suc place) hosts
 

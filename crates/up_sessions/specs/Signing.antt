@@ -36,19 +36,19 @@ pub record Challenges {V N : Type 0} (verifiers : verifier.Ghosts V) (drawn : no
   pub counts : HasCause (verifiers.faults v) (verifiers.faults w) (signed ≡ Err fault.Fault)
   pub quiet : StaysUnless (verifiers.faults v) (verifiers.faults w) (signed ≡ Err fault.Fault)
 
--- by the user's key record; where there is none, nobody has signed on, no challenge is drawn, and nobody is asked
+-- A sign-on is judged by the user's key record; where there is none, nobody has signed on, no challenge is drawn, and nobody is asked.
 abbrev pub JudgesBy : {V N : Type 0} → verifier.Ghosts V → nonces.Ghosts N
     → List ℕ → Option KeyRecord → List ℕ → V → N → Signed → V → N → Type 0
 JudgesBy verifiers drawn host (Some card) signature v n signed w m = Challenges verifiers drawn host card signature v n signed w m
 JudgesBy verifiers drawn host None signature v n signed w m = (signed ≡ Ok None) × (w ≡ v) × (m ≡ n)
 
--- The hosts after that: the number has the new session, or none; and where it was not found out who has signed on, all is as before.
+-- The hosts after a sign-on: the number has the new session, or none; and where it was not found out who has signed on, all is as before.
 abbrev pub signed_on : {D : Type 0} → ℕ → ℕ → Signed → Hosts D → Hosts D
 signed_on number place (Ok (Some session)) a = with_session number (Some (record { place = place; session = session })) a
 signed_on number place (Ok None) a = with_session number None a
 signed_on number place (Err why) a = a
 
--- whether the session is open then
+-- whether a session is open after a sign-on, or why that was not found out
 abbrev pub is_open : Signed → Result Bool LineFault
 is_open (Ok session) = Ok (is_some session)
 is_open (Err why) = Err why

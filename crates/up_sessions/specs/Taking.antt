@@ -18,7 +18,7 @@ pub record TakesHost {D : Type 0} (disks : Ghosts D) (limits : Limits) (name : L
   pub opens : OpensHost disks limits name operator owners given host
   pub room : new.spare ≡ old.spare + (length owners + 2)
 
--- or they were handed back, and stand in their places
+-- The first disks were taken for a host that was refused; they were handed back, and stand in their places.
 pub record HandsBack {D : Type 0} (disks : Ghosts D) (limits : Limits)
     (owners : List UserName) (why : LineFault) (old new : Spared D) : Type 0 where
   pub given : List D

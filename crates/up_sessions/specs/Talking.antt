@@ -41,19 +41,19 @@ pub record TalksTo {D P X : Type 0} (disks : disk.Ghosts D) (loader : Ghosts P) 
   pub counts : CountsRose (disk_faults disks host) (disk_faults disks after) (loader.faults old) (loader.faults new) (io_in result)
   pub stays : StaysHost disks host after
 
--- with the host at a place, and nothing else changed
+-- a conversation was held with the host at a place, and nothing else changed
 abbrev pub TalksAt : {D P X : Type 0} → disk.Ghosts D → Ghosts P → ℕ → UserName
     → ℕ → Talking X → Result X ClientFault → Hosts D → P → Hosts D → P → Type 0
 TalksAt disks loader place user moment talk result a old b new =
     AtHost place (λ host after. TalksTo disks loader (others place a.hosts) user moment talk result host after old new) a b
 
--- a user put a file
+-- a user's conversation to put a file was held with the host at a place
 abbrev pub PutsAt : {D P : Type 0} → disk.Ghosts D → Ghosts P → ℕ → UserName → ℕ → PathName
     → ℤ → ℤ → List ℕ → Result ℕ ClientFault → Hosts D → P → Hosts D → P → Type 0
 PutsAt disks loader place user moment path time sequence bytes result a old b new =
     TalksAt disks loader place user moment (put_talk user path time sequence bytes) result a old b new
 
--- a user got a file
+-- a user's conversation to get a file was held with the host at a place
 abbrev pub GetsAt : {D P : Type 0} → disk.Ghosts D → Ghosts P → ℕ → UserName → ℕ
     → PathName → Result (List ℕ) ClientFault → Hosts D → P → Hosts D → P → Type 0
 GetsAt disks loader place user moment path result a old b new = TalksAt disks loader place user moment (get_talk path) result a old b new

@@ -39,7 +39,7 @@ user_at a number = user_in a.sessions number
 abbrev pub no_session : List (Option Opened)
 no_session = replicate 100 None
 
--- the same with this session at a number, or with none
+-- the hosts, with this session open at a number, or with none there
 abbrev pub with_session : {D : Type 0} → ℕ → Option Opened → Hosts D → Hosts D
 with_session number session a = record a { sessions = slice_set a.sessions number session }
 

@@ -49,7 +49,7 @@ pub record AreKnown (owner : UserName) (tree : Tree) (known : Known) : Type 0 wh
       → is_listed (lacking_by owner tree (rules_in owner tree dir)) q ≡ true → is_key known.unread.entries q ≡ true
   pub sorted : T (is_sorted path_cmp known.unread.entries)
 
--- the groups that are unread by a text were added
+-- the groups that are unread by these rules were added to those that are unread
 pub record HasSearched (owner : UserName) (tree : Tree) (rules : List Rule) (old new : Known) : Type 0 where
   pub knows : AreKnown owner tree new
   pub lacks : (q : PathName) → is_key new.unread.entries q ≡ (is_key old.unread.entries q || is_listed (lacking_by owner tree rules) q)
@@ -62,7 +62,7 @@ line_of owner tree path = if is_file_at tree path then file_line path (readers_a
 abbrev pub unread_of : UserName → Tree → PathName → List PathName
 unread_of owner tree path = if is_file_at tree path then unread_at owner tree path else []
 
--- what stands at a path was told
+-- What stands at a path was told: its line was added, and the groups that are unread for it.
 pub record HasTold (owner : UserName) (tree : Tree) (path : PathName) (old new : Known) (text now : Text) : Type 0 where
   pub knows : AreKnown owner tree new
   pub lacks : (q : PathName) → is_key new.unread.entries q ≡ (is_key old.unread.entries q || is_listed (unread_of owner tree path) q)

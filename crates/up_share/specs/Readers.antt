@@ -22,7 +22,7 @@ use Rattle.up_share.specs.Orders.{in_order, item_cmp}
 
 -- ---- what is meant
 
--- a user, a domain or everyone, and no group
+-- whether an item is a user, a domain or everyone, and no group
 abbrev pub is_plain : Item → Bool
 is_plain Everyone = true
 is_plain (Domain domain) = true
@@ -56,13 +56,13 @@ pub record AreReaders (tree : TreeFacts) (loaded : Loading) (path : PathName) (i
   pub members : (item : Item) → Contains items item ↔ IsReader tree loaded path item
   pub order : IsStrictlySortedBy item_cmp items
 
--- A group of another owner is met on the way, and has no text.
+-- A group of another owner is met on the way to who reads at a path, and has no text.
 abbrev pub IsUnread : TreeFacts → Loading → PathName → PathName → Type 0
 IsUnread tree loaded path group =
     (rules : List Rule) × IsGovernor tree path (Some rules) × IsMet (text_of tree loaded) rules group
     × (group.owner ≢ tree.owner) × (text_of tree loaded group ≡ None)
 
--- All such groups, and no others, in order of paths and none twice.
+-- All groups that are unread for a path, and no others, in order of paths and none twice.
 pub record AreUnread (tree : TreeFacts) (loaded : Loading) (path : PathName) (groups : List PathName) : Type 0 where
   pub members : (group : PathName) → Contains groups group ↔ IsUnread tree loaded path group
   pub order : IsStrictlySortedBy path_cmp groups
@@ -85,7 +85,7 @@ standing tree listed loaded rules = items_for Read rules ++ flat_map (items_in (
 unfoldable pub readers_by : TreeFacts → List PathName → Loading → List Rule → List Item
 readers_by tree listed loaded rules = in_order item_cmp (User tree.owner ∷ filter is_plain (standing tree listed loaded rules))
 
--- a group of another owner that has no text
+-- whether a group is another owner's and has no text
 abbrev pub lacks_text : TreeFacts → Loading → PathName → Bool
 lacks_text tree loaded group = not (bytes_eq group.owner tree.owner) && is_none (text_of tree loaded group)
 

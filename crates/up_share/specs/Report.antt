@@ -13,7 +13,7 @@ use Rattle.up_log_tree.specs.Trees.{Tree, is_file, kind_of, node_at}
 use Rattle.up_share.specs.Orders.{in_order}
 use Rattle.up_share.specs.Readers.{readers, unread}
 
--- a file stands at a path: an Access or a Group file too
+-- whether a file stands at a path: an Access or a Group file too
 abbrev pub is_file_at : Tree → PathName → Bool
 is_file_at tree path = elim (node_at tree path) [ None ↦ false | Some node ↦ is_file (kind_of node) ]
 

@@ -45,7 +45,7 @@ pub record Wants {D : Type 0} (given now : List D) (held held_now : Option Text)
   pub back_is : now ≡ given
   pub held_is : held_now ≡ held
 
--- one of these
+-- What came of sharing an owner's tree: its report was printed, or its log was refused, or nothing was done for want of memory.
 abbrev pub Shares : {D : Type 0} → Ghosts D → Limits → UserName → List D → List D → Option Text → Option Text → ℕ → Type 0
 Shares disks limits owner given now held held_now status =
     Tells disks limits owner given now held held_now status

@@ -61,12 +61,12 @@ access_of k =
 abbrev pub prepares : ℕ → List Wanted
 prepares k = directory_of k ∷ block_of k ∷ access_of k ∷ []
 
--- and so for the n sessions from k on
+-- what is asked for the n sessions from k on, one after the other
 abbrev pub prepares_from : ℕ → ℕ → List Wanted
 prepares_from k zero = []
 prepares_from k (suc n) = prepares k ++ prepares_from (k + 1) n
 
--- first both owners, and then for each session
+-- all that prepares a host for so many sessions: first what both owners ask, and then what is asked for each session
 abbrev pub preparing : ℕ → List Wanted
 preparing sessions = roots ++ prepares_from 0 sessions
 

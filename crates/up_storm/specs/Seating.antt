@@ -66,7 +66,7 @@ pub record IsRead {D : Type 0} (all : Seats D) (place : ℕ) (log : List Rec) : 
   pub begins : Begins seat.seat.seen log
   pub every : HasEvery seat.seat (length log)
 
--- and what is printed of it was made
+-- a log was read through the joined seats, and what is printed of it was made
 pub record HasRead {D : Type 0} (full : Bool) (all : Seats D) (place : ℕ) (read : LogRead) : Type 0 where
   pub log : List Rec
   pub is_read : IsRead all place log

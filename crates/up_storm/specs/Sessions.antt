@@ -35,7 +35,7 @@ pub record Session (D L : Type 0) : Type 0 where
   pub tally : Tally
   pub failed : Bool
 
--- what it says once it has ended
+-- what a session says once it has ended
 abbrev pub said_of : {D L : Type 0} → Session D L → Said
 said_of w = record { text = w.text; tally = w.tally }
 

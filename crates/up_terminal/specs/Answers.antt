@@ -29,7 +29,7 @@ pub data Did : Type 0 where
   Put : Result ℕ ClientFault → Did
   Got : Result (List ℕ) ClientFault → Did
 
--- the text that is printed
+-- the text that is printed of what a line did
 abbrev pub said : Did → Text
 said Did.Nothing = []
 said Did.BadPath = ended (codes "invalid name")

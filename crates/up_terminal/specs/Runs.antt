@@ -16,7 +16,7 @@ use Rattle.up_terminal.specs.Lines.{IsLine, cut_text, line_of, lines_text}
 use Rattle.up_terminal.specs.declared.stop.LineStop.{LineStop}
 use Rattle.up_terminal.specs.declared.stop.LineStop.TheVariants as stop
 
--- all that is printed
+-- what is printed of all that lines did, in order
 abbrev pub printed : List Did → Text
 printed dids = flat_map said dids
 
@@ -34,7 +34,7 @@ abbrev pub read_limit : ℕ
 read_limit = 2 ^ 40
 
 module _ {S : Type 0} (answers : S → Request → Option Reply → S → Type 0) (user : UserName) where
-  -- a line did something
+  -- a line did something, and did not end the run
   abbrev pub LineDoes : S → Text → Did → S → Type 0
   LineDoes a line did b = LineCame answers user a line (Ok did) b
 
@@ -69,7 +69,7 @@ module _ {S : Type 0} (answers : S → Request → Option Reply → S → Type 0
     pub whole : is_cut status ≡ false → Appends old new (printed dids ++ tail)
     pub part : WritesPart old new (printed dids ++ tail)
 
-  -- The same of what was read, which the source lost and counted; where the input has ended, no byte is left.
+  -- What a run did with what it read, which the source lost and counted: its lines were run; where the input has ended, no byte is left.
   pub record Means (left left_now : Option Text) (given given_now : ℕ) (old new : Option Text) (a : S) (status : ℕ) (b : S) : Type 0 where
     pub read : Text
     pub over : Bool

@@ -44,7 +44,7 @@ Named number old new (Err stop.WriteFault) = WritesPart old new (bad_line number
 Named number old new (Err stop.OutOfMemory) = new ≡ old
 Named number old new result = ⊥
 
--- the LF that a last line lacks
+-- the LF that a last line lacks, if it lacks one
 abbrev pub behind : Text → Text
 behind [] = []
 behind (b ∷ line) = codes "\n"
@@ -91,7 +91,7 @@ module _ {S : Type 0} (answers : S → Request → Option Reply → S → Type 0
       → MatchResult result (λ done. Running start held_now first b text rest_now number_now)
           (λ why. Ran answers user start held_now first text bytes false (stopped_code why) b)
 
-  -- the same where the input has ended: an LF is put behind the bytes that are left
+  -- Where the call begins while a session runs and the input has ended, the session ends: an LF is put behind the bytes that are left.
   abbrev pub Closes : (held held_now : Option Text) (a : S) (rest : Text) (number : ℕ) (result : Result (Unit {0}) Stop) (b : S) → Type 0
   Closes held held_now a rest number result b =
       (start : Option Text) (first : S) (text : Text) (bytes : ℕ) → Running start held first a text rest number
