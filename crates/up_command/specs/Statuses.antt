@@ -5,8 +5,7 @@ use Rattle.std.specs.Io.KnownBytes.{Appends}
 use Rattle.up_names.specs.Texts.{Text}
 use Rattle.up_ends.specs.Writing.{WritesPart}
 use Rattle.up_command.specs.declared.status.Status.{Status}
-use Rattle.up_command.specs.declared.status.Status.TheVariants.{Done, BadLine, ReadFault, WriteFault, OutOfMemory, HelperFault, DiskFault,
-    TooLong, Damaged, ListenFault, BadUser, AskFault, Full, Usage}
+use Rattle.up_command.specs.declared.status.Status.TheVariants.{Done, BadLine, ReadFault, WriteFault, OutOfMemory, HelperFault, DiskFault, TooLong, Damaged, ListenFault, BadUser, AskFault, Full, Usage}
 
 -- the number of a status
 abbrev pub code_of : Status → ℕ

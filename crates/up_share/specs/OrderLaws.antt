@@ -49,8 +49,8 @@ one_item (Group group) (User other) kind name path = absurd (omega (arith, kind)
 pub item_cmp_exact : CmpEqualImpliesEq item_cmp
 item_cmp_exact one other h =
     let kinds =
-        both_equal (nat_cmp (rank one) (rank other))
-            (ordering_then (slice_cmp nat_cmp (name_in one) (name_in other)) (path_cmp (path_in one) (path_in other))) h in
+    both_equal (nat_cmp (rank one) (rank other))
+    (ordering_then (slice_cmp nat_cmp (name_in one) (name_in other)) (path_cmp (path_in one) (path_in other))) h in
     let parts = both_equal (slice_cmp nat_cmp (name_in one) (name_in other)) (path_cmp (path_in one) (path_in other)) kinds.1 in
     one_item one other (nat_cmp-IsAntisymmetric (rank one) (rank other) kinds.0)
     (slice_cmp-IsAntisymmetric nat_cmp-IsAntisymmetric (name_in one) (name_in other) parts.0)

@@ -1,6 +1,5 @@
 -- What calls within a session leave behind. This project's own.
-use Rattle.std.specs.Prelude.{◌≡◌, ◌<◌, ◌+◌, ◌⊎◌, ℕ, false, true, List, [], ◌∷◌, ◌++◌, length, codes, Option, None, Result, Ok, Err,
-    MatchResult}
+use Rattle.std.specs.Prelude.{◌≡◌, ◌<◌, ◌+◌, ◌⊎◌, ℕ, false, true, List, [], ◌∷◌, ◌++◌, length, codes, Option, None, Result, Ok, Err, MatchResult}
 use Rattle.std.specs.Io.KnownBytes.{Appends}
 use Rattle.std.specs.List.{AllByRecursion}
 use Rattle.up_ends.specs.Writing.{WritesPart}
@@ -89,7 +88,7 @@ module _ {S : Type 0} (answers : S → Request → Option Reply → S → Type 0
   Goes held held_now a rest number result b rest_now number_now =
       (start : Option Text) (first : S) (text : Text) (bytes : ℕ) → Running start held first a text rest number
       → MatchResult result (λ done. Running start held_now first b text rest_now number_now)
-          (λ why. Ran answers user start held_now first text bytes false (stopped_code why) b)
+      (λ why. Ran answers user start held_now first text bytes false (stopped_code why) b)
 
   -- Where the call begins while a session runs and the input has ended, the session ends: an LF is put behind the bytes that are left.
   abbrev pub Closes : (held held_now : Option Text) (a : S) (rest : Text) (number : ℕ) (result : Result (Unit {0}) Stop) (b : S) → Type 0
