@@ -9,11 +9,13 @@ mod storms;
 mod telling;
 mod words;
 
-use crate::words::{Command, command_of, words};
+use crate::words::given_words;
+use std::alloc::AllocError;
 use std::process::ExitCode;
 use std::sync::Wait;
 use std::thread::Threads;
 use std::time::Clock;
+use up_command::{Command, command_of, program_words};
 use up_ends::{StdSink, StdSource};
 use up_follower::follow;
 use up_helper::{sign_run, verify_run};
@@ -61,6 +63,12 @@ fn status_of<R: Threads + Wait + Clock + Sync>(
         Command::ExplainScript => scripts::explain_script_status(&rt),
         Command::Script => scripts::script_status(&rt, words),
     }
+}
+
+/// The words behind the program's name.
+fn words(rt: &HostRuntime) -> Result<Vec<String>, AllocError> {
+    let given = given_words(rt)?;
+    program_words(rt.alloc(), given.as_slice())
 }
 
 fn main(rt: HostRuntime) -> ExitCode {
