@@ -1,12 +1,19 @@
-//! The words behind the program's name, as the system gives them.
+//! The words behind the program's name.
 use std::alloc::AllocError;
 use std::env::FillError;
 use std::rt::Env;
 use up_bytes::{Bytes, copy_of};
+use up_command::program_words;
 use up_lists::Items;
 
-/// The bytes of each word behind the program's name, in their order.
-pub fn given_words(rt: &(impl Env + AllocGlobal)) -> Result<Items<Bytes>, AllocError> {
+/// The words behind the program's name, as texts.
+pub fn words(rt: &(impl Env + AllocGlobal)) -> Result<Vec<String>, AllocError> {
+    let given = given_words(rt)?;
+    program_words(rt.alloc(), given.as_slice())
+}
+
+// The bytes of each, as the system gives them, in their order.
+fn given_words(rt: &(impl Env + AllocGlobal)) -> Result<Items<Bytes>, AllocError> {
     let mut words = Items::new(rt.alloc());
     for place in 1..usize::MAX {
         match word_at(rt, place)? {
@@ -17,12 +24,14 @@ pub fn given_words(rt: &(impl Env + AllocGlobal)) -> Result<Items<Bytes>, AllocE
     Ok(words)
 }
 
-// The bytes of the word at a place, from 0 for the program's name. `None` behind the last one. The room for it is doubled until it is enough.
+// The bytes of the word at a place, that of the program's name being 0. `None` behind the last one. The room for it is doubled until it is
+// enough.
 fn word_at(rt: &(impl Env + AllocGlobal), place: usize) -> Result<Option<Bytes>, AllocError> {
+    let alloc = rt.alloc();
     for power in 12..40 {
-        let mut room = vec![in rt.alloc(); 0; 1 << power]?;
+        let mut room = vec![in alloc; 0; 1 << power]?;
         match rt.arg(place, room.as_mut_slice()) {
-            Ok(size) => return Ok(Some(copy_of(rt.alloc(), &room[..size])?)),
+            Ok(size) => return Ok(Some(copy_of(alloc, &room[..size])?)),
             Err(FillError::NotPresent) => return Ok(None),
             Err(FillError::TooLong) => {}
         }
