@@ -1,3 +1,4 @@
+pub mod ProgramWords
 pub mod Words
 pub mod Printed
 pub mod Statuses

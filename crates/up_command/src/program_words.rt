@@ -1,0 +1,81 @@
+//! The words of a program, and the command that they name.
+ghost use Rattle.std.specs.Prelude.{◌≡◌, ◌++◌, ◌∷◌, [], map, string_bytes, IfOk, OnOk, is_utf8};
+ghost use Rattle.std.specs.Str.{is_utf8};
+ghost use Rattle.up_command.specs.ProgramWords.{command_of, explained, named, program_words};
+
+use std::alloc::{AllocError, Global};
+use std::str;
+use up_bytes::Bytes;
+
+/// A command for people.
+#[derive(Clone, Copy, Debug, PartialEq, Eq)]
+pub enum Command {
+    Serve,
+    Client,
+    Copy,
+    Follow,
+    Audit,
+    Share,
+    Storm,
+    Can,
+    /// The words `explain can`, and no others.
+    ExplainCan,
+    /// The words `explain script`, and no others.
+    ExplainScript,
+    /// `script`, and the words of no command, which get the usage line from it.
+    Script,
+}
+
+/// The words of a program behind its name, each as a text, in their order. Where one of them is not UTF-8 there is none: it fits no
+/// command.
+pub fn program_words(alloc: Global, given: &[Bytes]) -> Result<Vec<String>, AllocError>
+    ensures { IfOk result (λ words. map string_bytes words.items ≡ program_words given.now) }
+{
+    let mut words = Vec::new(alloc);
+    for word in given {
+        match str::from_utf8(word.as_slice()) {
+            Ok(text) => words.push(String::from_str(alloc, text)?)?,
+            Err(_) => return Ok(Vec::new(alloc)),
+        }
+    }
+    Ok(words)
+}
+
+/// The command that words name.
+pub fn command_of(words: &[String]) -> Command
+    ensures { result ≡ command_of (map string_bytes words.now) }
+{
+    match words {
+        [] => Command::Script,
+        [word, kind] if word.as_str() == "explain" => explained(kind.as_str()),
+        [word, ..] => named(word.as_str()),
+    }
+}
+
+// That of two words, the first of which is `explain`.
+fn explained(kind: &str) -> Command
+    ensures { result ≡ explained kind.now }
+{
+    match kind {
+        "can" => Command::ExplainCan,
+        "script" => Command::ExplainScript,
+        _ => Command::Script,
+    }
+}
+
+// That of its first word.
+fn named(word: &str) -> Command
+    ensures { result ≡ named word.now }
+{
+    match word {
+        "can" => Command::Can,
+        "serve" => Command::Serve,
+        "client" => Command::Client,
+        "copy" => Command::Copy,
+        "follow" => Command::Follow,
+        "audit" => Command::Audit,
+        "share" => Command::Share,
+        "storm" => Command::Storm,
+        _ => Command::Script,
+    }
+}
