@@ -1,6 +1,5 @@
 //! The words of a program, and the command that they name.
-ghost use Rattle.std.specs.Prelude.{◌≡◌, ◌++◌, ◌∷◌, [], map, string_bytes, IfOk, OnOk, is_utf8};
-ghost use Rattle.std.specs.Str.{is_utf8};
+ghost use Rattle.std.specs.Prelude.{◌≡◌, map, string_bytes, IfOk};
 ghost use Rattle.up_command.specs.ProgramWords.{command_of, explained, named, program_words};
 
 use std::alloc::{AllocError, Global};
