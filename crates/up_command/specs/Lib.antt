@@ -1,4 +1,3 @@
-pub mod ProgramWords
 pub mod Words
 pub mod Printed
 pub mod Statuses

@@ -8,7 +8,6 @@
 
 mod input;
 mod output;
-mod program_words;
 mod saying;
 mod status;
 mod usage_line;
@@ -16,7 +15,6 @@ mod words;
 
 pub use input::read_script;
 pub use output::{Stop, finish, flush, print};
-pub use program_words::{Command, command_of, program_words};
 pub use saying::{bad_line, say, say_count, say_fault, say_numbered, say_reply};
 pub use status::Status;
 pub use usage_line::usage;

@@ -10,12 +10,11 @@ mod storms;
 mod telling;
 mod words;
 
-use crate::words::words;
+use crate::words::{Command, command_of, words};
 use std::process::ExitCode;
 use std::sync::Wait;
 use std::thread::Threads;
 use std::time::Clock;
-use up_command::{Command, command_of};
 use up_ends::StdSink;
 use up_helper::{sign_run, verify_run};
 use up_server::serve;

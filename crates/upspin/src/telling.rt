@@ -1,5 +1,5 @@
 //! What is told on standard error, where nothing is promised.
-use up_command::Command;
+use crate::words::Command;
 
 /// The version, which `--help` and `--version` tell.
 const VERSION: &str = "0.1";
