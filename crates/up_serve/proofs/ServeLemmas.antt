@@ -20,7 +20,7 @@ use Rattle.up_journal.specs.declared.fault.OpenWhy.{OpenWhy}
 use Rattle.up_journal.specs.declared.fault.OpenWhy.TheVariants as why
 use Rattle.up_journal.specs.declared.limits.Limits.{Limits}
 use Rattle.up_keys.specs.Records as keys
-use Rattle.up_lists.specs.Counts.{Rose}
+use Rattle.up_lists.specs.Counts.{Rose, StaysUnless}
 use Rattle.up_names.specs.Texts.{Text, UserName}
 use Rattle.up_serve.proofs.CountLemmas.{host_faults, opens_later, refuses_counts}
 use Rattle.up_serve.proofs.TellLemmas.{refused_codes, refused_six, stopped_codes, stopped_six}
@@ -60,6 +60,12 @@ apart : {X : Type 0} (value : X) (code : ℕ) → ◌≡◌ {A = Result X ℕ} (
 apart value code bad = absurd (cc)
 
 -- ---- what the status says of source and sink
+
+-- the text was not read, by no fault of its source
+pub stays_unread : {X : Type 0} (read read_now status code : ℕ) (result : Result X ℕ) → result ≡ Err status → code ≡ status → StaysUnless read read_now (result ≡ Err 2) → StaysUnless read read_now (code ≡ 2)
+stays_unread {X} read read_now status code result is same quiet = record {
+  stays = λ none. quiet.stays (λ bad. let e : ◌≡◌ {A = Result X ℕ} (Err status) (Err 2) = sym is ∙ bad in let k : status ≡ 2 = cc in none (same ∙ k));
+}
 
 module _ (given given_now read read_now wrote wrote_now : ℕ) (left : Option Text) where
   -- a log did not open
