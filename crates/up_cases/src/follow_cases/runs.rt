@@ -145,6 +145,9 @@ fn within(
     let Some(owner) = follow_owner(alloc, &run.words)? else {
         return Err(Fault::BadLine);
     };
+    if limits.device > 1 << 62 || limits.largest > u32::MAX as u64 || disks.len() != 1 {
+        return Err(Fault::BadLine);
+    }
     Ok(follow_within(
         alloc,
         stage.random,
