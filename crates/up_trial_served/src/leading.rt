@@ -26,7 +26,11 @@ pub fn run<R: Threads + Wait + Clock + Sync>(
     let _ = fs::remove_file(&rt, FOLLOWER);
     let listener = TcpListener::bind(&rt, "127.0.0.1:0")?;
     let port = listener.local_addr()?.port();
-    let (led, said) = join(threads, || lead(rt, listener), || pulled(rt, helper, port, 8));
+    let (led, said) = join(
+        threads,
+        || lead(rt, listener),
+        || pulled(rt, helper, port, 8),
+    );
     let _ = fs::remove_file(&rt, FOLLOWER);
     led?;
     if said?.as_str() == PRINTED {

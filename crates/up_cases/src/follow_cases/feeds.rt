@@ -32,7 +32,14 @@ fn make_one(
     let owner = tree.owner().clone()?;
     let line = format!(in alloc; "mkdir {dir}/{i} 100 0")?;
     let mut said = Answer::new(alloc);
-    ask(alloc, tree, given, &owner, Words::new(line.as_str()), &mut said)
+    ask(
+        alloc,
+        tree,
+        given,
+        &owner,
+        Words::new(line.as_str()),
+        &mut said,
+    )
 }
 
 /// The feed gives the records of a tree from one number to another, behind those that it gives already.

@@ -127,7 +127,14 @@ impl Stage {
             "images" => images(alloc, self, words.some()?, answer),
             _ => {
                 let user = user_of(alloc, words.word()?)?;
-                ask(alloc, &mut self.leader, &mut self.given, &user, words, answer)
+                ask(
+                    alloc,
+                    &mut self.leader,
+                    &mut self.given,
+                    &user,
+                    words,
+                    answer,
+                )
             }
         }
     }

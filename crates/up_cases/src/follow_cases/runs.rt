@@ -36,12 +36,7 @@ pub fn run(alloc: Global, stage: &mut Stage, text: &str, answer: &mut Answer) ->
 }
 
 /// The same over each image of the disk. Images that come to the same stand together, by their numbers.
-pub fn images(
-    alloc: Global,
-    stage: &Stage,
-    text: &str,
-    answer: &mut Answer,
-) -> Result<(), Fault> {
+pub fn images(alloc: Global, stage: &Stage, text: &str, answer: &mut Answer) -> Result<(), Fault> {
     let mut told = Vec::new(alloc);
     for choice in 0..CHOICES {
         told.push(image_told(alloc, stage, choice, text)?)?;
