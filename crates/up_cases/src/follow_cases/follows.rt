@@ -121,7 +121,6 @@ impl Stage {
         mut words: Words<'_>,
         answer: &mut Answer,
     ) -> Result<(), Fault> {
-        answer.part();
         match keyword {
             "run" => run(alloc, self, words.some()?, answer),
             "images" => images(alloc, self, words.some()?, answer),

@@ -29,6 +29,7 @@ struct Run {
 /// Runs the command over the follower's disk: its words, and behind the first ` |` the lines of its input, parted by `|`. It answers the
 /// status, and each line that is printed behind a `|`.
 pub fn run(alloc: Global, stage: &mut Stage, text: &str, answer: &mut Answer) -> Result<(), Fault> {
+    answer.part();
     let disk = mem::replace(&mut stage.disk, MemDisk::new(alloc, Items::new(alloc)));
     let disk = run_over(alloc, stage, disk, text, answer)?;
     drop(mem::replace(&mut stage.disk, disk));
@@ -37,11 +38,14 @@ pub fn run(alloc: Global, stage: &mut Stage, text: &str, answer: &mut Answer) ->
 
 /// The same over each image of the disk. Images that come to the same stand together, by their numbers.
 pub fn images(alloc: Global, stage: &Stage, text: &str, answer: &mut Answer) -> Result<(), Fault> {
+    answer.part();
     let mut told = Vec::new(alloc);
     for choice in 0..CHOICES {
         told.push(image_told(alloc, stage, choice, text)?)?;
     }
-    add_alike(&told, answer);
+    let mut alike = Answer::new(alloc);
+    add_alike(&told, &mut alike);
+    answer.made(alike.finish());
     Ok(())
 }
 
