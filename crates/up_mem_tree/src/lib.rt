@@ -14,6 +14,7 @@ mod edits;
 mod entering;
 mod fitting;
 mod groups;
+mod guesses;
 mod history;
 mod kept;
 mod laws;
@@ -24,6 +25,7 @@ mod positions;
 mod reading;
 mod rooms;
 mod slots;
+mod standing;
 mod steps;
 mod walk;
 
