@@ -1,15 +1,14 @@
 //! The tree of a log, as it is or as it was, and a user before it.
-ghost use Rattle.std.specs.Prelude.{◌≡◌, ◌≤◌, ◌<◌, None, Err, IfOk, IsErr, alloc_error, length, map, take};
+ghost use Rattle.std.specs.Prelude.{◌≡◌, ◌≤◌, Err, IfOk, IsErr, alloc_error, length, map, take};
 ghost use Rattle.std.specs.Option.{option_and_then, option_copied, option_map};
 ghost use Rattle.up_names.specs.Faults.{Gives};
 ghost use Rattle.up_names.specs.PathNames.{cut, extended, joined};
 ghost use Rattle.up_list.specs.Entries.{entries_in, entry_at, entry_of, entry_on_way, path_made};
 ghost use Rattle.up_list.specs.Founds.{entry_found};
 ghost use Rattle.up_list.specs.Reads.{file_text};
-ghost use Rattle.up_list.specs.Rooted.{IsRooted};
 ghost use Rattle.up_list.specs.Seen.{group_listed, has_name, look_of};
 ghost use Rattle.up_log_tree.specs.Rights.{access_path, facts_of, governing_prefix, group_paths};
-ghost use Rattle.up_log_tree.specs.Trees.{node_at, tree_of};
+ghost use Rattle.up_log_tree.specs.Trees.{tree_of};
 
 use crate::found::Found;
 use crate::globs::within;

@@ -107,11 +107,6 @@ pub record AreSlotsOf (owner : List ℕ) (records : List Rec) (slots : List Know
   pub linked : AreLinked owner (named_paths records) slots
   pub told : (i : ℕ) (slot : Known) → slice_get slots i ≡ Some slot → IsSlotOf owner records (path_in slots) slot
 
--- a walk down to a path may begin at this slot: that of its first n elements
-pub record IsBegun (slots : List Known) (path : PathName) (n id : ℕ) : Type 0 where
-  pub within : n ≤ length path.elements
-  pub at : path_in slots id ≡ Some (cut n path)
-
 -- the slot of the longest prefix of a path that has one, with the number of its elements
 pub record IsDeepest (paths : List PathName) (slots : List Known) (path : PathName) (found : Option (ℕ × ℕ)) : Type 0 where
   pub none : found ≡ None → (m : ℕ) → m ≤ length path.elements → has_path paths (cut m path) ≡ false

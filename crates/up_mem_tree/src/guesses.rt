@@ -2,7 +2,7 @@
 ghost use Rattle.std.specs.Prelude.{◌≡◌, ◌≤◌, ◌<◌, true, length, IfSome, Some};
 ghost use Rattle.up_names.specs.PathNames.{cut};
 ghost use Rattle.up_mem_tree.specs.Kept.{slots_of};
-ghost use Rattle.up_mem_tree.specs.Slots.{IsBegun, path_in};
+ghost use Rattle.up_mem_tree.specs.Slots.{path_in};
 
 use crate::kept::Kept;
 use crate::slots::path_in;
@@ -44,7 +44,8 @@ impl Kept {
     /// prefix that is tried and was guessed right; any other walk begins at the root.
     pub(crate) fn begin(&self, path: &Path) -> (u64, usize)
         requires { path_in (slots_of self.now) 0 ≡ Some (cut 0 path.now) }
-        ensures { IsBegun (slots_of self.now) path.now result.0 result.1 }
+        ensures within { result.0 ≤ length path.now.elements }
+        ensures at { path_in (slots_of self.now) result.1 ≡ Some (cut result.0 path.now) }
     {
         let mut n = path.len();
         while n > NEAR {
