@@ -51,7 +51,8 @@ is_failed (Some (Got bytes)) = false
 -- the block's bytes, where bytes of its size and its reference were fetched (FIPS 180-4)
 abbrev pub good_bytes : Block → Option Fetch → Option Text
 good_bytes block None = None
-good_bytes block (Some (Got bytes)) = if length bytes == block.size && bytes_eq (sha256 bytes) block.location.reference then Some bytes else None
+good_bytes block (Some (Got bytes)) =
+    if length bytes == block.size && bytes_eq (sha256 bytes) block.location.reference then Some bytes else None
 good_bytes block (Some Missing) = None
 good_bytes block (Some Failed) = None
 

@@ -106,5 +106,6 @@ first_records n log = record log { records = take n log.records }
 -- each name was answered is the matter of those who were asked.
 pub record IsLoading (log : Log) (floor n : ℕ) (user : UserName) (request : Request) (loaded : Loading) : Type 0 where
   pub names : IsDistinct path_eq (keys_of loaded)
-  pub stood : (i : ℕ) (pair : PathName × LoadAnswer) → slice_get loaded i ≡ Some pair → (k : ℕ) × (floor ≤ k) × (k ≤ n) × Contains (needs (first_records k log) (take i loaded) user request) pair.0
+  pub stood : (i : ℕ) (pair : PathName × LoadAnswer) → slice_get loaded i ≡ Some pair
+      → (k : ℕ) × (floor ≤ k) × (k ≤ n) × Contains (needs (first_records k log) (take i loaded) user request) pair.0
   pub ended : (needs (first_records n log) loaded user request ≡ []) ⊎ (length loaded ≡ 1024)

@@ -48,7 +48,8 @@ further_seen (Some payloads) further = further_record decoded further
 
 -- the store over a journal that tells this of its payloads, as contracts see it
 abbrev pub store_state : {D : Type 0} → State D → Option (List (List ℕ)) → List Kept → LogState D BlockRecord
-store_state journal told records = record { disk = journal.disk; limits = journal.limits; log = log_seen told records; doubtful = journal.doubtful; further = further_seen told journal.further }
+store_state journal told records =
+    record { disk = journal.disk; limits = journal.limits; log = log_seen told records; doubtful = journal.doubtful; further = further_seen told journal.further }
 
 -- ---- where the blocks are
 

@@ -44,14 +44,17 @@ pub record AsksLoader {L : Type 0} (loader : Ghosts L) (operator : UserName) (a 
 
 -- the answer over a list of records, each of which fits those before it, with what was loaded and fetched; its record is added where
 -- it is a position
-pub record TreeSays (view : SeenTree) (q : Question) (e : Event) (records : List Rec) (said : Reply) (records_added : List Rec) : Type 0 where
+pub record TreeSays (view : SeenTree) (q : Question) (e : Event)
+    (records : List Rec) (said : Reply) (records_added : List Rec) : Type 0 where
   pub legal : IsLog view.fixed.0 records
   pub reply : said ≡ answer (record (log_seen view) { records = records }) e.loaded e.fetched q.user q.request e.moment
-  pub added : records_added ≡ (if is_changed said then added (record (log_seen view) { records = records }) e.loaded e.fetched q.user q.request e.moment else [])
+  pub added : records_added
+      ≡ (if is_changed said then added (record (log_seen view) { records = records }) e.loaded e.fetched q.user q.request e.moment else [])
 
 -- it would be a position
 abbrev pub TreeNeedsDisk : SeenTree → Question → Event → List Rec → Type 0
-TreeNeedsDisk view q e records = is_changed (answer (record (log_seen view) { records = records }) e.loaded e.fetched q.user q.request e.moment) ≡ true
+TreeNeedsDisk view q e records =
+    is_changed (answer (record (log_seen view) { records = records }) e.loaded e.fetched q.user q.request e.moment) ≡ true
 
 -- What was fetched and loaded for an answer over the first n records: one answer for each location, in order; a loading for n, of at
 -- most 1,024 names; and what the host has itself came from its own store and trees.
@@ -93,13 +96,15 @@ pub data Outcome (operator : UserName) (a b : Views) (q : Question) (e : Event) 
   Refused : refusal a q ≡ Some e.reply → e.position ≡ 0 → IsPlain e → OwnStays None a b → Outcome operator a b q e
   ByTree : (owner : UserName) (v w : SeenTree) → refusal a q ≡ None → log_asked q ≡ Some (LogName.OfTree owner)
       → a.tree owner ≡ Some v → b.tree owner ≡ Some w → TreeTurn operator a b v w q e → Outcome operator a b q e
-  ByStore : refusal a q ≡ None → log_asked q ≡ Some LogName.OfStore → IsPlain e → StoreTurn operator a.store b.store q e → Outcome operator a b q e
+  ByStore : refusal a q ≡ None → log_asked q ≡ Some LogName.OfStore → IsPlain e
+      → StoreTurn operator a.store b.store q e → Outcome operator a b q e
   ByKeys : refusal a q ≡ None → log_asked q ≡ Some LogName.OfKeys → IsPlain e → KeysTurn a.keys b.keys q e → Outcome operator a b q e
   Wanting : e.reply ≡ reply.OutOfMemory → OwnStays None a b → Outcome operator a b q e
 
 -- One call of a host: what its caller had of the logs and the loader before it, the question, what came of it, and what it has after
 -- it. No own record came to any log but the one that the question goes to.
-pub record Asked {L : Type 0} (loader : Ghosts L) (operator : UserName) (a : Views) (old : L) (q : Question) (e : Event) (b : Views) (new : L) : Type 0 where
+pub record Asked {L : Type 0} (loader : Ghosts L) (operator : UserName) (a : Views)
+    (old : L) (q : Question) (e : Event) (b : Views) (new : L) : Type 0 where
   pub later : Later a b
   pub others : OwnStays (log_asked q) a b
   pub loads : AsksLoader loader operator a old new e

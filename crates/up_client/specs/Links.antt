@@ -52,7 +52,8 @@ unfoldable pub following : (PathName → Request) → ℕ → PathName → Talki
 following request zero path =
     and_then (reply_to (request path)) (λ reply. led (leads_to path reply) (λ next. done (Err TooManyLinks)) reply)
 following request (suc more) path =
-    and_then (reply_to (request path)) (λ reply. led (leads_to path reply) (λ next. and_then (done (short next)) (following request more)) reply)
+    and_then (reply_to (request path))
+    (λ reply. led (leads_to path reply) (λ next. and_then (done (short next)) (following request more)) reply)
 
 -- the path where it is asked next, of at most so many more: none where the reply leads nowhere
 abbrev pub next_to : ℕ → Option PathName → Result (Option PathName) ClientFault

@@ -14,6 +14,7 @@ pub since_now : (first : List ℕ) (calls : List Call) (t : ℕ) (image : List �
 since_now first calls t image le left =
     (length calls, le, omega arith, subst (λ (l : List Call). MayLeave first first l image) (sym (take_all (length calls) calls (omega arith))) left)
 
-pub now_only : (first : List ℕ) (calls : List Call) (image : List ℕ) → (k : ℕ) × (length calls ≤ k) × (k ≤ length calls) × MayLeave first first (take k calls) image
+pub now_only : (first : List ℕ) (calls : List Call) (image : List ℕ)
+    → (k : ℕ) × (length calls ≤ k) × (k ≤ length calls) × MayLeave first first (take k calls) image
     → MayLeave first first calls image
 now_only first calls image left = subst (λ (l : List Call). MayLeave first first l image) (take_all left.0 calls left.1) left.3

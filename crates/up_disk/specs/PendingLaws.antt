@@ -21,7 +21,8 @@ cut_done size bytes = record {
 }
 
 pub length-padded : (size : ℕ) (bytes : List ℕ) → length (padded size bytes) ≡ max (length bytes) size
-length-padded size bytes = omega (arith, length-append bytes (replicate (size - length bytes) 0), length-replicate {A = ℕ} (size - length bytes) 0)
+length-padded size bytes =
+    omega (arith, length-append bytes (replicate (size - length bytes) 0), length-replicate {A = ℕ} (size - length bytes) 0)
 
 take-padded : (n size : ℕ) (bytes : List ℕ) → n ≤ length bytes → take n (padded size bytes) ≡ take n bytes
 take-padded n size bytes le = take-append-le n bytes (replicate (size - length bytes) 0) le
@@ -49,9 +50,12 @@ torn_put at n place new bytes low high =
     let k = min at (length bytes) in
     let gap = at + n - end in
     record {
-      before = take-append-le k front rest (omega arith) ∙ take-append-le k (take place old) new (omega arith) ∙ take-take k place old (omega arith) ∙ take-padded k place bytes (omega arith) ∙ take_min at bytes;
+      before =
+          take-append-le k front rest (omega arith) ∙ take-append-le k (take place old) new
+          (omega arith) ∙ take-take k place old (omega arith) ∙ take-padded k place bytes (omega arith) ∙ take_min at bytes;
       after = let split : at + n ≡ end + gap = omega arith in
-          ap (λ (i : ℕ). drop i (front ++ rest)) split ∙ sym (drop-drop gap end (front ++ rest)) ∙ ap (λ (l : List ℕ). drop gap l) (drop_at front rest end front_size)
+          ap (λ (i : ℕ). drop i (front ++ rest)) split ∙ sym (drop-drop gap end (front ++ rest)) ∙ ap
+          (λ (l : List ℕ). drop gap l) (drop_at front rest end front_size)
           ∙ drop-drop gap end old ∙ ap (λ (i : ℕ). drop i old) (sym split) ∙ drop-padded (at + n) place bytes (omega arith);
       no_shorter = omega arith;
       no_longer = omega arith;
@@ -66,7 +70,8 @@ torn_padded at n bytes = record {
 }
 
 pub made : (call : Call) (bytes : List ℕ) → MayMake call bytes bytes (done call bytes)
-made (Write w) bytes = torn_put w.at (length w.bytes) w.at (take w.landed w.bytes) bytes (omega arith) (omega (arith, length-take w.landed w.bytes))
+made (Write w) bytes =
+    torn_put w.at (length w.bytes) w.at (take w.landed w.bytes) bytes (omega arith) (omega (arith, length-take w.landed w.bytes))
 made (Cut size) bytes = cut_done size bytes
 made Sync bytes = refl
 

@@ -7,7 +7,9 @@ use Rattle.up_entry.specs.declared.entries.Location.{Location}
 use Rattle.up_edits.specs.Places.{rank, location_cmp}
 
 pub location_total : IsTotalOrder location_cmp
-location_total = then_total (on_total (λ (l : Location). l.reference) nat_list_cmp_total) (on_total (λ (l : Location). rank l.endpoint) nat_list_cmp_total)
+location_total =
+    then_total (on_total (λ (l : Location). l.reference) nat_list_cmp_total)
+    (on_total (λ (l : Location). rank l.endpoint) nat_list_cmp_total)
 
 pub location_equivalence : IsEquivalence (eq_by_cmp location_cmp)
 location_equivalence = eq_by_cmp_equiv location_total

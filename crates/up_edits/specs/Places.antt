@@ -42,4 +42,5 @@ pub record NotesOne (old new : List (Location × Bor Fetch)) (location : Locatio
 
 -- with the rest of what was fetched behind them, the answers that are noted are the first for each location in all of it
 pub record AreFirst (answers : List (Location × Bor Fetch)) (rest all : Fetched) : Type 0 where
-  pub same : (location : Location) → or_else (noted answers location) (lookup (location_eq location) rest) ≡ lookup (location_eq location) all
+  pub same : (location : Location)
+      → or_else (noted answers location) (lookup (location_eq location) rest) ≡ lookup (location_eq location) all

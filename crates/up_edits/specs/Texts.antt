@@ -14,4 +14,5 @@ behind front rest = rest >>= λ more. Ok (front ++ more)
 
 -- the bytes of all blocks, or Io where the fetch of one failed
 unfoldable pub bytes_of_all : Fetched → List Block → Result Text Reply
-bytes_of_all fetched blocks = if list_any (λ block. is_failed (fetch_for fetched block)) blocks then Err reply.Io else joined_bytes fetched blocks
+bytes_of_all fetched blocks =
+    if list_any (λ block. is_failed (fetch_for fetched block)) blocks then Err reply.Io else joined_bytes fetched blocks

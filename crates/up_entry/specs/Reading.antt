@@ -84,7 +84,8 @@ block_at input = do
   offset ← num_at reference.1
   size ← num_at offset.1
   packdata ← text_at size.1
-  Ok (record { location = record { endpoint = endpoint.0; reference = reference.0 }; offset = offset.0; size = size.0; packdata = packdata.0 }, packdata.1)
+  Ok
+      (record { location = record { endpoint = endpoint.0; reference = reference.0 }; offset = offset.0; size = size.0; packdata = packdata.0 }, packdata.1)
 
 abbrev pub blocks_at : Input → Result (List Block × Input) FieldFault
 blocks_at = list_at block_at

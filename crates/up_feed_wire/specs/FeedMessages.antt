@@ -44,7 +44,9 @@ abbrev pub feed_reply : FeedReply → List ℕ
 feed_reply reply = byte (reply_tag reply) ++ reply_fields reply
 
 abbrev pub reply_table : List (ℕ × (Input → Result (FeedReply × Input) FieldFault))
-reply_table = (0xC0, made_of (λ records. replies.Records records) (list_at text_at)) ∷ (0xC1, plain replies.NoTree) ∷ (0xC2, plain replies.OutOfMemory) ∷ []
+reply_table =
+    (0xC0, made_of (λ records. replies.Records records) (list_at text_at)) ∷
+    (0xC1, plain replies.NoTree) ∷ (0xC2, plain replies.OutOfMemory) ∷ []
 
 abbrev pub reply_at : Input → Result (FeedReply × Input) FieldFault
 reply_at = tagged_at reply_table

@@ -38,7 +38,8 @@ module _ {D : Type 0} (disks : Ghosts D) where
   -- what came of a record that fits
   abbrev pub TakesRecord : Rec → State D → State D → Result (Unit {0}) FollowWhy → Type 0
   TakesRecord rec old new (Ok done) = IsAdded rec old new
-  TakesRecord rec old new (Err (why.Full records)) = (new ≡ old) × (passes_limits old.limits old.log rec ≡ true) × (records ≡ length old.log)
+  TakesRecord rec old new (Err (why.Full records)) =
+      (new ≡ old) × (passes_limits old.limits old.log rec ≡ true) × (records ≡ length old.log)
   TakesRecord rec old new (Err why.Io) = IsHindered rec old new
   TakesRecord rec old new (Err why.OutOfMemory) = new ≡ old
   TakesRecord rec old new (Err (why.Strange position)) = ⊥
@@ -53,7 +54,8 @@ module _ {D : Type 0} (disks : Ghosts D) where
 
   -- what came of a text
   abbrev pub TakesText : List ℕ → State D → State D → Result (Unit {0}) FollowWhy → Type 0
-  TakesText text old new (Err (why.Strange position)) = (new ≡ old) × (fitting_in old.owner old.log text ≡ None) × (position ≡ length old.log + 1)
+  TakesText text old new (Err (why.Strange position)) =
+      (new ≡ old) × (fitting_in old.owner old.log text ≡ None) × (position ≡ length old.log + 1)
   TakesText text old new (Err why.OutOfMemory) = new ≡ old
   TakesText text old new (Ok done) = TakesFitting text old new (Ok done)
   TakesText text old new (Err (why.Full records)) = TakesFitting text old new (Err (why.Full records))

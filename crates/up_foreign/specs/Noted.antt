@@ -19,4 +19,5 @@ HasNeeded owner loaded tree dir names = (rules : List Rule) → (facts_of owner 
 
 -- the same for the text of each directory that was looked at, as it was then
 pub record AreNoted (tree : TreeLog) (loaded : Loading) (noted : Noted) (names : List PathName) : Type 0 where
-  pub each : (dir : PathName) (at : ℕ) → find path_cmp dir noted.dirs.entries ≡ Some at → HasNeeded tree.owner loaded (tree_at tree.log at) dir names
+  pub each : (dir : PathName) (at : ℕ) → find path_cmp dir noted.dirs.entries ≡ Some at
+      → HasNeeded tree.owner loaded (tree_at tree.log at) dir names

@@ -87,14 +87,16 @@ pub record IsAlone (a b : Views) (q : Question) (e : Event) : Type 0 where
   pub tree_grown : (owner : UserName) (v w : SeenTree) → a.tree owner ≡ Some v → b.tree owner ≡ Some w → AddsOwn v w
   pub store_grown : AddsOwn a.store b.store
   pub keys_grown : AddsOwn a.keys b.keys
-  pub rounds : (owner : UserName) (v : SeenTree) → refusal a q ≡ None → log_asked q ≡ Some (LogName.OfTree owner) → a.tree owner ≡ Some v → e.reply ≢ reply.OutOfMemory
+  pub rounds : (owner : UserName) (v : SeenTree) → refusal a q ≡ None
+      → log_asked q ≡ Some (LogName.OfTree owner) → a.tree owner ≡ Some v → e.reply ≢ reply.OutOfMemory
       → InRounds (λ so_far. needs (log_seen v) so_far q.user q.request) [] e.loaded
 
 -- what a host keeps: no base is past the end of its log, and there is room for the disk of each log
 abbrev pub IsBase : {D : Type 0} → Held (State D) → Type 0
 IsBase held = held.base ≤ length held.state.log
 
-pub record IsHost {D : Type 0} (trees : List (Held (State D))) (store : Held (LogState D BlockRecord)) (keys : Held (LogState D KeyRecord)) (spare : ℕ) : Type 0 where
+pub record IsHost {D : Type 0} (trees : List (Held (State D))) (store : Held (LogState D BlockRecord))
+    (keys : Held (LogState D KeyRecord)) (spare : ℕ) : Type 0 where
   pub trees_base : AllByRecursion IsBase trees
   pub store_base : store.base ≤ length store.state.log
   pub keys_base : keys.base ≤ length keys.state.log
@@ -103,7 +105,8 @@ pub record IsHost {D : Type 0} (trees : List (Held (State D))) (store : Held (Lo
 -- how often the disks of a host failed, together
 abbrev pub disk_faults : {D : Type 0} → Ghosts D → HostState D → ℕ
 disk_faults disks host =
-    sum_by (λ (held : Held (State _)). disks.faults held.state.disk) host.trees + (disks.faults host.store.state.disk + disks.faults host.keys.state.disk)
+    sum_by (λ (held : Held (State _)). disks.faults held.state.disk) host.trees +
+    (disks.faults host.store.state.disk + disks.faults host.keys.state.disk)
 
 abbrev pub io_of : Reply → ℕ
 io_of reply.Io = 1
@@ -117,7 +120,8 @@ pub record Counts (disks_before disks_after loader_before loader_after : ℕ) (e
   pub io : disks_after + loader_after < 2 ^ 64 - 1 → disks_before + loader_before + io_of e.reply ≤ disks_after + loader_after
 
 -- a record was put to the keys, and nothing else of the host changed
-pub record Enrols {D : Type 0} (disks : Ghosts D) (card : KeyRecord) (host after : HostState D) (result : std.Result ℕ AppendWhy) : Type 0 where
+pub record Enrols {D : Type 0} (disks : Ghosts D) (card : KeyRecord)
+    (host after : HostState D) (result : std.Result ℕ AppendWhy) : Type 0 where
   pub state : LogState D KeyRecord
   pub whole : after ≡ record host { keys = record { state = state; base = host.keys.base } }
   pub puts : PutsRecord disks card host.keys.state state result

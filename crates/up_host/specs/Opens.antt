@@ -45,13 +45,15 @@ pub record IsNoLog {D R : Type 0} (disks : Ghosts D) (read : Reader R) (limits :
   pub counts : HasCause (disks.faults disk) (disks.faults fault.disk) (fault.why ≡ why.Fault)
 
 -- it was opened as the tree of an owner, whose base is its length
-pub record OpensTree {D : Type 0} (disks : Ghosts D) (limits : Limits) (owner : UserName) (disk : D) (held : Held (tree.State D)) : Type 0 where
+pub record OpensTree {D : Type 0} (disks : Ghosts D) (limits : Limits)
+    (owner : UserName) (disk : D) (held : Held (tree.State D)) : Type 0 where
   pub owner_is : held.state.owner ≡ owner
   pub log : IsLogOn disks (tree.records_in owner) limits disk (tree.over_journal held.state)
   pub base_is : held.base ≡ length held.state.log
 
 -- or as the store or the keys
-pub record OpensHeld {D R : Type 0} (disks : Ghosts D) (read : Reader R) (limits : Limits) (disk : D) (held : Held (LogState D R)) : Type 0 where
+pub record OpensHeld {D R : Type 0} (disks : Ghosts D) (read : Reader R)
+    (limits : Limits) (disk : D) (held : Held (LogState D R)) : Type 0 where
   pub log : IsLogOn disks read limits disk held.state
   pub base_is : held.base ≡ length held.state.log
 
@@ -81,17 +83,20 @@ logs_of owners = map LogName.OfTree owners ++ LogName.OfStore ∷ LogName.OfKeys
 -- these disks were opened as the trees of these owners
 abbrev pub OpensTrees : {D : Type 0} → Ghosts D → Limits → List UserName → List D → List (Held (tree.State D)) → Type 0
 OpensTrees disks limits [] [] [] = Unit {0}
-OpensTrees disks limits (owner ∷ owners) (disk ∷ more) (held ∷ trees) = OpensTree disks limits owner disk held × OpensTrees disks limits owners more trees
+OpensTrees disks limits (owner ∷ owners) (disk ∷ more) (held ∷ trees) =
+    OpensTree disks limits owner disk held × OpensTrees disks limits owners more trees
 OpensTrees disks limits owners more trees = ⊥
 
 -- these disks were opened as these logs, and were handed back
 abbrev pub WereOpened : {D : Type 0} → Ghosts D → Limits → List LogName → List D → List D → Type 0
 WereOpened disks limits [] [] [] = Unit {0}
-WereOpened disks limits (log ∷ logs) (disk ∷ more) (after ∷ rest) = WasOpenedAs disks limits log disk after × WereOpened disks limits logs more rest
+WereOpened disks limits (log ∷ logs) (disk ∷ more) (after ∷ rest) =
+    WasOpenedAs disks limits log disk after × WereOpened disks limits logs more rest
 WereOpened disks limits logs more rest = ⊥
 
 -- All were opened: the trees over the first disks, the store over the next, the keys over the last.
-pub record OpensLogs {D : Type 0} (disks : Ghosts D) (limits : Limits) (owners : List UserName) (given : List D) (trees : List (Held (tree.State D))) (store : Held (LogState D BlockRecord)) (key_log : Held (LogState D KeyRecord)) : Type 0 where
+pub record OpensLogs {D : Type 0} (disks : Ghosts D) (limits : Limits) (owners : List UserName) (given : List D)
+    (trees : List (Held (tree.State D))) (store : Held (LogState D BlockRecord)) (key_log : Held (LogState D KeyRecord)) : Type 0 where
   pub of_trees : List D
   pub of_store : D
   pub of_keys : D
@@ -101,7 +106,8 @@ pub record OpensLogs {D : Type 0} (disks : Ghosts D) (limits : Limits) (owners :
   pub keys_are : OpensHeld disks keys.records_in limits of_keys key_log
 
 -- a host was opened
-pub record OpensHost {D : Type 0} (disks : Ghosts D) (limits : Limits) (name : List ℕ) (operator : UserName) (owners : List UserName) (given : List D) (host : HostState D) : Type 0 where
+pub record OpensHost {D : Type 0} (disks : Ghosts D) (limits : Limits) (name : List ℕ)
+    (operator : UserName) (owners : List UserName) (given : List D) (host : HostState D) : Type 0 where
   pub name_is : host.name ≡ name
   pub operator_is : host.operator ≡ operator
   pub logs : OpensLogs disks limits owners given host.trees host.store host.keys
@@ -112,7 +118,8 @@ place_by n why.OutOfMemory = 0
 place_by n other = n
 
 -- One disk was refused. Those before it were opened, those behind it were left alone, and all come back in their order.
-pub record StopsAtOne {D : Type 0} (disks : Ghosts D) (limits : Limits) (owners : List UserName) (given : List D) (fault : HostFault D) : Type 0 where
+pub record StopsAtOne {D : Type 0} (disks : Ghosts D) (limits : Limits)
+    (owners : List UserName) (given : List D) (fault : HostFault D) : Type 0 where
   pub before : List LogName
   pub log : LogName
   pub behind : List LogName
@@ -141,20 +148,23 @@ RefusesHost disks limits owners given fault = OpensNone given fault ⊎ StopsAtO
 -- ---- on the way
 
 -- the first disk was taken, and opened or refused
-pub record TakesOne {D S : Type 0} (opens : D → S → Type 0) (refuses : D → OpenFault D → Type 0) (old new : List D) (result : Result S (OpenFault D)) : Type 0 where
+pub record TakesOne {D S : Type 0} (opens : D → S → Type 0) (refuses : D → OpenFault D → Type 0)
+    (old new : List D) (result : Result S (OpenFault D)) : Type 0 where
   pub disk : D
   pub taken : old ≡ disk ∷ new
   pub opened : IfOk result (opens disk)
   pub refused : IfErr result (refuses disk)
 
 -- the first disks were opened as the trees of these owners
-pub record TakesTrees {D : Type 0} (disks : Ghosts D) (limits : Limits) (owners : List UserName) (old new : List D) (trees : List (Held (tree.State D))) : Type 0 where
+pub record TakesTrees {D : Type 0} (disks : Ghosts D) (limits : Limits) (owners : List UserName)
+    (old new : List D) (trees : List (Held (tree.State D))) : Type 0 where
   pub used : List D
   pub taken : old ≡ used ++ new
   pub opened : OpensTrees disks limits owners used trees
 
 -- or so were some, and the next one was refused
-pub record StopsAtTree {D : Type 0} (disks : Ghosts D) (limits : Limits) (owners : List UserName) (old new : List D) (trees : List (Held (tree.State D))) (fault : OpenFault D) : Type 0 where
+pub record StopsAtTree {D : Type 0} (disks : Ghosts D) (limits : Limits) (owners : List UserName)
+    (old new : List D) (trees : List (Held (tree.State D))) (fault : OpenFault D) : Type 0 where
   pub before : List UserName
   pub owner : UserName
   pub behind : List UserName

@@ -64,13 +64,15 @@ IsBlockAnswer (Err why.OutOfMemory) answer = ⊥
 IsBlockAnswer (Err other) answer = answer ≡ peer.Nothing
 
 -- a block of the store was read, and nothing else of the host changed
-pub record ReadsBlock {D : Type 0} (disks : Ghosts D) (reference : List ℕ) (host after : HostState D) (result : Result (List ℕ) BlockWhy) : Type 0 where
+pub record ReadsBlock {D : Type 0} (disks : Ghosts D) (reference : List ℕ)
+    (host after : HostState D) (result : Result (List ℕ) BlockWhy) : Type 0 where
   pub store : LogState D BlockRecord
   pub whole : after ≡ record host { store = record { state = store; base = host.store.base } }
   pub gives : GivesBlock disks reference host.store.state store result
 
 -- the store was asked for a block, and what it gave is the answer
-pub record AsksStore {D E : Type 0} (disks : Ghosts D) (reference : List ℕ) (host after : HostState D) (result : Result PeerAnswer E) : Type 0 where
+pub record AsksStore {D E : Type 0} (disks : Ghosts D) (reference : List ℕ)
+    (host after : HostState D) (result : Result PeerAnswer E) : Type 0 where
   pub given : Result (List ℕ) BlockWhy
   pub reads : ReadsBlock disks reference host after given
   pub made : IfOk result (IsBlockAnswer given)

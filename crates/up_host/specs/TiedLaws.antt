@@ -51,7 +51,8 @@ as_long v w grown same =
     omega (arith, p, k)
 
 -- so with a tree that a host has
-tree_long : (n : ℕ) (x y : Option SeenTree) → LaterTree x y → own_of y ≡ own_of x → ((v w : SeenTree) → x ≡ Some v → y ≡ Some w → AddsOwn v w)
+tree_long : (n : ℕ) (x y : Option SeenTree) → LaterTree x y → own_of y ≡ own_of x
+    → ((v w : SeenTree) → x ≡ Some v → y ≡ Some w → AddsOwn v w)
     → option_map (λ (v : SeenTree). length v.seen) y ≡ Some n → option_map (λ (v : SeenTree). length v.seen) x ≡ Some n
 tree_long n None None later own grown at = at
 tree_long n None (Some w) later own grown at = absurd later
@@ -61,7 +62,8 @@ tree_long n (Some v) (Some w) later own grown at = let same : w.own ≡ v.own = 
 -- ---- settled logs
 
 -- a list that is as long has an item there too
-there_too : {X : Type 0} (xs ys : List X) (i : ℕ) (x : X) → slice_get xs i ≡ Some x → length ys ≡ length xs → (y : X) × (slice_get ys i ≡ Some y)
+there_too : {X : Type 0} (xs ys : List X) (i : ℕ) (x : X) → slice_get xs i ≡ Some x
+    → length ys ≡ length xs → (y : X) × (slice_get ys i ≡ Some y)
 there_too [] ys i x is same = absurd (cc)
 there_too (z ∷ xs) [] i x is same = absurd (omega (arith, same))
 there_too (z ∷ xs) (y ∷ ys) zero x is same = (y, refl)
@@ -75,11 +77,13 @@ as_many : {X Y : Type 0} (f : X → Y) (xs ys : List X) → map f ys ≡ map f x
 as_many f xs ys same = sym (mapped f ys) ∙ ap length same ∙ mapped f xs
 
 module _ {D : Type 0} (disks : Ghosts D) where
-  pub trees_same : (trees : List (Held (State D))) (i : ℕ) (one other : Held (State D)) → slice_get trees i ≡ Some one → slice_get trees i ≡ Some other → KeepsSettled disks (over_journal one.state) (over_journal other.state)
+  pub trees_same : (trees : List (Held (State D))) (i : ℕ) (one other : Held (State D)) → slice_get trees i ≡ Some one
+      → slice_get trees i ≡ Some other → KeepsSettled disks (over_journal one.state) (over_journal other.state)
   trees_same trees i one other is_one is_other =
       let k : Some one ≡ Some other = sym is_one ∙ is_other in
       let same : one ≡ other = cc in
-      subst (λ (h : Held (State D)). KeepsSettled disks (over_journal one.state) (over_journal h.state)) same (settled_same disks (over_journal one.state))
+      subst (λ (h : Held (State D)). KeepsSettled disks (over_journal one.state) (over_journal h.state)) same
+      (settled_same disks (over_journal one.state))
 
   pub host_same : (host after : HostState D) → after ≡ host → StaysSettled disks host after
   host_same host after h = subst (λ (a : HostState D). StaysSettled disks host a) (sym h)
@@ -147,14 +151,23 @@ module _ {D : Type 0} {disks : Ghosts D} where
     counts = h.counts;
   }
 
-  pub left_since : (log : LogName) (n : ℕ) (a b : HostState D) → IsTied disks (Some log) a b → OwnStays None (views disks a) (views disks b) → ends_at (Some log) (views disks b) ≡ Some n → ends_at (Some log) (views disks a) ≡ Some n
+  pub left_since : (log : LogName) (n : ℕ) (a b : HostState D) → IsTied disks (Some log) a b → OwnStays None (views disks a) (views disks b)
+      → ends_at (Some log) (views disks b) ≡ Some n → ends_at (Some log) (views disks a) ≡ Some n
   left_since (LogName.OfTree owner) n a b tie own at =
-      tree_long n ((views disks a).tree owner) ((views disks b).tree owner) (tie.later.trees owner) (own.trees owner (λ e. cc)) (tie.tree_grown owner) at
-  left_since LogName.OfStore n a b tie own at = ap Some (as_long (views disks a).store (views disks b).store tie.store_grown (own.store (λ e. cc))) ∙ at
-  left_since LogName.OfKeys n a b tie own at = ap Some (as_long (views disks a).keys (views disks b).keys tie.keys_grown (own.keys (λ e. cc))) ∙ at
+      tree_long n ((views disks a).tree owner) ((views disks b).tree owner)
+      (tie.later.trees owner) (own.trees owner (λ e. cc)) (tie.tree_grown owner) at
+  left_since LogName.OfStore n a b tie own at =
+      ap Some (as_long (views disks a).store (views disks b).store tie.store_grown (own.store (λ e. cc))) ∙ at
+  left_since LogName.OfKeys n a b tie own at =
+      ap Some (as_long (views disks a).keys (views disks b).keys tie.keys_grown (own.keys (λ e. cc))) ∙ at
 
-  pub rises_within : (but : Option LogName) (a b c d : HostState D) → IsTied disks but a b → DiskRose disks b c → IsTied disks but c d → DiskRose disks a d
+  pub rises_within : (but : Option LogName) (a b c d : HostState D) → IsTied disks but a b
+      → DiskRose disks b c → IsTied disks but c d → DiskRose disks a d
   rises_within but a b c d one h two = record {
-    later = le_then (disk_faults disks a) (disk_faults disks b) (disk_faults disks d) one.counts (le_then (disk_faults disks b) (disk_faults disks c) (disk_faults disks d) h.later two.counts);
-    rose = Rose-before (disk_faults disks a) (disk_faults disks c) (disk_faults disks d) (Rose-after (disk_faults disks a) (disk_faults disks b) (disk_faults disks c) one.counts h.later h.rose) two.counts;
+    later =
+        le_then (disk_faults disks a) (disk_faults disks b) (disk_faults disks d) one.counts
+        (le_then (disk_faults disks b) (disk_faults disks c) (disk_faults disks d) h.later two.counts);
+    rose =
+        Rose-before (disk_faults disks a) (disk_faults disks c) (disk_faults disks d)
+        (Rose-after (disk_faults disks a) (disk_faults disks b) (disk_faults disks c) one.counts h.later h.rose) two.counts;
   }

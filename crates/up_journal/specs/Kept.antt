@@ -46,7 +46,8 @@ pub record IsFront (format : Format) (front : List ℕ) (log : List (List ℕ)) 
   pub linked : link ≡ link_behind format format.first_link log
 
 -- the payloads at these places are those behind the open gates up to the gate, as far as the content is told
-pub record AreGates (format : Format) (largest : ℕ) (spans : List Span) (gate : ℕ) (link : List ℕ) (device : ℕ) (content : Option (List ℕ)) : Type 0 where
+pub record AreGates (format : Format) (largest : ℕ) (spans : List Span) (gate : ℕ)
+    (link : List ℕ) (device : ℕ) (content : Option (List ℕ)) : Type 0 where
   pub placed : AreBehind (head_size_of format) first_gate spans gate
   pub fitting : AllByRecursion (λ size. size ≤ largest) (sizes_of spans)
   pub inside : gate < device
@@ -54,10 +55,12 @@ pub record AreGates (format : Format) (largest : ℕ) (spans : List Span) (gate 
   pub told : IfSome content (λ bytes. IsFront format (take gate bytes) (payloads_at spans bytes) link)
 
 -- Facts about the fields of a journal. Of the disk they say what each crash image is.
-pub record IsKept {D : Type 0} (disks : Ghosts D) (disk : D) (limits : Limits) (spans : List Span) (gate : ℕ) (head : List ℕ) (doubtful : Option ℕ) : Type 0 where
+pub record IsKept {D : Type 0} (disks : Ghosts D) (disk : D) (limits : Limits)
+    (spans : List Span) (gate : ℕ) (head : List ℕ) (doubtful : Option ℕ) : Type 0 where
   pub good : AreLimits limits
   pub gates : AreGates format2 limits.largest spans gate head (disks.size_of disk) (disks.content disk)
   pub small : gate + 1 < 2 ^ 64
-  pub doubt : (n : ℕ) → doubtful ≡ Some n → (gate + head_size + n < disks.size_of disk) × (gate + head_size + n < 2 ^ 62) × (n ≤ limits.largest)
+  pub doubt : (n : ℕ) → doubtful ≡ Some n
+      → (gate + head_size + n < disks.size_of disk) × (gate + head_size + n < 2 ^ 62) × (n ≤ limits.largest)
   pub images : (bytes image : List ℕ) → disks.content disk ≡ Some bytes → disks.may_leave disk image
       → Shape (held_for head (further_seen (disks.content disk) gate doubtful)) (take gate bytes) image

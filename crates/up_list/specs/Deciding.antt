@@ -24,4 +24,5 @@ with_decided decided false held = record decided { ordinary = Some held }
 
 -- what was decided holds of each path that is governed as the directory is
 pub record IsDecided (look : Look) (dir : PathName) (decided : Decided) : Type 0 where
-  pub each : (path : PathName) (held : Rights) → AreGovernedAlike look dir path → decided_for decided (is_control path) ≡ Some held → rights look path ≡ held
+  pub each : (path : PathName) (held : Rights) → AreGovernedAlike look dir path
+      → decided_for decided (is_control path) ≡ Some held → rights look path ≡ held

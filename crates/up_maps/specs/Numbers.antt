@@ -11,5 +11,6 @@ abbrev pub given_by : {R V : Type 0} → (R → Option V) → List R → ℕ →
 given_by value log number = option_and_then value (slice_get log number)
 
 -- at the same keys stand the numbers of the records that gave the values
-pub record AreNumbers {K R V : Type 0} (value : R → Option V) (log : List R) (numbers : List (K × ℕ)) (entries : List (K × V)) : Type 0 where
+pub record AreNumbers {K R V : Type 0} (value : R → Option V) (log : List R)
+    (numbers : List (K × ℕ)) (entries : List (K × V)) : Type 0 where
   pub same : with_values (given_by value log) numbers ≡ with_values Some entries

@@ -22,7 +22,8 @@ noted_in lists id = unwrap_or (slice_get lists id) []
 
 -- there is room for one more position at a number
 abbrev pub HasRoomAt : List Under → ℕ → Type 0
-HasRoomAt changes_below id = (under : Under) × (slice_get changes_below id ≡ Some under) × (vec_len under.positions < vec_capacity under.positions)
+HasRoomAt changes_below id =
+    (under : Under) × (slice_get changes_below id ≡ Some under) × (vec_len under.positions < vec_capacity under.positions)
 
 -- Each slot has the changes at and below its path; a number without a slot has none.
 pub record AreNoted (records : List Rec) (slots : List Known) (lists : List (List ℕ)) : Type 0 where
@@ -34,7 +35,8 @@ pub record AreNoted (records : List Rec) (slots : List Known) (lists : List (Lis
 
 -- there is room at the slots of the first elements of a path, from so many on
 abbrev pub HasRoomFrom : List Under → List Known → PathName → ℕ → Type 0
-HasRoomFrom changes_below slots path low = (m id : ℕ) → low ≤ m → m ≤ length path.elements → path_in slots id ≡ Some (cut m path) → HasRoomAt changes_below id
+HasRoomFrom changes_below slots path low =
+    (m id : ℕ) → low ≤ m → m ≤ length path.elements → path_in slots id ≡ Some (cut m path) → HasRoomAt changes_below id
 
 -- a record that changes the path can be noted, without memory
 pub record CanNote (changes_below : List Under) (slots : List Known) (path : PathName) : Type 0 where
@@ -58,5 +60,6 @@ pub record NotesWay (slots : List Known) (path : PathName) (low position : ℕ) 
 pub record Notes (slots : List Known) (paths : List PathName) (path : PathName) (position : ℕ) (old new : List Under) : Type 0 where
   pub way : (id : ℕ) → IsOnWay slots path 0 id → noted_in (noted_all new) id ≡ noted_in (noted_all old) id ++ position ∷ []
   pub own : has_path paths path ≡ false → noted_in (noted_all new) (length slots) ≡ noted_in (noted_all old) (length slots) ++ position ∷ []
-  pub rest : (id : ℕ) → (IsOnWay slots path 0 id → ⊥) → (has_path paths path ≡ false → id ≢ length slots) → noted_in (noted_all new) id ≡ noted_in (noted_all old) id
+  pub rest : (id : ℕ) → (IsOnWay slots path 0 id → ⊥) → (has_path paths path ≡ false → id ≢ length slots)
+      → noted_in (noted_all new) id ≡ noted_in (noted_all old) id
   pub size : length new ≡ length old

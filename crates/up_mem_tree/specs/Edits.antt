@@ -44,7 +44,8 @@ entered_own node position group slot = record slot { node = node; last = positio
 
 -- that of its directory
 unfoldable pub entered_parent : Edit → Edit → Option (Change (List Rule)) → Known → Known
-entered_parent named children access slot = record slot { named = edited named slot.named; children = edited children slot.children; access = changes_in slot.access access }
+entered_parent named children access slot =
+    record slot { named = edited named slot.named; children = edited children slot.children; access = changes_in slot.access access }
 
 -- the list with one of its slots changed
 abbrev pub changed_at : ℕ → (Known → Known) → List Known → List Known

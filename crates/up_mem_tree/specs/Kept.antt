@@ -35,7 +35,8 @@ befores_of records = map (λ n. unwrap_or (change_before records n) 0) (range_wi
 pub record Stands (kept : Kept) : Type 0 where
   pub log : IsLog kept.owner kept.log.items
   pub linked : AreLinked kept.owner (paths_of kept) (slots_of kept)
-  pub slots : (i : ℕ) (slot : Known) → slice_get (slots_of kept) i ≡ Some slot → IsSlotOf kept.owner kept.log.items (path_in (slots_of kept)) slot
+  pub slots : (i : ℕ) (slot : Known) → slice_get (slots_of kept) i ≡ Some slot
+      → IsSlotOf kept.owner kept.log.items (path_in (slots_of kept)) slot
   pub before : kept.before.items ≡ befores_of kept.log.items
   pub snaps : kept.snaps.entries ≡ snapshots_of kept.log.items
 
@@ -57,11 +58,13 @@ IsAboveIn kept path id after access above = MatchOption (parent_of path) (above 
 
 -- the step of a record that changes a path, after which that node stands there
 abbrev pub IsStepIn : Kept → Rec → PathName → Option Node → Step → Type 0
-IsStepIn kept rec path after step = IsStepOf kept.owner kept.log.items rec path after (paths_of kept) (slots_of kept) step × HasOwnRoom step.own step.group
+IsStepIn kept rec path after step =
+    IsStepOf kept.owner kept.log.items rec path after (paths_of kept) (slots_of kept) step × HasOwnRoom step.own step.group
 
 -- the step of a record; that of a Snap is none
 abbrev pub IsStepFor : Kept → Rec → Option Step → Type 0
-IsStepFor kept (Put entry text) step = MatchOption step ⊥ (IsStepIn kept (Put entry text) entry.name (Some (record { entry = entry; text = text })))
+IsStepFor kept (Put entry text) step =
+    MatchOption step ⊥ (IsStepIn kept (Put entry text) entry.name (Some (record { entry = entry; text = text })))
 IsStepFor kept (Delete path) step = MatchOption step ⊥ (IsStepIn kept (Delete path) path None)
 IsStepFor kept (Snap time) step = step ≡ None
 

@@ -47,7 +47,9 @@ last_before (New slot) slots = 0
 
 abbrev pub CanEnterAbove : List Slot → Option ParentStep → Type 0
 CanEnterAbove slots None = ⊤
-CanEnterAbove slots (Some parent) = (slot : Slot) × (slice_get slots parent.id ≡ Some slot) × CanEdit slot.named parent.named × CanEdit slot.children parent.children × HasRoomFor slot.access parent.access
+CanEnterAbove slots (Some parent) =
+    (slot : Slot) × (slice_get slots parent.id ≡ Some slot) × CanEdit slot.named parent.named
+    × CanEdit slot.children parent.children × HasRoomFor slot.access parent.access
 
 abbrev pub CanEnterOwn : {A : Type 0} → Vec Slot A → Own → Option (Change (List Item)) → Type 0
 CanEnterOwn slots (There id) group = (slot : Slot) × (slice_get slots.items id ≡ Some slot) × HasRoomFor slot.group group
@@ -77,7 +79,9 @@ IsInRange slots (New slot) = ⊤
 
 -- the edits are within the slot's siblings
 abbrev pub IsParentWithin : List Slot → ParentStep → Type 0
-IsParentWithin slots parent = (slot : Slot) × (slice_get slots parent.id ≡ Some slot) × IsWithin slot.named.items parent.named × IsWithin slot.children.items parent.children
+IsParentWithin slots parent =
+    (slot : Slot) × (slice_get slots parent.id ≡ Some slot)
+    × IsWithin slot.named.items parent.named × IsWithin slot.children.items parent.children
 
 -- ---- the step of a record
 
@@ -127,7 +131,8 @@ IsOwnOf paths slots path parent (New slot) = (has_path paths path ≡ false) × 
 
 -- what changes in the directory at `dir`, where the path's slot has that number: its siblings there, by their paths, become
 -- those with the path, and the children these others
-pub record IsAboveTo (paths : List PathName) (slots : List Known) (path : PathName) (id : ℕ) (dir : PathName) (now after : List PathName) (access : Option (Change (List Rule))) (parent : ParentStep) : Type 0 where
+pub record IsAboveTo (paths : List PathName) (slots : List Known) (path : PathName) (id : ℕ) (dir : PathName)
+    (now after : List PathName) (access : Option (Change (List Rule))) (parent : ParentStep) : Type 0 where
   pub at : path_in slots parent.id ≡ Some dir
   pub named : IsEditTo parent.named id path (filter (is_parent dir) paths) (filter (is_parent dir) (with_path path paths))
   pub children : IsEditTo parent.children id path now after
@@ -136,10 +141,12 @@ pub record IsAboveTo (paths : List PathName) (slots : List Known) (path : PathNa
 -- the same, as the records go on by one that changes the path
 abbrev pub IsAboveOf : List ℕ → List Rec → Rec → PathName → Option Node → List PathName → List Known → ℕ → PathName → ParentStep → Type 0
 IsAboveOf owner records rec path after paths slots id dir parent =
-    IsAboveTo paths slots path id dir (children (tree_of records) dir) (children (tree_of (records ++ rec ∷ [])) dir) (access_change owner path after (length records + 1)) parent
+    IsAboveTo paths slots path id dir (children (tree_of records) dir)
+    (children (tree_of (records ++ rec ∷ [])) dir) (access_change owner path after (length records + 1)) parent
 
 -- The step of a record that changes a path, after which that node stands there.
-pub record IsStepOf (owner : List ℕ) (records : List Rec) (rec : Rec) (path : PathName) (after : Option Node) (paths : List PathName) (slots : List Known) (step : Step) : Type 0 where
+pub record IsStepOf (owner : List ℕ) (records : List Rec) (rec : Rec) (path : PathName)
+    (after : Option Node) (paths : List PathName) (slots : List Known) (step : Step) : Type 0 where
   pub position : step.position ≡ length records + 1
   pub node : step.node ≡ after
   pub group : step.group ≡ group_change owner path after (length records + 1)

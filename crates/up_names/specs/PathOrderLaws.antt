@@ -22,12 +22,15 @@ path_eq-Decides p q =
     let owners = bytes_eq-Decides p.owner q.owner in
     let elements = slice_eq-Decides bytes_eq-Decides p.elements q.elements (pointwise bytes_eq p.elements q.elements) refl in (
       λ same. let both = and_parts (bytes_eq p.owner q.owner) (pointwise bytes_eq p.elements q.elements) same in
-          ap (λ owner. record { owner = owner; elements = p.elements }) (owners.0 both.0) ∙ ap (λ elements. record { owner = q.owner; elements = elements }) (elements.0 both.1),
+          ap (λ owner. record { owner = owner; elements = p.elements }) (owners.0 both.0) ∙ ap
+          (λ elements. record { owner = q.owner; elements = elements }) (elements.0 both.1),
       λ same. and_from _ _ (owners.1 (ap (λ (p : PathName). p.owner) same)) (elements.1 (ap (λ (p : PathName). p.elements) same)),
     )
 
 pub parts_total : IsTotalOrder parts_cmp
-parts_total = then_total (on_total (λ (p : PathName). p.owner) nat_list_cmp_total) (on_total (λ (p : PathName). p.elements) (lists_total nat_list_cmp_total))
+parts_total =
+    then_total (on_total (λ (p : PathName). p.owner) nat_list_cmp_total)
+    (on_total (λ (p : PathName). p.elements) (lists_total nat_list_cmp_total))
 
 pub path_cmp_total : IsTotalOrder path_cmp
 path_cmp_total = then_total (on_total canonical nat_list_cmp_total) parts_total
@@ -62,7 +65,9 @@ pub path_cmp_eq : (p q : PathName) → path_eq p q ≡ is_eq (path_cmp p q)
 path_cmp_eq p q = same_from_decides (path_eq p q) (is_eq (path_cmp p q)) (path_eq-Decides p q) (path_cmp-Decides p q)
 
 pub path_eq_equivalence : IsEquivalence path_eq
-path_eq_equivalence = and_equiv (on_equiv (λ (p : PathName). p.owner) nat_list_eq_equiv) (on_equiv (λ (p : PathName). p.elements) (lists_equiv nat_list_eq_equiv))
+path_eq_equivalence =
+    and_equiv (on_equiv (λ (p : PathName). p.owner) nat_list_eq_equiv)
+    (on_equiv (λ (p : PathName). p.elements) (lists_equiv nat_list_eq_equiv))
 
 -- equal paths are hashed alike
 pub path_hash : (p q : PathName) → path_eq p q ≡ true → fed.str (canonical p) ≡ fed.str (canonical q)

@@ -39,7 +39,8 @@ is_suffix part = has_bytes 1 32 is_name_byte part
 
 -- a label of a domain: 1 to 63 of a-z 0-9 -, with no - at either end
 unfoldable pub is_label : Text → Bool
-is_label label = has_bytes 1 63 is_label_byte label && not (starts_with nat_eq label (byte "-" ∷ [])) && not (ends_with nat_eq label (byte "-" ∷ []))
+is_label label =
+    has_bytes 1 63 is_label_byte label && not (starts_with nat_eq label (byte "-" ∷ [])) && not (ends_with nat_eq label (byte "-" ∷ []))
 
 -- a domain in lower case: at least two labels between periods, the last of at least 2 characters
 unfoldable pub is_domain : Text → Bool

@@ -54,7 +54,8 @@ Refused refusal old new answer = (new ≡ old) × (answer ≡ refusal)
 -- Get: the text is no reference; or what comes of getting its block, with the reply by that
 abbrev pub GetsBlock : {D : Type 0} → Ghosts D → Option (List ℕ) → LogState D BlockRecord → LogState D BlockRecord → Reply → Type 0
 GetsBlock disks None old new answer = Refused (reply.Invalid Reference) old new answer
-GetsBlock disks (Some reference) old new answer = (given : Result (List ℕ) BlockWhy) × (answer ≡ given_reply given) × GivesBlock disks reference old new given
+GetsBlock disks (Some reference) old new answer =
+    (given : Result (List ℕ) BlockWhy) × (answer ≡ given_reply given) × GivesBlock disks reference old new given
 
 abbrev pub GetsAsked : {D : Type 0} → Ghosts D → List ℕ → LogState D BlockRecord → LogState D BlockRecord → Reply → Type 0
 GetsAsked disks text old new answer = GetsBlock disks (reference_in text) old new answer
@@ -70,17 +71,21 @@ PutsAsked disks bytes old new answer = PutsOf disks (nat_lt largest_block (lengt
 -- Delete: the text is no reference; or the user is not the operator; or what comes of deleting its block, with the reply by that
 abbrev pub DeletesBy : {D : Type 0} → Ghosts D → Bool → List ℕ → LogState D BlockRecord → LogState D BlockRecord → Reply → Type 0
 DeletesBy disks false reference old new answer = Refused (reply.Permission Delete) old new answer
-DeletesBy disks true reference old new answer = (deleted : Result ℕ BlockWhy) × (answer ≡ deleted_reply deleted) × DeletesBlock disks reference old new deleted
+DeletesBy disks true reference old new answer =
+    (deleted : Result ℕ BlockWhy) × (answer ≡ deleted_reply deleted) × DeletesBlock disks reference old new deleted
 
-abbrev pub DeletesOf : {D : Type 0} → Ghosts D → UserName → UserName → Option (List ℕ) → LogState D BlockRecord → LogState D BlockRecord → Reply → Type 0
+abbrev pub DeletesOf : {D : Type 0} → Ghosts D → UserName → UserName → Option (List ℕ)
+    → LogState D BlockRecord → LogState D BlockRecord → Reply → Type 0
 DeletesOf disks operator user None old new answer = Refused (reply.Invalid Reference) old new answer
 DeletesOf disks operator user (Some reference) old new answer = DeletesBy disks (bytes_eq user operator) reference old new answer
 
-abbrev pub DeletesAsked : {D : Type 0} → Ghosts D → UserName → UserName → List ℕ → LogState D BlockRecord → LogState D BlockRecord → Reply → Type 0
+abbrev pub DeletesAsked : {D : Type 0} → Ghosts D → UserName → UserName → List ℕ
+    → LogState D BlockRecord → LogState D BlockRecord → Reply → Type 0
 DeletesAsked disks operator user text old new answer = DeletesOf disks operator user (reference_in text) old new answer
 
 -- What a request of a user came to at the store of an operator, by the log before it.
-abbrev pub StoreSteps : {D : Type 0} → Ghosts D → UserName → UserName → Request → LogState D BlockRecord → LogState D BlockRecord → Reply → Type 0
+abbrev pub StoreSteps : {D : Type 0} → Ghosts D → UserName → UserName → Request
+    → LogState D BlockRecord → LogState D BlockRecord → Reply → Type 0
 StoreSteps disks operator user (request.Get text) old new answer = GetsAsked disks text old new answer
 StoreSteps disks operator user (request.StorePut bytes) old new answer = PutsAsked disks bytes old new answer
 StoreSteps disks operator user (request.StoreDelete text) old new answer = DeletesAsked disks operator user text old new answer

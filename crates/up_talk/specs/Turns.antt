@@ -40,7 +40,8 @@ use Rattle.up_wire.specs.declared.messages.ServerFrame.TheVariants as servers
 
 -- ---- what a connection stands among, of its parts
 
-abbrev pub parties : {A V C N Q R : Type 0} → answers.Ghosts A Q R → fields.Ghosts R → verifier.Ghosts V → clock.Ghosts C → nonces.Ghosts N → Parties A V C N Q R
+abbrev pub parties : {A V C N Q R : Type 0} → answers.Ghosts A Q R → fields.Ghosts R
+    → verifier.Ghosts V → clock.Ghosts C → nonces.Ghosts N → Parties A V C N Q R
 parties answerers spelled verifiers clocks drawn = record {
   name = answerers.name;
   looked = answerers.looked;
@@ -59,10 +60,12 @@ abbrev pub around : {A V C N : Type 0} → A → V → C → N → Around A V C 
 around answerer verifier clock nonces = record { answerer = answerer; verifier = verifier; clock = clock; nonces = nonces }
 
 abbrev pub ends : {S K : Type 0} → source.Ghosts S → sink.Ghosts K → S → K → Ends
-ends sources sinks from to = record { left = sources.left from; given = sources.given from; read_faults = sources.faults from; held = sinks.held to; write_faults = sinks.faults to }
+ends sources sinks from to =
+    record { left = sources.left from; given = sources.given from; read_faults = sources.faults from; held = sinks.held to; write_faults = sinks.faults to }
 
 abbrev pub ends_at : {K : Type 0} → Option (List ℕ) → ℕ → ℕ → sink.Ghosts K → K → Ends
-ends_at left given faults sinks to = record { left = left; given = given; read_faults = faults; held = sinks.held to; write_faults = sinks.faults to }
+ends_at left given faults sinks to =
+    record { left = left; given = given; read_faults = faults; held = sinks.held to; write_faults = sinks.faults to }
 
 abbrev pub world : {A V C N : Type 0} → Around A V C N → Ends → World A V C N
 world among at = record { around = among; ends = at }
@@ -116,9 +119,11 @@ Puts out payload new = new ≡ out ++ frame payload
 
 -- what was gathered is written where it is much, and kept where it is not; after a fault none is kept
 abbrev pub FlushCame : {K : Type 0} → sink.Ghosts K → List ℕ → K → Result (Unit {0}) Failed → List ℕ → K → Type 0
-FlushCame sinks out to (Ok done) now after = ((now ≡ out) × (after ≡ to)) ⊎ ((now ≡ []) × Appends (sinks.held to) (sinks.held after) out × (sinks.faults after ≡ sinks.faults to))
+FlushCame sinks out to (Ok done) now after =
+    ((now ≡ out) × (after ≡ to)) ⊎ ((now ≡ []) × Appends (sinks.held to) (sinks.held after) out × (sinks.faults after ≡ sinks.faults to))
 FlushCame sinks out to (Err failed) now after =
-    (now ≡ []) × WritesPart (sinks.held to) (sinks.held after) out × HasCause (sinks.faults to) (sinks.faults after) ⊥ × Rose (sinks.faults to) (sinks.faults after)
+    (now ≡ []) × WritesPart (sinks.held to) (sinks.held after) out
+    × HasCause (sinks.faults to) (sinks.faults after) ⊥ × Rose (sinks.faults to) (sinks.faults after)
 
 -- the user is told that it is refused, unless there is no memory
 abbrev pub Refuses : List ℕ → Result (Unit {0}) Stop → List ℕ → Type 0
@@ -130,13 +135,17 @@ Refuses out other new = ⊥
 abbrev pub comes : Stage → FromClient (Unit {0}) → Bool
 comes stage f = may_come (standing_at stage) f
 
-module _ {A N : Type 0} (name : A → List ℕ) (looked : A → UserName → Option KeyRecord → A → Type 0) (coming : N → Option (Coming (List ℕ))) where
+module _ {A N : Type 0} (name : A → List ℕ) (looked : A → UserName → Option KeyRecord → A → Type 0)
+    (coming : N → Option (Coming (List ℕ))) where
   -- a user is challenged, or refused
   abbrev pub ChallengeCame : UserName → A → N → List ℕ → Result (Unit {0}) Stop → Stage → A → N → List ℕ → Type 0
-  ChallengeCame user a n out (Ok done) then b m new = (signing : Signing) × ((nonce : List ℕ) × (Draws name looked coming user a n signing nonce b m × (then ≡ stages.Challenged signing) × Puts out (server (servers.Challenge nonce)) new))
+  ChallengeCame user a n out (Ok done) then b m new =
+      (signing : Signing) ×
+      ((nonce : List ℕ) × (Draws name looked coming user a n signing nonce b m × (then ≡ stages.Challenged signing) × Puts out (server (servers.Challenge nonce)) new))
   ChallengeCame user a n out (Err stop.NotSigned) then b m new = looked a user None b × (m ≡ n) × Puts out (server servers.NotSigned) new
   ChallengeCame user a n out (Err stop.OutOfMemory) then b m new =
-      (new ≡ out) × (((b ≡ a) × (m ≡ n)) ⊎ ((looked a user None b × (m ≡ n)) ⊎ ((signing : Signing) × ((nonce : List ℕ) × Draws name looked coming user a n signing nonce b m))))
+      (new ≡ out) ×
+      (((b ≡ a) × (m ≡ n)) ⊎ ((looked a user None b × (m ≡ n)) ⊎ ((signing : Signing) × ((nonce : List ℕ) × Draws name looked coming user a n signing nonce b m))))
   ChallengeCame user a n out (Err stop.Unfit) then b m new = ⊥
   ChallengeCame user a n out (Err stop.Bye) then b m new = ⊥
   ChallengeCame user a n out (Err stop.HelperFault) then b m new = ⊥
@@ -144,35 +153,46 @@ module _ {A N : Type 0} (name : A → List ℕ) (looked : A → UserName → Opt
   -- Hello
   abbrev pub HelloCame : List ℕ → Stage → A → N → List ℕ → Result (Unit {0}) Stop → Stage → A → N → List ℕ → Type 0
   HelloCame text stage a n out (Ok done) then b m new =
-      (stage ≡ stages.Unsaid) × ((signing : Signing) × ((nonce : List ℕ) × (Greets name looked coming text a n signing nonce b m × (then ≡ stages.Challenged signing) × Puts out (server (servers.Challenge nonce)) new)))
+      (stage ≡ stages.Unsaid) ×
+      ((signing : Signing) × ((nonce : List ℕ) × (Greets name looked coming text a n signing nonce b m × (then ≡ stages.Challenged signing) × Puts out (server (servers.Challenge nonce)) new)))
   HelloCame text stage a n out (Err stop.Unfit) then b m new = (comes stage (says.Hello text) ≡ false) × (b ≡ a) × (m ≡ n) × (new ≡ out)
-  HelloCame text stage a n out (Err stop.NotSigned) then b m new = (stage ≡ stages.Unsaid) × Unmet name looked coming text a n b m × Puts out (server servers.NotSigned) new
+  HelloCame text stage a n out (Err stop.NotSigned) then b m new =
+      (stage ≡ stages.Unsaid) × Unmet name looked coming text a n b m × Puts out (server servers.NotSigned) new
   HelloCame text stage a n out (Err stop.OutOfMemory) then b m new =
-      (stage ≡ stages.Unsaid) × (new ≡ out) × (((b ≡ a) × (m ≡ n)) ⊎ (Unmet name looked coming text a n b m ⊎ ((signing : Signing) × ((nonce : List ℕ) × Greets name looked coming text a n signing nonce b m))))
+      (stage ≡ stages.Unsaid) × (new ≡ out) ×
+      (((b ≡ a) × (m ≡ n)) ⊎ (Unmet name looked coming text a n b m ⊎ ((signing : Signing) × ((nonce : List ℕ) × Greets name looked coming text a n signing nonce b m))))
   HelloCame text stage a n out (Err stop.Bye) then b m new = ⊥
   HelloCame text stage a n out (Err stop.HelperFault) then b m new = ⊥
 
 module _ {V : Type 0} (judged : V → Option (List Judged)) where
   -- the signature is judged
   abbrev pub JudgeCame : List ℕ → Signing → V → List ℕ → Result (Unit {0}) Stop → Stage → V → List ℕ → Type 0
-  JudgeCame signature signing v out (Ok done) then w new = (then ≡ stages.Signed signing) × Grew (judged v) (judged w) (judged_of signing signature Yes ∷ []) × Puts out (server servers.Welcome) new
-  JudgeCame signature signing v out (Err stop.NotSigned) then w new = Grew (judged v) (judged w) (judged_of signing signature No ∷ []) × Puts out (server servers.NotSigned) new
+  JudgeCame signature signing v out (Ok done) then w new =
+      (then ≡ stages.Signed signing) × Grew (judged v) (judged w) (judged_of signing signature Yes ∷ [])
+      × Puts out (server servers.Welcome) new
+  JudgeCame signature signing v out (Err stop.NotSigned) then w new =
+      Grew (judged v) (judged w) (judged_of signing signature No ∷ []) × Puts out (server servers.NotSigned) new
   JudgeCame signature signing v out (Err stop.HelperFault) then w new = (judged w ≡ judged v) × (new ≡ out)
   JudgeCame signature signing v out (Err stop.OutOfMemory) then w new =
-      (new ≡ out) × (Grew (judged v) (judged w) (judged_of signing signature Yes ∷ []) ⊎ Grew (judged v) (judged w) (judged_of signing signature No ∷ []))
+      (new ≡ out) ×
+      (Grew (judged v) (judged w) (judged_of signing signature Yes ∷ []) ⊎ Grew (judged v) (judged w) (judged_of signing signature No ∷ []))
   JudgeCame signature signing v out (Err stop.Unfit) then w new = ⊥
   JudgeCame signature signing v out (Err stop.Bye) then w new = ⊥
 
   -- Proof
   abbrev pub ProofCame : List ℕ → Stage → V → List ℕ → Result (Unit {0}) Stop → Stage → V → List ℕ → Type 0
   ProofCame signature stage v out (Ok done) then w new =
-      (signing : Signing) × ((stage ≡ stages.Challenged signing) × (then ≡ stages.Signed signing) × Grew (judged v) (judged w) (judged_of signing signature Yes ∷ []) × Puts out (server servers.Welcome) new)
+      (signing : Signing) ×
+      ((stage ≡ stages.Challenged signing) × (then ≡ stages.Signed signing) × Grew (judged v) (judged w) (judged_of signing signature Yes ∷ []) × Puts out (server servers.Welcome) new)
   ProofCame signature stage v out (Err stop.Unfit) then w new = (comes stage (says.Proof signature) ≡ false) × (w ≡ v) × (new ≡ out)
   ProofCame signature stage v out (Err stop.NotSigned) then w new =
-      (signing : Signing) × ((stage ≡ stages.Challenged signing) × Grew (judged v) (judged w) (judged_of signing signature No ∷ []) × Puts out (server servers.NotSigned) new)
-  ProofCame signature stage v out (Err stop.HelperFault) then w new = (signing : Signing) × ((stage ≡ stages.Challenged signing) × (judged w ≡ judged v) × (new ≡ out))
+      (signing : Signing) ×
+      ((stage ≡ stages.Challenged signing) × Grew (judged v) (judged w) (judged_of signing signature No ∷ []) × Puts out (server servers.NotSigned) new)
+  ProofCame signature stage v out (Err stop.HelperFault) then w new =
+      (signing : Signing) × ((stage ≡ stages.Challenged signing) × (judged w ≡ judged v) × (new ≡ out))
   ProofCame signature stage v out (Err stop.OutOfMemory) then w new =
-      (signing : Signing) × ((stage ≡ stages.Challenged signing) × (new ≡ out) × (Grew (judged v) (judged w) (judged_of signing signature Yes ∷ []) ⊎ Grew (judged v) (judged w) (judged_of signing signature No ∷ [])))
+      (signing : Signing) ×
+      ((stage ≡ stages.Challenged signing) × (new ≡ out) × (Grew (judged v) (judged w) (judged_of signing signature Yes ∷ []) ⊎ Grew (judged v) (judged w) (judged_of signing signature No ∷ [])))
   ProofCame signature stage v out (Err stop.Bye) then w new = ⊥
 
 module _ {A C Q R : Type 0} (answering : R → List ℕ) (calls : A → UserName → Q → ℕ → R → A → Type 0) (coming : C → Option (Coming ℕ)) where
@@ -185,8 +205,10 @@ module _ {A C Q R : Type 0} (answering : R → List ℕ) (calls : A → UserName
     pub asked : calls a signing.user question moment answer b
 
   abbrev pub AskCame : Q → Stage → A → C → List ℕ → Result (Unit {0}) Stop → A → C → List ℕ → Type 0
-  AskCame question stage a c out (Ok done) b d new = (answer : R) × (Replied question stage a c answer b d × Puts out (answering answer) new)
-  AskCame question stage a c out (Err stop.Unfit) b d new = (may_come (standing_at stage) (says.Ask question) ≡ false) × (b ≡ a) × (d ≡ c) × (new ≡ out)
+  AskCame question stage a c out (Ok done) b d new =
+      (answer : R) × (Replied question stage a c answer b d × Puts out (answering answer) new)
+  AskCame question stage a c out (Err stop.Unfit) b d new =
+      (may_come (standing_at stage) (says.Ask question) ≡ false) × (b ≡ a) × (d ≡ c) × (new ≡ out)
   AskCame question stage a c out (Err stop.OutOfMemory) b d new = (answer : R) × (Replied question stage a c answer b d × (new ≡ out))
   AskCame question stage a c out (Err stop.NotSigned) b d new = ⊥
   AskCame question stage a c out (Err stop.HelperFault) b d new = ⊥
@@ -216,20 +238,24 @@ IsEndOf incoming other = ⊥
 
 module _ {A V C N Q R : Type 0} (who : Parties A V C N Q R) where
   -- of a connection so far, what came of one frame more
-  abbrev pub HandledFrom : Around A V C N → Standing → List (FromClient Q) → List (ToClient R) → Around A V C N → FromClient Q → List ℕ → Result (Unit {0}) Stop → Standing → Around A V C N → List ℕ → Type 0
+  abbrev pub HandledFrom : Around A V C N → Standing → List (FromClient Q) → List (ToClient R) → Around A V C N
+      → FromClient Q → List ℕ → Result (Unit {0}) Stop → Standing → Around A V C N → List ℕ → Type 0
   HandledFrom a standing came made b f out (Ok done) then c new =
       (sent : ToClient R) × (Transcript who a then (came ++ f ∷ []) (made ++ sent ∷ []) c × Puts out (payload_to who.answering sent) new)
   HandledFrom a standing came made b f out (Err stop.Unfit) then c new = (may_come standing f ≡ false) × (c ≡ b) × (new ≡ out)
   HandledFrom a standing came made b f out (Err stop.Bye) then c new = (f ≡ says.Bye) × (may_come standing f ≡ true) × (c ≡ b) × (new ≡ out)
   HandledFrom a standing came made b f out (Err stop.NotSigned) then c new =
       Transcript who a Standing.Refused (came ++ f ∷ []) (made ++ ToClient.NotSigned ∷ []) c × Puts out (server servers.NotSigned) new
-  HandledFrom a standing came made b f out (Err stop.HelperFault) then c new = Transcript who a Standing.Failed (came ++ f ∷ []) made c × (new ≡ out)
+  HandledFrom a standing came made b f out (Err stop.HelperFault) then c new =
+      Transcript who a Standing.Failed (came ++ f ∷ []) made c × (new ≡ out)
   HandledFrom a standing came made b f out (Err stop.OutOfMemory) then c new =
       (new ≡ out) × ((c ≡ b) ⊎ ((last : Standing) × ((sent : ToClient R) × Transcript who a last (came ++ f ∷ []) (made ++ sent ∷ []) c)))
 
-  abbrev pub Handled : Standing → Around A V C N → FromClient Q → List ℕ → Result (Unit {0}) Stop → Standing → Around A V C N → List ℕ → Type 0
+  abbrev pub Handled : Standing → Around A V C N → FromClient Q → List ℕ
+      → Result (Unit {0}) Stop → Standing → Around A V C N → List ℕ → Type 0
   Handled standing b f out result then c new =
-      (a : Around A V C N) (came : List (FromClient Q)) (made : List (ToClient R)) → Transcript who a standing came made b → HandledFrom a standing came made b f out result then c new
+      (a : Around A V C N) (came : List (FromClient Q)) (made : List (ToClient R))
+      → Transcript who a standing came made b → HandledFrom a standing came made b f out result then c new
 
   -- ---- a connection so far, and at its end
 

@@ -28,8 +28,10 @@ module _ {D : Type 0} where
   -- One of the callers made a call; or split its seats, for one caller more; or joined another's seats to its own. All others keep theirs.
   pub data Step (all after : List (Seats D)) : Type 0 where
     Calls : (a b : Seats D) (others : List (Seats D)) → Among a all others → Among b after others → SeatsLater a b → Step all after
-    Splits : (a one other : Seats D) (others : List (Seats D)) → Among a all others → after ≡ one ∷ other ∷ others → SeatsAdd one other a → Step all after
-    Joins : (one other both : Seats D) (rest others : List (Seats D)) → Among one all rest → Among other rest others → after ≡ both ∷ others → SeatsAdd one other both → Step all after
+    Splits : (a one other : Seats D) (others : List (Seats D)) → Among a all others
+        → after ≡ one ∷ other ∷ others → SeatsAdd one other a → Step all after
+    Joins : (one other both : Seats D) (rest others : List (Seats D)) → Among one all rest
+        → Among other rest others → after ≡ both ∷ others → SeatsAdd one other both → Step all after
 
   -- so many steps, one after the other
   abbrev pub Steps : ℕ → List (Seats D) → List (Seats D) → Type 0

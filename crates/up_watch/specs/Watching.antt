@@ -50,7 +50,8 @@ told watching n = option_and_then (event_of (now watching) (after watching (suc 
 
 -- the event of an item, where the user has any right on it
 abbrev pub item_told : Look → Entry → Option WatchEvent
-item_told look entry = if has_some look entry.name then Some (record { position = entry.sequence; delete = false; entry = shown look entry }) else None
+item_told look entry =
+    if has_some look entry.name then Some (record { position = entry.sequence; delete = false; entry = shown look entry }) else None
 
 -- an event stands before another where its path does
 abbrev pub is_before : WatchEvent → WatchEvent → Bool

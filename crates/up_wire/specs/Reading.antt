@@ -91,7 +91,8 @@ unfoldable pub what_at : Input → Result (What × Input) FieldFault
 what_at input = tagged_at what_table input
 
 abbrev pub right_table : List (ℕ × (Input → Result (Right × Input) FieldFault))
-right_table = (0, plain right.Read) ∷ (1, plain right.Write) ∷ (2, plain right.List) ∷ (3, plain right.Create) ∷ (4, plain right.Delete) ∷ []
+right_table =
+    (0, plain right.Read) ∷ (1, plain right.Write) ∷ (2, plain right.List) ∷ (3, plain right.Create) ∷ (4, plain right.Delete) ∷ []
 
 unfoldable pub right_at : Input → Result (Right × Input) FieldFault
 right_at input = tagged_at right_table input
