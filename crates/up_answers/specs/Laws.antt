@@ -203,6 +203,7 @@ pub record Turn : Type 0 where
   pub fetched : Fetched
   pub now : ℕ
 
+-- the log after a turn
 abbrev pub after_turn : Log → Turn → Log
 after_turn log turn = after_request log turn.loaded turn.fetched turn.user turn.request turn.now
 

@@ -28,6 +28,7 @@ disk_after (Err fault) = fault.disk
 abbrev pub log_of : {D : Type 0} → LogState D BlockRecord → List BlockRecord
 log_of blocks = blocks.log
 
+-- the part of a store's log that stays: its limits
 abbrev pub limits_of : {D : Type 0} → LogState D BlockRecord → Limits
 limits_of blocks = blocks.limits
 
@@ -37,6 +38,7 @@ why_of (append.Full records) = why.Full records
 why_of append.Fault = why.Fault
 why_of append.OutOfMemory = why.OutOfMemory
 
+-- why a block is not given whose record is not read
 abbrev pub why_of_read : ReadWhy → BlockWhy
 why_of_read read.Fault = why.Fault
 why_of_read read.OutOfMemory = why.OutOfMemory

@@ -29,6 +29,7 @@ abbrev pub if_tag : Bool → Type 0 → Type 0 → Type 0
 if_tag true here others = here
 if_tag false here others = others
 
+-- what fails first after a tag, by the table's first row with that tag; a tag that the table has not has no such fault
 abbrev pub row_fails : List (ℕ × (Input → FieldFault → Type 0)) → ℕ → Input → FieldFault → Type 0
 row_fails [] tag input fault = ⊥
 row_fails (row ∷ rows) tag input fault = if_tag (tag == row.0) (row.1 input fault) (row_fails rows tag input fault)

@@ -31,20 +31,24 @@ FaultFirst meant result = (fault : FieldFault) → meant ≡ Err fault → resul
 abbrev pub bytes_at : ℕ → Input → Result (List ℕ × Input) FieldFault
 bytes_at n input = if nat_lt (length input.left) n then Err Short else Ok (take n input.left, past n input)
 
+-- one byte
 abbrev pub byte_at : Input → Result (ℕ × Input) FieldFault
 byte_at input = if length input.left == 0 then Err Short else Ok (slice_index input.left 0, past 1 input)
 
+-- a number below 2^64 in its shortest form
 unfoldable pub num_at : Input → Result (ℕ × Input) FieldFault
 num_at input =
     let front = num_bytes input.left in
     if is_misspelled front then Err (Spelling (place input))
     else (if is_ended front then Ok (number front, past (length front) input) else Err Short)
 
+-- a signed number of 64 bits
 unfoldable pub int_at : Input → Result (ℤ × Input) FieldFault
 int_at input = do
   n ← num_at input
   Ok (from_zigzag n.0, n.1)
 
+-- a text: its length, and then its bytes
 unfoldable pub text_at : Input → Result (List ℕ × Input) FieldFault
 text_at input = do
   n ← num_at input

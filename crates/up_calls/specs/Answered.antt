@@ -58,6 +58,7 @@ pub data HasFailed (rises : LogName → Type 0) (before after : ℕ) (q : Questi
   ByBlock : rises LogName.OfStore → HasFailed rises before after q
   ByLoader : Rose before after → HasFailed rises before after q
 
+-- where Io is told, something failed in this call
 pub record Risen (rises : LogName → Type 0) (before after : ℕ) (q : Question) (e : Event) : Type 0 where
   pub io : e.reply ≡ reply.Io → HasFailed rises before after q
 

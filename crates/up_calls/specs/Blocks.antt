@@ -40,6 +40,7 @@ abbrev pub OwnBlock : SeenStore → SeenStore → Endpoint → List ℕ → Fetc
 OwnBlock v w endpoint.Local reference given = IsFromStore v w reference given
 OwnBlock v w (endpoint.Address address) reference given = Unit {0}
 
+-- each block of the host's own store that was fetched came from there
 abbrev pub OwnBlocks : SeenStore → SeenStore → Fetched → Type 0
 OwnBlocks v w fetched = AllByRecursion (λ (got : Got). OwnBlock v w got.0.endpoint got.0.reference got.1) fetched
 
@@ -48,6 +49,7 @@ abbrev pub question_of : List ℕ → Endpoint → List BlockQuestion
 question_of reference endpoint.Local = []
 question_of reference (endpoint.Address address) = record { address = address; reference = reference } ∷ []
 
+-- what the loader is asked of a block: nothing where it is of the host's own store
 abbrev pub block_question : Got → List BlockQuestion
 block_question got = question_of got.0.reference got.0.endpoint
 
@@ -56,5 +58,6 @@ abbrev pub answer_at : Fetch → Endpoint → List (Option Fetch)
 answer_at given endpoint.Local = []
 answer_at given (endpoint.Address address) = Some given ∷ []
 
+-- what the loader answered of a block: nothing where it was not asked
 abbrev pub block_answer : Got → List (Option Fetch)
 block_answer got = answer_at got.1 got.0.endpoint

@@ -78,11 +78,13 @@ pub record IsPlain (e : Event) : Type 0 where
   pub loaded : e.loaded ≡ []
   pub fetched : e.fetched ≡ []
 
+-- the store answered at one point of its log, or its disk failed
 abbrev pub StoreTurn : UserName → SeenStore → SeenStore → Question → Event → Type 0
 StoreTurn operator v w q e =
     IsReplied (λ records. StoreSays records (store_leads operator q.user q.request w.fixed records)) v w e
     ⊎ IsFailed (λ records. NeedsDisk (store_leads operator q.user q.request w.fixed records)) v w e
 
+-- the keys answered at one point of their log, or their disk failed
 abbrev pub KeysTurn : SeenKeys → SeenKeys → Question → Event → Type 0
 KeysTurn v w q e =
     IsReplied (λ records. KeysSay (key_leads q.user q.request w.fixed records)) v w e

@@ -31,6 +31,7 @@ abbrev pub load_of_done : UserName → Done → LoadAnswer
 load_of_done owner (done.Text bytes) = text_answer (group_of owner bytes)
 load_of_done owner other = loads.Missing
 
+-- what is loaded by the reply to a GroupText of this owner's tree: a text is read, Io is a failure, and all else is Missing
 abbrev pub load_of : UserName → Reply → LoadAnswer
 load_of owner (reply.Ok what) = load_of_done owner what
 load_of owner reply.Io = loads.Failed
@@ -64,6 +65,7 @@ abbrev pub asked_of_others : UserName → Option SeenTree → PathName → List 
 asked_of_others operator None name = record { asker = operator; name = name } ∷ []
 asked_of_others operator (Some view) name = []
 
+-- what the loader is asked of a group: nothing where the host has its owner's tree
 abbrev pub group_question : UserName → Views → Pair → List GroupQuestion
 group_question operator a pair = asked_of_others operator (tree_by a pair.0.owner) pair.0
 
@@ -72,9 +74,11 @@ abbrev pub answered_by_others : Option SeenTree → LoadAnswer → List (Option 
 answered_by_others None answer = Some answer ∷ []
 answered_by_others (Some view) answer = []
 
+-- what the loader answered of a group: nothing where it was not asked
 abbrev pub group_answer : Views → Pair → List (Option LoadAnswer)
 group_answer a pair = answered_by_others (tree_by a pair.0.owner) pair.1
 
+-- whether a load failed
 abbrev pub load_failed : Option LoadAnswer → Bool
 load_failed (Some loads.Failed) = true
 load_failed other = false

@@ -45,10 +45,12 @@ abbrev pub lookup_fault : {E : Type 0} → Result UserName E → Option What
 lookup_fault (Ok user) = None
 lookup_fault (Err fault) = Some Name
 
+-- what is malformed of a key record that is put, by what its user's name is read as: the name, or the bounds
 abbrev pub card_fault : {E : Type 0} → KeyCard → Result UserName E → Option What
 card_fault card (Ok user) = if keeps_bounds card.dirs card.stores card.key then None else Some Key
 card_fault card (Err fault) = Some Name
 
+-- what is malformed of a request to the keys
 abbrev pub key_fault : Request → Option What
 key_fault (request.KeyLookup text) = lookup_fault (user_of text)
 key_fault (request.KeyPut card) = card_fault card (user_of card.user)

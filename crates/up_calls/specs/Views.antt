@@ -21,9 +21,11 @@ pub record Seen (E F : Type 0) : Type 0 where
 abbrev pub SeenTree : Type 0
 SeenTree = Seen Rec (UserName × Limits)
 
+-- what a caller has of the store's log, whose limits never change
 abbrev pub SeenStore : Type 0
 SeenStore = Seen BlockRecord Limits
 
+-- what a caller has of the log of the keys, whose limits never change
 abbrev pub SeenKeys : Type 0
 SeenKeys = Seen KeyRecord Limits
 
@@ -54,6 +56,7 @@ LaterTree (Some v) (Some w) = LaterSeen v w
 LaterTree None (Some w) = ⊥
 LaterTree (Some v) None = ⊥
 
+-- what was seen of any log stays seen, and a host neither gains nor loses a tree
 pub record Later (a b : Views) : Type 0 where
   pub trees : (owner : UserName) → LaterTree (a.tree owner) (b.tree owner)
   pub store : LaterSeen a.store b.store

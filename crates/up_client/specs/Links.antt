@@ -16,6 +16,7 @@ use Rattle.up_client.specs.declared.links.Step.TheVariants as steps
 use Rattle.up_client.specs.Replies.{◌>>=◌, outcome}
 use Rattle.up_client.specs.Talks.{Talking, done, and_then, reply_to}
 
+-- whether an entry is a link
 abbrev pub is_link : Kind → Bool
 is_link kinds.Link = true
 is_link kinds.File = false

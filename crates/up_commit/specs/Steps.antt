@@ -11,6 +11,7 @@ use Rattle.up_wire.specs.declared.replies.Done.TheVariants as done
 use Rattle.up_wire.specs.declared.replies.Reply.{Reply}
 use Rattle.up_wire.specs.declared.replies.Reply.TheVariants as reply
 
+-- whether what was done is told by a position
 abbrev pub is_position : Done → Bool
 is_position (done.Changed position) = true
 is_position other = false

@@ -8,25 +8,31 @@ use Rattle.up_disk.specs.Pending.{done, content_after, MayMake, MayLeave, padded
 use Rattle.up_disk.specs.declared.call.Call.{Call}
 use Rattle.up_disk.specs.declared.call.Call.TheVariants.{Write, Cut, Sync}
 
+-- a write may have left nothing
 pub torn_self : (at n : ℕ) (bytes : List ℕ) → Torn at n bytes bytes
 torn_self at n bytes = record { before = take_min at bytes; after = refl; no_shorter = omega arith; no_longer = omega arith }
 
+-- a cut may have left all as it was
 pub cut_self : (size : ℕ) (bytes : List ℕ) → CutShort size bytes bytes
 cut_self size bytes = record { no_shorter = omega arith; front = take_all (length bytes) bytes (omega arith) }
 
+-- a cut may have been done
 pub cut_done : (size : ℕ) (bytes : List ℕ) → CutShort size bytes (take size bytes)
 cut_done size bytes = record {
   no_shorter = omega (arith, length-take size bytes);
   front = ap (λ n. take n bytes) (length-take size bytes) ∙ take_min size bytes;
 }
 
+-- bytes with zeros after them up to a size have that size, or are as long as they were
 pub length-padded : (size : ℕ) (bytes : List ℕ) → length (padded size bytes) ≡ max (length bytes) size
 length-padded size bytes =
     omega (arith, length-append bytes (replicate (size - length bytes) 0), length-replicate {A = ℕ} (size - length bytes) 0)
 
+-- bytes with zeros after them begin as they began
 take-padded : (n size : ℕ) (bytes : List ℕ) → n ≤ length bytes → take n (padded size bytes) ≡ take n bytes
 take-padded n size bytes le = take-append-le n bytes (replicate (size - length bytes) 0) le
 
+-- bytes with zeros after them up to a size are behind that size as they were
 drop-padded : (n size : ℕ) (bytes : List ℕ) → size ≤ n → drop n (padded size bytes) ≡ drop n bytes
 drop-padded n size bytes le = elim (cases_lt n (length bytes)) [
   | inl short ↦
@@ -61,6 +67,7 @@ torn_put at n place new bytes low high =
       no_longer = omega arith;
     }
 
+-- a write may have left zeros in place of its bytes
 pub torn_padded : (at n : ℕ) (bytes : List ℕ) → Torn at n bytes (padded (at + n) bytes)
 torn_padded at n bytes = record {
   before = take-padded (min at (length bytes)) (at + n) bytes (omega arith) ∙ take_min at bytes;
@@ -69,6 +76,7 @@ torn_padded at n bytes = record {
   no_longer = omega (arith, length-padded (at + n) bytes);
 }
 
+-- each call may have been done whole
 pub made : (call : Call) (bytes : List ℕ) → MayMake call bytes bytes (done call bytes)
 made (Write w) bytes =
     torn_put w.at (length w.bytes) w.at (take w.landed w.bytes) bytes (omega arith) (omega (arith, length-take w.landed w.bytes))

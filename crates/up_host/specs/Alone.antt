@@ -37,15 +37,19 @@ abbrev pub positions : ℕ → ℕ → List ℕ
 positions base zero = []
 positions base (suc n) = if nat_le base n then positions base n ++ suc n ∷ [] else positions base n
 
+-- what the one caller of a host has of a log: all its records are seen, and those above the base are its own
 abbrev pub view_of : {E F : Type 0} → List E → ℕ → ℕ → F → Seen E F
 view_of log base failed fixed = record { seen = log; own = positions base (length log); failed = failed; fixed = fixed }
 
+-- what the one caller has of a tree's log
 abbrev pub tree_view : {D : Type 0} → Ghosts D → Held (State D) → SeenTree
 tree_view disks held = view_of held.state.log held.base (disks.faults held.state.disk) (fixed_of held.state)
 
+-- what the one caller has of the store's log
 abbrev pub store_view : {D : Type 0} → Ghosts D → Held (LogState D BlockRecord) → SeenStore
 store_view disks held = view_of held.state.log held.base (disks.faults held.state.disk) held.state.limits
 
+-- what the one caller has of the log of the keys
 abbrev pub keys_view : {D : Type 0} → Ghosts D → Held (LogState D KeyRecord) → SeenKeys
 keys_view disks held = view_of held.state.log held.base (disks.faults held.state.disk) held.state.limits
 
@@ -57,6 +61,7 @@ is_of owner held = bytes_eq held.state.owner owner
 abbrev pub tree_for : {D : Type 0} → List (Held (State D)) → UserName → Option (Held (State D))
 tree_for trees owner = find (is_of owner) trees
 
+-- what the one caller has of all logs of a host
 abbrev pub views : {D : Type 0} → Ghosts D → HostState D → Views
 views disks host = record {
   tree = λ owner. option_map (tree_view disks) (tree_for host.trees owner);
@@ -95,6 +100,7 @@ pub record IsAlone (a b : Views) (q : Question) (e : Event) : Type 0 where
 abbrev pub IsBase : {D : Type 0} → Held (State D) → Type 0
 IsBase held = held.base ≤ length held.state.log
 
+-- what a host keeps: no base is past the end of its log, and there is room for the disk of each log
 pub record IsHost {D : Type 0} (trees : List (Held (State D))) (store : Held (LogState D BlockRecord))
     (keys : Held (LogState D KeyRecord)) (spare : ℕ) : Type 0 where
   pub trees_base : AllByRecursion IsBase trees
@@ -108,6 +114,7 @@ disk_faults disks host =
     sum_by (λ (held : Held (State _)). disks.faults held.state.disk) host.trees +
     (disks.faults host.store.state.disk + disks.faults host.keys.state.disk)
 
+-- 1 for the reply Io, and 0 for every other
 abbrev pub io_of : Reply → ℕ
 io_of reply.Io = 1
 io_of other = 0

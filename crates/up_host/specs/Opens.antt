@@ -69,6 +69,7 @@ WasOpenedAs disks limits (LogName.OfTree owner) disk after = WasOpened disks (tr
 WasOpenedAs disks limits LogName.OfStore disk after = WasOpened disks blocks.blocks_in (store_limits limits) disk after
 WasOpenedAs disks limits LogName.OfKeys disk after = WasOpened disks keys.records_in limits disk after
 
+-- a disk was refused as this log, with this fault
 abbrev pub IsRefusedAs : {D : Type 0} → Ghosts D → Limits → LogName → D → OpenFault D → Type 0
 IsRefusedAs disks limits (LogName.OfTree owner) disk fault = IsNoLog disks (tree.records_in owner) limits disk fault
 IsRefusedAs disks limits LogName.OfStore disk fault = IsNoLog disks blocks.blocks_in (store_limits limits) disk fault
@@ -142,6 +143,7 @@ pub record OpensNone {D : Type 0} (given : List D) (fault : HostFault D) : Type 
   pub why_is : fault.why ≡ why.OutOfMemory
   pub which_is : fault.which ≡ 0
 
+-- no disk was opened, for want of memory; or one of them was refused
 abbrev pub RefusesHost : {D : Type 0} → Ghosts D → Limits → List UserName → List D → HostFault D → Type 0
 RefusesHost disks limits owners given fault = OpensNone given fault ⊎ StopsAtOne disks limits owners given fault
 
@@ -187,10 +189,11 @@ disks_of host = map disk_of host.trees ++ host.store.state.disk ∷ host.keys.st
 abbrev pub LeavesLog : {D R : Type 0} → Ghosts D → Reader R → LogState D R → Type 0
 LeavesLog disks read log = LeavesNow disks log.disk (StandsForLog (read log.limits.largest) log.log log.further)
 
+-- a crash now leaves the log of a tree, or it with its doubtful record
 abbrev pub LeavesTree : {D : Type 0} → Ghosts D → Held (tree.State D) → Type 0
 LeavesTree disks held = LeavesLog disks (tree.records_in held.state.owner) (tree.over_journal held.state)
 
--- and so with each log of a host
+-- a crash now leaves of each log of a host that log, or it with its doubtful record
 pub record LeavesHost {D : Type 0} (disks : Ghosts D) (host : HostState D) : Type 0 where
   pub trees : AllByRecursion (LeavesTree disks) host.trees
   pub store : LeavesLog disks blocks.blocks_in host.store.state

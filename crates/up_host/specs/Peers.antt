@@ -50,6 +50,7 @@ abbrev pub peer_done : Done → PeerAnswer
 peer_done (done.Text bytes) = peer.Got bytes
 peer_done other = peer.Nothing
 
+-- what a host as a peer answers for a reply: the text or the block, a failure for Io, and nothing for all else
 abbrev pub peer_answer : Reply → PeerAnswer
 peer_answer (reply.Ok what) = peer_done what
 peer_answer reply.Io = peer.Failed

@@ -38,6 +38,7 @@ abbrev pub reply_of_name : List KeyRecord → Result UserName NameFault → Repl
 reply_of_name log (Ok user) = known_reply (record_in log user)
 reply_of_name log (Err fault) = reply.Invalid Name
 
+-- the reply to who asks for the record of the user that a text names
 unfoldable pub looked_up : List KeyRecord → Text → Reply
 looked_up log text = reply_of_name log (user_of text)
 
@@ -59,6 +60,7 @@ to_put_named user card (Ok named) =
     else if not (may_put user named) then Err (reply.Permission Write)
     else Ok (record_of named card)
 
+-- the record that a card asks to put, or the refusal: the first that fits of a bad name, bad bounds, and another's record
 unfoldable pub to_put : UserName → KeyCard → Result KeyRecord Reply
 to_put user card = to_put_named user card (user_of card.user)
 

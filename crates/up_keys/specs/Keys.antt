@@ -27,6 +27,7 @@ sizes_of log = map (λ known. length (logged known)) log
 abbrev pub log_of : {D : Type 0} → LogState D KeyRecord → List KeyRecord
 log_of keys = keys.log
 
+-- the part of the log of the keys that stays: its limits
 abbrev pub limits_of : {D : Type 0} → LogState D KeyRecord → Limits
 limits_of keys = keys.limits
 

@@ -18,6 +18,7 @@ abbrev pub decided_for : Decided → Bool → Option Rights
 decided_for decided true = decided.control
 decided_for decided false = decided.ordinary
 
+-- what was decided, with these rights for Access and Group paths, or for ordinary ones
 abbrev pub with_decided : Decided → Bool → Rights → Decided
 with_decided decided true held = record decided { control = Some held }
 with_decided decided false held = record decided { ordinary = Some held }

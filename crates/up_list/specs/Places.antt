@@ -21,6 +21,7 @@ use Rattle.up_wire.specs.declared.replies.Row.{Row}
 abbrev pub is_before : Row → Row → Bool
 is_before one two = is_lt (path_cmp one.entry.name two.entry.name)
 
+-- the path of a place
 abbrev pub path_in : Place → PathName
 path_in place = place.path
 
@@ -30,9 +31,11 @@ pub record IsPlace (look : Look) (at : ℕ) (place : Place) : Type 0 where
   pub size : length place.path.elements ≡ at
   pub decided : IsDecided look place.path place.decided
 
+-- all of these are such places
 abbrev pub ArePlaces : Look → ℕ → List Place → Type 0
 ArePlaces look at places = AllByRecursion (IsPlace look at) places
 
+-- an entry is of the tree's owner
 abbrev pub IsOwned : Look → Entry → Type 0
 IsOwned look entry = entry.name.owner ≡ look.owner
 

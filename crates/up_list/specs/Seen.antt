@@ -39,6 +39,7 @@ standing_node tree path = option_and_then (node_at tree) (standing_prefix tree p
 abbrev pub has_name : ℕ → List ℕ → Entry → Bool
 has_name at name entry = bytes_eq (slice_index_or entry.name.elements at []) name
 
+-- a lemma: whether a Group file stands at a path is told by its node
 group_is : (tree : Tree) (q : PathName) → option_and_then {U = ⊤} (λ n. if is_group_file q n then Some tt else None)
     (node_at tree q) ≡ option_map {U = ⊤} (λ (n : Node). tt) (group_node tree q)
 group_is tree q = go (node_at tree q)
@@ -53,6 +54,7 @@ group_is tree q = go (node_at tree q)
     go None = refl
     go (Some n) = by (is_group_file q n) n
 
+-- a lemma: what is found in a map has its key among the keys
 key_there : {X : Type 0} (es : List (PathName × X)) (q : PathName) → is_some (find path_cmp q es) ≡ true → Contains (keys_of es) q
 key_there es q h =
     let found = at_any (eq_by_cmp path_cmp q) (keys_of es) (sym (is_some-find path_cmp q es) ∙ h) in

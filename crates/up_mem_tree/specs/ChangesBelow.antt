@@ -43,6 +43,7 @@ pub record CanNote (changes_below : List Under) (slots : List Known) (path : Pat
   pub way : HasRoomFrom changes_below slots path 0
   pub spare : HasRoomAt changes_below (length slots)
 
+-- a record that changes a path can be noted without memory
 abbrev pub CanNoteRecord : List Under → List Known → Rec → Type 0
 CanNoteRecord changes_below slots rec = IfSome (path_of_change rec) (CanNote changes_below slots)
 

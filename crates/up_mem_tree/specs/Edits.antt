@@ -34,6 +34,7 @@ abbrev pub HasRoomFor : {X A : Type 0} → Vec (Change X) A → Option (Change X
 HasRoomFor changes None = ⊤
 HasRoomFor changes (Some change) = vec_len changes < vec_capacity changes
 
+-- the changes of a file, with one more where there is one
 abbrev pub changes_in : {X : Type 0} → List (Change X) → Option (Change X) → List (Change X)
 changes_in changes None = changes
 changes_in changes (Some change) = changes ++ change ∷ []

@@ -21,9 +21,11 @@ use Rattle.up_log_tree.specs.Fits.{IsLog}
 use Rattle.up_mem_tree.specs.Slots.{AreLinked, AreSlotsOf, IsSlotOf, KeepsNumbers, Known, known, known_all, named_paths, path_in}
 use Rattle.up_log_tree.specs.Snapshots.{snapshots_of}
 
+-- what is known of the slots of a tree
 abbrev pub slots_of : Kept → List Known
 slots_of kept = known_all kept.slots.items
 
+-- the paths that the records of a tree name
 abbrev pub paths_of : Kept → List PathName
 paths_of kept = named_paths kept.log.items
 

@@ -30,6 +30,7 @@ pub record Known : Type 0 where
   pub access : List (Change (List Rule))
   pub group : List (Change (List Item))
 
+-- what is known of a slot
 unfoldable pub known : Slot → Known
 known slot = record {
   path = slot.path;
@@ -42,6 +43,7 @@ known slot = record {
   group = slot.group.items;
 }
 
+-- what is known of each of these slots
 abbrev pub known_all : List Slot → List Known
 known_all slots = map known slots
 

@@ -35,6 +35,7 @@ unfoldable pub stepped_own : Own → Option Node → ℕ → Option (Change (Lis
 stepped_own (There id) node position group slots = changed_at id (entered_own node position group) slots
 stepped_own (New slot) node position group slots = slots ++ entered_own node position group (known slot) ∷ []
 
+-- what is known of the slots after a step: above the path, and then at it
 abbrev pub stepped : Step → List Known → List Known
 stepped step slots = stepped_own step.own step.node step.position step.group (stepped_above step.parent slots)
 
@@ -45,12 +46,14 @@ last_before (New slot) slots = 0
 
 -- ---- when it can be made, without memory
 
+-- the step can be made at the directory above, without memory
 abbrev pub CanEnterAbove : List Slot → Option ParentStep → Type 0
 CanEnterAbove slots None = ⊤
 CanEnterAbove slots (Some parent) =
     (slot : Slot) × (slice_get slots parent.id ≡ Some slot) × CanEdit slot.named parent.named
     × CanEdit slot.children parent.children × HasRoomFor slot.access parent.access
 
+-- the step can be made at the path, without memory
 abbrev pub CanEnterOwn : {A : Type 0} → Vec Slot A → Own → Option (Change (List Item)) → Type 0
 CanEnterOwn slots (There id) group = (slot : Slot) × (slice_get slots.items id ≡ Some slot) × HasRoomFor slot.group group
 CanEnterOwn slots (New slot) group = HasRoomFor slot.group group × (vec_len slots < vec_capacity slots)
@@ -125,6 +128,7 @@ abbrev pub own_id : List Known → Own → ℕ
 own_id slots (There id) = id
 own_id slots (New slot) = length slots
 
+-- this is the path's own slot: one that is there, or a new one
 abbrev pub IsOwnOf : List PathName → List Known → PathName → Option ℕ → Own → Type 0
 IsOwnOf paths slots path parent (There id) = path_in slots id ≡ Some path
 IsOwnOf paths slots path parent (New slot) = (has_path paths path ≡ false) × (known slot ≡ fresh_slot path parent)

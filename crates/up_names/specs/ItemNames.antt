@@ -19,10 +19,12 @@ names_user (Err fault) text = false
 unfoldable pub is_everyone : Text → Bool
 is_everyone name = bytes_eq (str_to_ascii_lowercase name) (codes "all") || names_user (user_of name) (codes "all@upspin.io")
 
+-- the item of a domain, where a text names one
 abbrev pub domain_item : Option Text → Option Item
 domain_item (Some domain) = Some (Domain domain)
 domain_item None = None
 
+-- the item of a user, where a text names one
 abbrev pub user_item : Result UserName NameFault → Option Item
 user_item (Ok user) = Some (User user)
 user_item (Err fault) = None
@@ -32,6 +34,7 @@ abbrev pub group_item : Result PathName NameFault → Option Item
 group_item (Ok path) = if is_in_group path then Some (Group path) else None
 group_item (Err fault) = None
 
+-- whether a text has a `/`
 abbrev pub has_slash : Text → Bool
 has_slash name = list_any is_slash name
 

@@ -15,6 +15,7 @@ pub record PathName : Type 0 where
   pub owner : UserName
   pub elements : List Text
 
+-- the byte `/`
 abbrev pub is_slash : ℕ → Bool
 is_slash b = b == byte "/"
 
@@ -114,6 +115,7 @@ joined path element =
     else if nat_lt 4096 (length text) then Err (TooLong (length text))
     else Ok (extended path element)
 
+-- whether the last element of a path is `Access`
 abbrev pub ends_in_access : PathName → Bool
 ends_in_access path = ends_with bytes_eq path.elements (codes "Access" ∷ [])
 

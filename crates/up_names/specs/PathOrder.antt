@@ -14,6 +14,7 @@ coded_path =
     code_by (List ℕ × List (List ℕ)) (coded× (coded_list coded_ℕ) (coded_list (coded_list coded_ℕ)))
     (λ path. (path.owner, path.elements)) (λ parts. record { owner = parts.0; elements = parts.1 }) (λ _. refl)
 
+-- two paths are equal: owner and elements are
 abbrev pub path_eq : PathName → PathName → Bool
 path_eq p q = bytes_eq p.owner q.owner && pointwise bytes_eq p.elements q.elements
 

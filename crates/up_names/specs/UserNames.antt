@@ -8,12 +8,15 @@ use Rattle.up_names.specs.Texts.{Text, UserName}
 use Rattle.up_names.specs.declared.fault.NameFault.{NameFault}
 use Rattle.up_names.specs.declared.fault.NameFault.TheVariants.{TooLong, AtSigns, Local, Suffix, Domain}
 
+-- the byte `@`
 abbrev pub is_at : ℕ → Bool
 is_at b = b == byte "@"
 
+-- the byte `+`
 abbrev pub is_plus : ℕ → Bool
 is_plus b = b == byte "+"
 
+-- the byte `.`
 abbrev pub is_period : ℕ → Bool
 is_period b = b == byte "."
 

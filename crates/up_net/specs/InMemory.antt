@@ -29,8 +29,10 @@ GivesSame _ _ _ = ⊥
 abbrev pub AnyRun : {M : Type 0} → M → ProgramRun → M → Type 0
 AnyRun old run new = Unit {0}
 
+-- of a machine's clock nothing is told: any reading may come
 abbrev pub AnyReading : {M : Type 0} → M → Option Duration → M → Type 0
 AnyReading old reading new = Unit {0}
 
+-- of a machine's random source nothing is told: any bytes may come
 abbrev pub AnyBytes : {M : Type 0} → M → Option (List ℕ) → M → Type 0
 AnyBytes old bytes new = Unit {0}

@@ -37,6 +37,7 @@ is_sign c token = not token.is_escaped && token.character == c
 
 -- ---- between brackets
 
+-- the sign `-` between brackets
 abbrev pub is_dash : Token → Bool
 is_dash token = is_sign (byte "-") token
 
@@ -73,6 +74,7 @@ class_of (first ∷ rest) =
 abbrev pub term_of : Token → Term
 term_of token = if is_sign (byte "*") token then Many else if is_sign (byte "?") token then One else Char token.character
 
+-- the sign `]`
 abbrev pub is_close : Token → Bool
 is_close token = is_sign (byte "]") token
 

@@ -10,6 +10,7 @@ use Rattle.up_pattern.specs.declared.terms.Term.TheVariants.{Many, One, Char, On
 abbrev pub is_in_range : ℕ → Range → Bool
 is_in_range c range = nat_le range.low c && nat_le c range.high
 
+-- whether a term is `*`
 abbrev pub is_many : Term → Bool
 is_many Many = true
 is_many term = false

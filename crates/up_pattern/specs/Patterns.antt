@@ -31,6 +31,7 @@ element_of piece =
     if is_element piece then option_and_then (λ terms. if hides_step piece terms then None else Some terms) (terms_of (chars piece))
     else None
 
+-- whether a piece is no element of a pattern
 abbrev pub is_bad : List ℕ → Bool
 is_bad piece = not (is_some (element_of piece))
 
@@ -47,6 +48,7 @@ elements_unless (Some place) pieces = Err (Element place)
 unfoldable pub elements_of : List (List ℕ) → Result (List (List Term)) PatternFault
 elements_of pieces = elements_unless (position is_bad pieces) pieces
 
+-- the pattern of this owner and these elements, or why there are none
 abbrev pub with_owner : List ℕ → Result (List (List Term)) PatternFault → Result PatternName PatternFault
 with_owner owner (Ok elements) = Ok (record { owner = owner; elements = elements })
 with_owner owner (Err fault) = Err fault

@@ -11,6 +11,7 @@ module _ {D : Type 0} where
   abbrev pub first_tree : TreeSeat D → TreeSeat D
   first_tree place = record place { seat = first_of place.seat }
 
+  -- the seat that was split off from a seat at a tree
   abbrev pub second_tree : TreeSeat D → TreeSeat D
   second_tree place = record place { seat = second_of place.seat }
 
@@ -32,6 +33,7 @@ module _ {D : Type 0} where
 
   -- ---- join
 
+  -- two seats at a tree as one
   abbrev pub both_trees : TreeSeat D → TreeSeat D → TreeSeat D
   both_trees place other = record place { seat = both_of place.seat other.seat }
 
@@ -81,6 +83,7 @@ module _ {D : Type 0} where
   AreWholeTrees [] = Unit {0}
   AreWholeTrees (x ∷ xs) = IsWhole x.seat × AreWholeTrees xs
 
+  -- a caller has the whole share of each cell of a host
   pub record AreWhole (seats : Seats D) : Type 0 where
     pub trees : AreWholeTrees seats.trees.items
     pub store : IsWhole seats.store

@@ -27,20 +27,24 @@ IsAsked other = ⊥
 
 -- ---- the reply by what came of the blocks' call
 
+-- the reply to what the blocks refused
 abbrev pub refused_reply : BlockWhy → Reply
 refused_reply why.NotExist = reply.NotExist
 refused_reply (why.Full records) = reply.Full records
 refused_reply why.Fault = reply.Io
 refused_reply why.OutOfMemory = reply.OutOfMemory
 
+-- the reply to a Get, by what came of getting the block
 abbrev pub given_reply : Result (List ℕ) BlockWhy → Reply
 given_reply (Ok bytes) = reply.Ok (done.Bytes bytes)
 given_reply (Err reason) = refused_reply reason
 
+-- the reply to a Put, by what came of keeping the block
 abbrev pub put_reply : Result (List ℕ) BlockWhy → Reply
 put_reply (Ok reference) = reply.Ok (done.Reference reference)
 put_reply (Err reason) = refused_reply reason
 
+-- the reply to a Delete, by what came of deleting the block
 abbrev pub deleted_reply : Result ℕ BlockWhy → Reply
 deleted_reply (Ok position) = reply.Ok (done.Changed position)
 deleted_reply (Err reason) = refused_reply reason
@@ -57,6 +61,7 @@ GetsBlock disks None old new answer = Refused (reply.Invalid Reference) old new 
 GetsBlock disks (Some reference) old new answer =
     (given : Result (List ℕ) BlockWhy) × (answer ≡ given_reply given) × GivesBlock disks reference old new given
 
+-- what comes of a Get of this text
 abbrev pub GetsAsked : {D : Type 0} → Ghosts D → List ℕ → LogState D BlockRecord → LogState D BlockRecord → Reply → Type 0
 GetsAsked disks text old new answer = GetsBlock disks (reference_in text) old new answer
 
@@ -65,6 +70,7 @@ abbrev pub PutsOf : {D : Type 0} → Ghosts D → Bool → List ℕ → LogState
 PutsOf disks true bytes old new answer = Refused (reply.Invalid Block) old new answer
 PutsOf disks false bytes old new answer = (put : Result (List ℕ) BlockWhy) × (answer ≡ put_reply put) × PutsBlock disks bytes old new put
 
+-- what comes of a Put of these bytes
 abbrev pub PutsAsked : {D : Type 0} → Ghosts D → List ℕ → LogState D BlockRecord → LogState D BlockRecord → Reply → Type 0
 PutsAsked disks bytes old new answer = PutsOf disks (nat_lt largest_block (length bytes)) bytes old new answer
 
@@ -74,11 +80,13 @@ DeletesBy disks false reference old new answer = Refused (reply.Permission Delet
 DeletesBy disks true reference old new answer =
     (deleted : Result ℕ BlockWhy) × (answer ≡ deleted_reply deleted) × DeletesBlock disks reference old new deleted
 
+-- what comes of a Delete, by the reference that its text is, if it is one
 abbrev pub DeletesOf : {D : Type 0} → Ghosts D → UserName → UserName → Option (List ℕ)
     → LogState D BlockRecord → LogState D BlockRecord → Reply → Type 0
 DeletesOf disks operator user None old new answer = Refused (reply.Invalid Reference) old new answer
 DeletesOf disks operator user (Some reference) old new answer = DeletesBy disks (bytes_eq user operator) reference old new answer
 
+-- what comes of a Delete of this text
 abbrev pub DeletesAsked : {D : Type 0} → Ghosts D → UserName → UserName → List ℕ
     → LogState D BlockRecord → LogState D BlockRecord → Reply → Type 0
 DeletesAsked disks operator user text old new answer = DeletesOf disks operator user (reference_in text) old new answer

@@ -48,6 +48,7 @@ module _ {A V C N Q R : Type 0} (who : Parties A V C N Q R) where
   abbrev pub bytes_from : List (FromClient Q) → List ℕ
   bytes_from came = frames (map (payload_from who.asking) came)
 
+  -- the bytes of the frames that carry what is said to a client
   abbrev pub bytes_to : List (ToClient R) → List ℕ
   bytes_to made = frames (map (payload_to who.answering) made)
 

@@ -40,6 +40,7 @@ use Rattle.up_wire.specs.declared.messages.ServerFrame.TheVariants as servers
 
 -- ---- what a connection stands among, of its parts
 
+-- what is known of a connection's parties, of what each of them tells
 abbrev pub parties : {A V C N Q R : Type 0} → answers.Ghosts A Q R → fields.Ghosts R
     → verifier.Ghosts V → clock.Ghosts C → nonces.Ghosts N → Parties A V C N Q R
 parties answerers spelled verifiers clocks drawn = record {
@@ -56,17 +57,21 @@ parties answerers spelled verifiers clocks drawn = record {
   challenges = drawn.coming;
 }
 
+-- what stands around a connection
 abbrev pub around : {A V C N : Type 0} → A → V → C → N → Around A V C N
 around answerer verifier clock nonces = record { answerer = answerer; verifier = verifier; clock = clock; nonces = nonces }
 
+-- the two ends of a connection, by what source and sink tell
 abbrev pub ends : {S K : Type 0} → source.Ghosts S → sink.Ghosts K → S → K → Ends
 ends sources sinks from to =
     record { left = sources.left from; given = sources.given from; read_faults = sources.faults from; held = sinks.held to; write_faults = sinks.faults to }
 
+-- the two ends of a connection, whose source has come to this
 abbrev pub ends_at : {K : Type 0} → Option (List ℕ) → ℕ → ℕ → sink.Ghosts K → K → Ends
 ends_at left given faults sinks to =
     record { left = left; given = given; read_faults = faults; held = sinks.held to; write_faults = sinks.faults to }
 
+-- all that a connection stands among
 abbrev pub world : {A V C N : Type 0} → Around A V C N → Ends → World A V C N
 world among at = record { around = among; ends = at }
 
@@ -102,11 +107,13 @@ AsksOrBye {Q} asking fits payload None = (client clients.Bye ≢ payload) × ((q
 
 -- What a client says to a connection that stands so, by a payload; or it is the payload of nothing that may come.
 module _ {Q : Type 0} (asking : Q → List ℕ) (fits : Q → Type 0) where
+  -- this payload says this to a connection that stands so
   pub record SaysThis (standing : Standing) (payload : List ℕ) (f : FromClient Q) : Type 0 where
     pub spelled : payload_from asking f ≡ payload
     pub fit : Fits fits f
     pub unfit : may_come standing f ≡ false → IsUnfit asking fits standing payload
 
+  -- What a client says to a connection that stands so, by a payload; or it is the payload of nothing that may come.
   abbrev pub Says : Standing → List ℕ → Option (FromClient Q) → Type 0
   Says standing payload (Some f) = SaysThis standing payload f
   Says standing payload None = IsUnfit asking fits standing payload
@@ -204,6 +211,7 @@ module _ {A C Q R : Type 0} (answering : R → List ℕ) (calls : A → UserName
     pub read : Gives (coming c) moment (coming d)
     pub asked : calls a signing.user question moment answer b
 
+  -- what came of a question: it is answered, or may not come now, or there was no memory for the answer
   abbrev pub AskCame : Q → Stage → A → C → List ℕ → Result (Unit {0}) Stop → A → C → List ℕ → Type 0
   AskCame question stage a c out (Ok done) b d new =
       (answer : R) × (Replied question stage a c answer b d × Puts out (answering answer) new)
@@ -251,6 +259,7 @@ module _ {A V C N Q R : Type 0} (who : Parties A V C N Q R) where
   HandledFrom a standing came made b f out (Err stop.OutOfMemory) then c new =
       (new ≡ out) × ((c ≡ b) ⊎ ((last : Standing) × ((sent : ToClient R) × Transcript who a last (came ++ f ∷ []) (made ++ sent ∷ []) c)))
 
+  -- what a client said was handled, whatever came before it on the connection
   abbrev pub Handled : Standing → Around A V C N → FromClient Q → List ℕ
       → Result (Unit {0}) Stop → Standing → Around A V C N → List ℕ → Type 0
   Handled standing b f out result then c new =
@@ -296,10 +305,12 @@ module _ {A V C N Q R : Type 0} (who : Parties A V C N Q R) where
     pub written : unwritten ≡ []
     pub partial : IsPartial longest incoming.bytes
 
+  -- a whole connection, with its answerer tied
   pub record Talked (a b : World A V C N) (end : TalkEnd) : Type 0 where
     pub talks : Talks who a b end
     pub tie : who.tied a.around.answerer b.around.answerer
 
+  -- one more turn of a connection: it waits for more, or it ended
   abbrev pub Turned : World A V C N → World A V C N → Standing → Held → List ℕ → Result (Unit {0}) TalkEnd → Type 0
   Turned a b standing incoming unwritten (Ok done) = Waiting a b standing incoming unwritten
   Turned a b standing incoming unwritten (Err end) = Talked a b end

@@ -86,6 +86,7 @@ endpoint_named piece =
     if bytes_eq piece (codes "local") then Some Local
     else option_map (λ address. Address address) (address_named piece)
 
+-- the endpoints that the pieces of a list stand for, where each stands for one
 unfoldable pub all_endpoints : List Text → Option (List Endpoint)
 all_endpoints [] = Some []
 all_endpoints (piece ∷ more) = do

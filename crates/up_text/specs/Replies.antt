@@ -47,6 +47,7 @@ element_words _ = []
 abbrev pub row_words : Row → List Text
 row_words row = codes "row" ∷ decimal row.rest ∷ entry_words row.entry
 
+-- the word of an event: `delete` or `put`
 abbrev pub event_kind : Bool → Text
 event_kind true = codes "delete"
 event_kind false = codes "put"
@@ -59,6 +60,7 @@ event_words event = codes "event" ∷ decimal event.position ∷ event_kind even
 abbrev pub key_words : KeyRecord → List Text
 key_words known = coded known.user ∷ endpoints_word known.dirs ∷ endpoints_word known.stores ∷ coded known.key ∷ []
 
+-- the words that tell which Access file governs: its entry, or `none`
 abbrev pub access_words : Option Entry → List Text
 access_words None = codes "none" ∷ []
 access_words (Some entry) = entry_words entry
@@ -108,5 +110,6 @@ reply_words (reply.Full records) = (codes "full" ∷ decimal records ∷ []) ∷
 reply_words reply.Io = (codes "io" ∷ []) ∷ []
 reply_words reply.OutOfMemory = []
 
+-- the lines of a reply, each of its words
 unfoldable pub reply_lines : Reply → List Text
 reply_lines given = map (λ words. spaced words) (reply_words given)

@@ -61,6 +61,7 @@ coded_byte b = if is_coded b then escape b else b ∷ []
 abbrev pub parts_fields : ℕ → Bool
 parts_fields b = b == 58 || b == 44
 
+-- a byte inside a block's fields or a list of endpoints, where `:` and `,` are coded too
 abbrev pub field_byte : ℕ → List ℕ
 field_byte b = if parts_fields b then escape b else coded_byte b
 

@@ -83,9 +83,11 @@ together_among loaders verifiers clocks drawn = record {
   challenges = drawn.coming;
 }
 
+-- this shared host, with these seats and these peers
 abbrev pub host_together : {D L : Type 0} → Shared D → Seats D → L → HostTogether D L
 host_together shared seats peers = record { shared = shared; seats = seats; peers = peers }
 
+-- this shared host with these seats and peers, and what a connection has around it
 abbrev pub together_at : {D L V C N : Type 0} → Shared D → Seats D → L → V → C → N → Around (HostTogether D L) V C N
 together_at shared seats peers verifier clock nonces =
     record { answerer = host_together shared seats peers; verifier = verifier; clock = clock; nonces = nonces }

@@ -63,6 +63,7 @@ log_of state = record { owner = state.owner; limits = state.limits; records = st
 abbrev pub entries_of : {D : Type 0} → State D → List Rec
 entries_of state = state.log
 
+-- the part of a tree that stays: its owner and its limits
 abbrev pub fixed_of : {D : Type 0} → State D → UserName × Limits
 fixed_of state = (state.owner, state.limits)
 

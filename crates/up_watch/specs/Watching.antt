@@ -35,6 +35,7 @@ now watching = record { owner = watching.owner; tree = tree_of watching.log; loa
 abbrev pub after : Watching → ℕ → Look
 after watching n = record { owner = watching.owner; tree = tree_at watching.log n; loaded = watching.loaded; user = watching.user }
 
+-- what a record changed, as Watch tells it
 abbrev pub change_of : Changed → Change
 change_of changed = record { delete = changed.delete; entry = changed.entry.now }
 
