@@ -227,7 +227,8 @@ InStep user loadings one two [] [] = ⊤
 InStep user loadings one two [] (turn ∷ turns) = ⊥
 InStep user loadings one two (turn ∷ turns) [] = ⊥
 InStep user loadings one two (a ∷ as') (b ∷ bs) =
-    (((a.user ≡ user) × (a ≡ b) × Contains loadings (used a.request a.loaded)) ⊎ ((a.user ≢ user) × (b.user ≢ user) × Agree user loadings (after_turn one a) (after_turn two b)))
+    (((a.user ≡ user) × (a ≡ b) × Contains loadings (used a.request a.loaded))
+    ⊎ ((a.user ≢ user) × (b.user ≢ user) × Agree user loadings (after_turn one a) (after_turn two b)))
     × InStep user loadings (after_turn one a) (after_turn two b) as' bs
 
 -- Two logs that agree for a user at the start give the user the same replies, turn by turn.

@@ -114,7 +114,8 @@ log_from format (suc most) largest gate link bytes =
     then (if is_whole (head_size_of format) largest bytes
     then (if bytes_eq (link_at format bytes) link
     then after_payloads (payload_at (head_size_of format) bytes ∷ [])
-    (log_from format most largest (gate + head_size_of format + size_at bytes) (format.next_link (record_at format bytes)) (next_gate (head_size_of format) bytes))
+    (log_from format most largest (gate + head_size_of format + size_at bytes) (format.next_link (record_at format bytes))
+    (next_gate (head_size_of format) bytes))
     else Err (Chain gate link (link_at format bytes)))
     else Err (Damaged gate))
     else Ok []

@@ -67,7 +67,8 @@ unfolding facts_of group_paths
 group_listed seen path some =
     let make : PathName → Node → Option ⊤ = λ p n. if is_group_file p n then Some tt else None in
     key_there (made_of make (tree_of seen.records)) path
-    (ap is_some (find-made make path (tree_of seen.records) (tree_sorted seen.records) ∙ group_is (tree_of seen.records) path) ∙ go (group_node (tree_of seen.records) path) some)
+    (ap is_some (find-made make path (tree_of seen.records) (tree_sorted seen.records) ∙ group_is (tree_of seen.records) path)
+    ∙ go (group_node (tree_of seen.records) path) some)
   where
     go : (o : Option Node) → IsSome (option_map (items_of seen.owner) o) → is_some (option_map {U = ⊤} (λ (n : Node). tt) o) ≡ true
     go None h = absurd (false≢true h)

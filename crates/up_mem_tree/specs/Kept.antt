@@ -56,7 +56,8 @@ HasAbove paths path = MatchOption (parent_of path) ⊤ (λ dir. has_path paths d
 -- what changes in the directory of a path, where `after` makes its children others
 abbrev pub IsAboveIn : Kept → PathName → ℕ → (List PathName → List PathName) → Option (Change (List Rule)) → Option ParentStep → Type 0
 IsAboveIn kept path id after access above = MatchOption (parent_of path) (above ≡ None) (λ dir. MatchOption above ⊥
-    (IsAboveTo (paths_of kept) (slots_of kept) path id dir (children (tree_of kept.log.items) dir) (after (children (tree_of kept.log.items) dir)) access))
+    (IsAboveTo (paths_of kept) (slots_of kept) path id dir (children (tree_of kept.log.items) dir)
+    (after (children (tree_of kept.log.items) dir)) access))
 
 -- the step of a record that changes a path, after which that node stands there
 abbrev pub IsStepIn : Kept → Rec → PathName → Option Node → Step → Type 0

@@ -27,7 +27,8 @@ abbrev pub SpellsRange : Range → List Token → Type 0
 SpellsRange range piece =
     ((c : Token) × (piece ≡ c ∷ []) × (range_of c c ≡ Some range))
     ⊎
-    ((low : Token) × (dash : Token) × (high : Token) × (piece ≡ low ∷ dash ∷ high ∷ []) × (is_dash dash ≡ true) × (range_of low high ≡ Some range))
+    ((low : Token) × (dash : Token) × (high : Token) × (piece ≡ low ∷ dash ∷ high ∷ []) × (is_dash dash ≡ true)
+    × (range_of low high ≡ Some range))
 
 -- tokens can be cut into pieces, one for each range, that are written so
 abbrev pub SpellsRanges : List Range → List Token → Type 0
@@ -47,7 +48,8 @@ abbrev pub SpellsTerm : Term → List Token → Type 0
 SpellsTerm term piece =
     ((token : Token) × (piece ≡ token ∷ []) × (is_sign (byte "[") token ≡ false) × (term_of token ≡ term))
     ⊎
-    ((opening : Token) × (inside : List Token) × (closing : Token) × (piece ≡ opening ∷ (inside ++ closing ∷ [])) × (is_sign (byte "[") opening ≡ true)
+    ((opening : Token) × (inside : List Token) × (closing : Token) × (piece ≡ opening ∷ (inside ++ closing ∷ []))
+    × (is_sign (byte "[") opening ≡ true)
     × (list_any is_close inside ≡ false) × (is_close closing ≡ true) × SpellsClass term inside)
 
 -- A text is an element of these terms where it spells tokens that can be cut into pieces, one for each term, that are

@@ -148,11 +148,13 @@ module _ {A N : Type 0} (name : A → List ℕ) (looked : A → UserName → Opt
   abbrev pub ChallengeCame : UserName → A → N → List ℕ → Result (Unit {0}) Stop → Stage → A → N → List ℕ → Type 0
   ChallengeCame user a n out (Ok done) then b m new =
       (signing : Signing) ×
-      ((nonce : List ℕ) × (Draws name looked coming user a n signing nonce b m × (then ≡ stages.Challenged signing) × Puts out (server (servers.Challenge nonce)) new))
+      ((nonce : List ℕ) × (Draws name looked coming user a n signing nonce b m × (then ≡ stages.Challenged signing)
+      × Puts out (server (servers.Challenge nonce)) new))
   ChallengeCame user a n out (Err stop.NotSigned) then b m new = looked a user None b × (m ≡ n) × Puts out (server servers.NotSigned) new
   ChallengeCame user a n out (Err stop.OutOfMemory) then b m new =
       (new ≡ out) ×
-      (((b ≡ a) × (m ≡ n)) ⊎ ((looked a user None b × (m ≡ n)) ⊎ ((signing : Signing) × ((nonce : List ℕ) × Draws name looked coming user a n signing nonce b m))))
+      (((b ≡ a) × (m ≡ n)) ⊎ ((looked a user None b × (m ≡ n))
+      ⊎ ((signing : Signing) × ((nonce : List ℕ) × Draws name looked coming user a n signing nonce b m))))
   ChallengeCame user a n out (Err stop.Unfit) then b m new = ⊥
   ChallengeCame user a n out (Err stop.Bye) then b m new = ⊥
   ChallengeCame user a n out (Err stop.HelperFault) then b m new = ⊥
@@ -161,13 +163,15 @@ module _ {A N : Type 0} (name : A → List ℕ) (looked : A → UserName → Opt
   abbrev pub HelloCame : List ℕ → Stage → A → N → List ℕ → Result (Unit {0}) Stop → Stage → A → N → List ℕ → Type 0
   HelloCame text stage a n out (Ok done) then b m new =
       (stage ≡ stages.Unsaid) ×
-      ((signing : Signing) × ((nonce : List ℕ) × (Greets name looked coming text a n signing nonce b m × (then ≡ stages.Challenged signing) × Puts out (server (servers.Challenge nonce)) new)))
+      ((signing : Signing) × ((nonce : List ℕ) × (Greets name looked coming text a n signing nonce b m
+      × (then ≡ stages.Challenged signing) × Puts out (server (servers.Challenge nonce)) new)))
   HelloCame text stage a n out (Err stop.Unfit) then b m new = (comes stage (says.Hello text) ≡ false) × (b ≡ a) × (m ≡ n) × (new ≡ out)
   HelloCame text stage a n out (Err stop.NotSigned) then b m new =
       (stage ≡ stages.Unsaid) × Unmet name looked coming text a n b m × Puts out (server servers.NotSigned) new
   HelloCame text stage a n out (Err stop.OutOfMemory) then b m new =
       (stage ≡ stages.Unsaid) × (new ≡ out) ×
-      (((b ≡ a) × (m ≡ n)) ⊎ (Unmet name looked coming text a n b m ⊎ ((signing : Signing) × ((nonce : List ℕ) × Greets name looked coming text a n signing nonce b m))))
+      (((b ≡ a) × (m ≡ n)) ⊎ (Unmet name looked coming text a n b m
+      ⊎ ((signing : Signing) × ((nonce : List ℕ) × Greets name looked coming text a n signing nonce b m))))
   HelloCame text stage a n out (Err stop.Bye) then b m new = ⊥
   HelloCame text stage a n out (Err stop.HelperFault) then b m new = ⊥
 
@@ -190,16 +194,19 @@ module _ {V : Type 0} (judged : V → Option (List Judged)) where
   abbrev pub ProofCame : List ℕ → Stage → V → List ℕ → Result (Unit {0}) Stop → Stage → V → List ℕ → Type 0
   ProofCame signature stage v out (Ok done) then w new =
       (signing : Signing) ×
-      ((stage ≡ stages.Challenged signing) × (then ≡ stages.Signed signing) × Grew (judged v) (judged w) (judged_of signing signature Yes ∷ []) × Puts out (server servers.Welcome) new)
+      ((stage ≡ stages.Challenged signing) × (then ≡ stages.Signed signing)
+      × Grew (judged v) (judged w) (judged_of signing signature Yes ∷ []) × Puts out (server servers.Welcome) new)
   ProofCame signature stage v out (Err stop.Unfit) then w new = (comes stage (says.Proof signature) ≡ false) × (w ≡ v) × (new ≡ out)
   ProofCame signature stage v out (Err stop.NotSigned) then w new =
       (signing : Signing) ×
-      ((stage ≡ stages.Challenged signing) × Grew (judged v) (judged w) (judged_of signing signature No ∷ []) × Puts out (server servers.NotSigned) new)
+      ((stage ≡ stages.Challenged signing) × Grew (judged v) (judged w) (judged_of signing signature No ∷ [])
+      × Puts out (server servers.NotSigned) new)
   ProofCame signature stage v out (Err stop.HelperFault) then w new =
       (signing : Signing) × ((stage ≡ stages.Challenged signing) × (judged w ≡ judged v) × (new ≡ out))
   ProofCame signature stage v out (Err stop.OutOfMemory) then w new =
       (signing : Signing) ×
-      ((stage ≡ stages.Challenged signing) × (new ≡ out) × (Grew (judged v) (judged w) (judged_of signing signature Yes ∷ []) ⊎ Grew (judged v) (judged w) (judged_of signing signature No ∷ [])))
+      ((stage ≡ stages.Challenged signing) × (new ≡ out) × (Grew (judged v) (judged w) (judged_of signing signature Yes ∷ [])
+      ⊎ Grew (judged v) (judged w) (judged_of signing signature No ∷ [])))
   ProofCame signature stage v out (Err stop.Bye) then w new = ⊥
 
 module _ {A C Q R : Type 0} (answering : R → List ℕ) (calls : A → UserName → Q → ℕ → R → A → Type 0) (coming : C → Option (Coming ℕ)) where
