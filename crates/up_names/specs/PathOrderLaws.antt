@@ -63,11 +63,8 @@ is_eq-Equal Greater h = absurd (false≢true h)
 
 -- comparing two paths decides whether they are equal
 path_cmp-Decides : (p q : PathName) → Decides (is_eq (path_cmp p q)) (p ≡ q)
-path_cmp-Decides p q = (
-  λ h. path_exact p q (is_eq-Equal (path_cmp p q) h),
-  λ same. ap (λ r. is_eq (path_cmp p r)) (sym same)
-      ∙ ap is_eq (tied_itself path_cmp_total p),
-)
+path_cmp-Decides p q =
+    (λ h. path_exact p q (is_eq-Equal (path_cmp p q) h), λ same. ap (λ r. is_eq (path_cmp p r)) (sym same) ∙ ap is_eq (tied_itself path_cmp_total p))
 
 -- `==` and the order say one thing
 pub path_cmp_eq : (p q : PathName) → path_eq p q ≡ is_eq (path_cmp p q)
