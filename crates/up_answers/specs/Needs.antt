@@ -38,7 +38,7 @@ event_places log sequence path n = elim (change_at log.records n) [
       then (tree_of log.records, change.entry.name) ∷ (tree_at log.records (suc n), change.entry.name) ∷ [] else []
 ]
 
--- the same of the first n records, in order
+-- the places that Watch looks at for the events of the first n records, in order
 abbrev pub event_places_to : Log → ℕ → PathName → ℕ → List Place
 event_places_to log sequence path zero = []
 event_places_to log sequence path (suc n) = event_places_to log sequence path n ++ event_places log sequence path n

@@ -17,7 +17,7 @@ use Rattle.up_list.specs.Looks.{Look, has_some, shown, look_now}
 use Rattle.up_list.specs.Checks.{check, ways}
 use Rattle.up_answers.specs.Events.{events}
 
--- of a record above a sequence, on a path under the watched one
+-- whether an event is of a record above a sequence, on a path under the watched one
 abbrev pub is_watched : ℕ → PathName → WatchEvent → Bool
 is_watched sequence path event = nat_lt sequence event.position && is_under event.entry.name path
 

@@ -59,7 +59,7 @@ abbrev pub block_of : BlockRecord → Option (Option (List ℕ))
 block_of (Put reference size bytes) = Some bytes
 block_of (Delete reference) = None
 
--- and its size
+-- the size of the block that a record puts
 abbrev pub size_put : BlockRecord → Option ℕ
 size_put (Put reference size bytes) = Some size
 size_put (Delete reference) = None

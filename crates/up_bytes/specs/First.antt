@@ -45,6 +45,6 @@ pub record BehindFails (rows : List (ℕ × (Input → FieldFault → Type 0))) 
 abbrev pub tagged_fails : List (ℕ × (Input → FieldFault → Type 0)) → Input → FieldFault → Type 0
 tagged_fails rows input fault = (byte_at input ≡ Err fault) ⊎ BehindFails rows input fault
 
--- where that fails first, it is answered, however much memory there is
+-- a fault that comes first is answered, however much memory there is
 abbrev pub IsFirst : {X : Type 0} → (FieldFault → Type 0) → Result X FieldFault → Type 0
 IsFirst fails result = (fault : FieldFault) → fails fault → result ≡ Err fault

@@ -18,7 +18,7 @@ abbrev pub Answers : {X Y : Type 0} → (X → Y) → Result X FieldFault → Re
 Answers view (Ok x) meant = meant ≡ Ok (view x)
 Answers view (Err e) meant = meant ≡ Err e
 
--- the same of a call that takes memory, and may find none
+-- A call that takes memory gives what is meant, seen by `view`, or the fault that is meant; or it finds no memory.
 abbrev pub Gives : {X Y : Type 0} → (X → Y) → Result X FieldFault → Result Y FieldFault → Type 0
 Gives view (Ok x) meant = meant ≡ Ok (view x)
 Gives view (Err e) meant = e ≢ OutOfMemory → meant ≡ Err e

@@ -29,7 +29,7 @@ pub record IsAskedFor {L : Type 0} (loader : Ghosts L) (operator : UserName) (a 
   pub blocks : Asks loader.fetches loader.faults loader.tied is_failed block_question block_answer old between e.fetched
   pub groups : Asks loader.loads loader.faults loader.tied load_failed (group_question operator a) (group_answer a) between new e.loaded
 
--- it was asked for some blocks, and then for some groups
+-- the loader was asked for some blocks, and then for some groups
 pub record IsTried {L : Type 0} (loader : Ghosts L) (old new : L) : Type 0 where
   pub between : L
   pub blocks : Tries loader.fetches loader.faults loader.tied old between
@@ -51,7 +51,7 @@ pub record TreeSays (view : SeenTree) (q : Question) (e : Event)
   pub added : records_added
       ≡ (if is_changed said then added (record (log_seen view) { records = records }) e.loaded e.fetched q.user q.request e.moment else [])
 
--- it would be a position
+-- the answer over these records would be a position, for which the disk is needed
 abbrev pub TreeNeedsDisk : SeenTree → Question → Event → List Rec → Type 0
 TreeNeedsDisk view q e records =
     is_changed (answer (record (log_seen view) { records = records }) e.loaded e.fetched q.user q.request e.moment) ≡ true
@@ -65,7 +65,7 @@ pub record IsReady (operator : UserName) (a b : Views) (v w : SeenTree) (q : Que
   pub few : length e.loaded ≤ 1024
   pub texts : OwnTexts operator a b e.loaded
 
--- at one point of the log, or the disk failed
+-- a tree answered at one point of its log, or its disk failed
 abbrev pub TreeTurn : UserName → Views → Views → SeenTree → SeenTree → Question → Event → Type 0
 TreeTurn operator a b v w q e =
     (IsReplied (TreeSays w q e) v w e × IsReady operator a b v w q e e.position)
@@ -73,7 +73,7 @@ TreeTurn operator a b v w q e =
 
 -- ---- the store's and the keys'
 
--- nothing is loaded or fetched for them
+-- nothing was loaded or fetched
 pub record IsPlain (e : Event) : Type 0 where
   pub loaded : e.loaded ≡ []
   pub fetched : e.fetched ≡ []

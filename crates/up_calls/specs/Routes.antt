@@ -66,7 +66,7 @@ refusal_by a q service.Directory = route_refusal a (route_of q.user q.request)
 refusal_by a q service.Store = option_map (λ what. reply.Invalid what) (store_fault q.request)
 refusal_by a q service.Keys = option_map (λ what. reply.Invalid what) (key_fault q.request)
 
--- The reply for which no log is looked at: something of the question is malformed, or the host does not have the tree.
+-- the reply to a question for which no log is looked at, whoever is asked
 unfoldable pub refusal : Views → Question → Option Reply
 refusal a q = refusal_by a q (service_of q.request)
 

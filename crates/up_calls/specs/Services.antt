@@ -33,14 +33,14 @@ abbrev pub reference_fault : Option (List ℕ) → Option What
 reference_fault None = Some Reference
 reference_fault (Some reference) = None
 
--- to a store: no reference, or a block that is too long
+-- what is malformed of a request to a store: it has no reference, or a block that is too long
 abbrev pub store_fault : Request → Option What
 store_fault (request.Get text) = reference_fault (reference_in text)
 store_fault (request.StorePut bytes) = if nat_lt largest_block (length bytes) then Some Block else None
 store_fault (request.StoreDelete text) = reference_fault (reference_in text)
 store_fault other = None
 
--- to the keys: no user, or bounds that are not kept
+-- what is malformed of a lookup of the keys: it names no user
 abbrev pub lookup_fault : {E : Type 0} → Result UserName E → Option What
 lookup_fault (Ok user) = None
 lookup_fault (Err fault) = Some Name

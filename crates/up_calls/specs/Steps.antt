@@ -71,7 +71,7 @@ abbrev pub said_at : Reply → ℕ → Turn
 said_at reply.OutOfMemory position = turn.Wanting
 said_at other position = turn.Said other position
 
--- one turn of a tree
+-- one turn of a tree came to this
 abbrev pub Tried : {D : Type 0} → Ghosts D → Question → Loading → Fetched → ℕ → State D → State D → Turn → Type 0
 Tried disks q loaded fetched now old new (turn.Missing names) = Lacks q loaded old new names
 Tried disks q loaded fetched now old new (turn.Said said position) = Answers disks q loaded fetched now old new said position
@@ -108,7 +108,7 @@ pub record StoreTried {D : Type 0} (disks : Ghosts D) (operator : UserName) (q :
   pub stays : KeepsSettled disks old new
   pub position_is : position ≡ length old.log
 
--- so did the keys
+-- the keys were asked in one turn, as the store is
 pub record KeysTried {D : Type 0} (disks : Ghosts D) (q : Question)
     (old new : LogState D KeyRecord) (said : Reply) (position : ℕ) : Type 0 where
   pub done : IsDone (λ log. KeysSay) (key_fault q.request) (key_leads q.user q.request old.limits old.log)

@@ -62,11 +62,11 @@ next_to more None = Ok None
 next_to zero (Some next) = Err TooManyLinks
 next_to (suc more) (Some next) = short next >>= (λ fit. Ok (Some fit))
 
--- it is asked there, or what was done is done
+-- what a reply leads to: the client asks at the next path, or what was done is done
 abbrev pub step_of : Reply → Option PathName → Result Step ClientFault
 step_of reply (Some next) = Ok (steps.On next)
 step_of reply None = outcome reply >>= (λ d. Ok (steps.Done d))
 
--- where a reply leads, of at most so many more, or what was done
+-- what a reply at a path leads to, of at most so many more links
 abbrev pub step_to : ℕ → PathName → Reply → Result Step ClientFault
 step_to more path reply = next_to more (leads_to path reply) >>= step_of reply

@@ -8,7 +8,7 @@ use Rattle.up_disk.specs.Pending.{done, content_after, MayMake, MayLeave, padded
 use Rattle.up_disk.specs.declared.call.Call.{Call}
 use Rattle.up_disk.specs.declared.call.Call.TheVariants.{Write, Cut, Sync}
 
--- a write may have left nothing
+-- a write may have left all as it was
 pub torn_self : (at n : ℕ) (bytes : List ℕ) → Torn at n bytes bytes
 torn_self at n bytes = record { before = take_min at bytes; after = refl; no_shorter = omega arith; no_longer = omega arith }
 
@@ -32,7 +32,7 @@ length-padded size bytes =
 take-padded : (n size : ℕ) (bytes : List ℕ) → n ≤ length bytes → take n (padded size bytes) ≡ take n bytes
 take-padded n size bytes le = take-append-le n bytes (replicate (size - length bytes) 0) le
 
--- bytes with zeros after them up to a size are behind that size as they were
+-- bytes with zeros after them up to a size are after that size as they were
 drop-padded : (n size : ℕ) (bytes : List ℕ) → size ≤ n → drop n (padded size bytes) ≡ drop n bytes
 drop-padded n size bytes le = elim (cases_lt n (length bytes)) [
   | inl short ↦
@@ -67,7 +67,7 @@ torn_put at n place new bytes low high =
       no_longer = omega arith;
     }
 
--- a write may have left zeros in place of its bytes
+-- a write may have left zeros where the bytes had ended, and nothing else
 pub torn_padded : (at n : ℕ) (bytes : List ℕ) → Torn at n bytes (padded (at + n) bytes)
 torn_padded at n bytes = record {
   before = take-padded (min at (length bytes)) (at + n) bytes (omega arith) ∙ take_min at bytes;
@@ -76,7 +76,7 @@ torn_padded at n bytes = record {
   no_longer = omega (arith, length-padded (at + n) bytes);
 }
 
--- each call may have been done whole
+-- what a call did is one of the things that it may have made
 pub made : (call : Call) (bytes : List ℕ) → MayMake call bytes bytes (done call bytes)
 made (Write w) bytes =
     torn_put w.at (length w.bytes) w.at (take w.landed w.bytes) bytes (omega arith) (omega (arith, length-take w.landed w.bytes))

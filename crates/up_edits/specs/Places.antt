@@ -19,7 +19,7 @@ abbrev pub rank : Endpoint → List ℕ
 rank Local = []
 rank (Address bytes) = 1 ∷ bytes
 
--- by the reference, and then by the endpoint
+-- locations in order of reference, and then of endpoint
 abbrev pub location_cmp : Location → Location → Ordering
 location_cmp a b = ordering_then (slice_cmp nat_cmp a.reference b.reference) (slice_cmp nat_cmp (rank a.endpoint) (rank b.endpoint))
 

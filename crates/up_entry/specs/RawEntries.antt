@@ -61,7 +61,7 @@ pub record IsRawEntry (put : PutEntry) : Type 0 where
   pub blocks : IsList IsBlock put.blocks
   pub sequence : IsI64 put.sequence
 
--- it has a spelling where no address of its blocks is empty
+-- an entry as it is handed to Put has a spelling where no address of its blocks is empty
 abbrev pub IsSpelledRaw : PutEntry → Type 0
 IsSpelledRaw put = AllByRecursion (λ b. HasAddress b.location.endpoint) put.blocks
 

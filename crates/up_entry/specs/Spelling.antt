@@ -151,7 +151,7 @@ FitsBlocks = IsList FitsBlock
 abbrev pub FitsEntry : Entry → Type 0
 FitsEntry e = IsEntry e × IsSpelled e
 
--- those without the incomplete mark
+-- an entry that fits, without the incomplete mark
 abbrev pub FitsWhole : Entry → Type 0
 FitsWhole e = FitsEntry e × (e.attr.incomplete ≡ false)
 

@@ -35,7 +35,7 @@ pub record AreFirst (records : List Rec) (texts : List (List ℕ)) : Type 0 wher
 abbrev pub Follows : List Rec → List (List ℕ) → Type 0
 Follows log leader = AreFirst log leader
 
--- It is the whole of it.
+-- a log is the whole of the leader's, whose texts spell its records
 abbrev pub IsAllOf : List Rec → List (List ℕ) → Type 0
 IsAllOf log leader = records_of record_in leader ≡ Some log
 

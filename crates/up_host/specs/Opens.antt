@@ -32,38 +32,38 @@ store_limits limits = record { records = limits.records; device = limits.device;
 
 -- ---- one disk
 
--- It was opened, and did not fail.
+-- A log was opened on a disk, and the disk did not fail.
 pub record IsLogOn {D R : Type 0} (disks : Ghosts D) (read : Reader R) (limits : Limits) (disk : D) (log : LogState D R) : Type 0 where
   pub opens : OpensLog disks read limits disk log
   pub opened : IsOpened disks limits.largest disk log.disk ⊥
   pub counts : HasCause (disks.faults disk) (disks.faults log.disk) ⊥
 
--- It was refused. It failed where the fault says so.
+-- A disk was refused as a log, and failed where the fault says so.
 pub record IsNoLog {D R : Type 0} (disks : Ghosts D) (read : Reader R) (limits : Limits) (disk : D) (fault : OpenFault D) : Type 0 where
   pub refuses : RefusesLog disks read limits disk fault
   pub opened : IsOpened disks limits.largest disk fault.disk (fault.why ≡ why.Fault)
   pub counts : HasCause (disks.faults disk) (disks.faults fault.disk) (fault.why ≡ why.Fault)
 
--- it was opened as the tree of an owner, whose base is its length
+-- a disk was opened as the tree of an owner, whose base is its length
 pub record OpensTree {D : Type 0} (disks : Ghosts D) (limits : Limits)
     (owner : UserName) (disk : D) (held : Held (tree.State D)) : Type 0 where
   pub owner_is : held.state.owner ≡ owner
   pub log : IsLogOn disks (tree.records_in owner) limits disk (tree.over_journal held.state)
   pub base_is : held.base ≡ length held.state.log
 
--- or as the store or the keys
+-- a disk was opened as the store or the keys, whose base is its length
 pub record OpensHeld {D R : Type 0} (disks : Ghosts D) (read : Reader R)
     (limits : Limits) (disk : D) (held : Held (LogState D R)) : Type 0 where
   pub log : IsLogOn disks read limits disk held.state
   pub base_is : held.base ≡ length held.state.log
 
--- it was opened, and was handed back
+-- a disk was opened as a log, and was handed back
 pub record WasOpened {D R : Type 0} (disks : Ghosts D) (read : Reader R) (limits : Limits) (disk after : D) : Type 0 where
   pub log : LogState D R
   pub opened : IsLogOn disks read limits disk log
   pub disk_is : log.disk ≡ after
 
--- as which log
+-- a disk was opened as this log, and was handed back
 abbrev pub WasOpenedAs : {D : Type 0} → Ghosts D → Limits → LogName → D → D → Type 0
 WasOpenedAs disks limits (LogName.OfTree owner) disk after = WasOpened disks (tree.records_in owner) limits disk after
 WasOpenedAs disks limits LogName.OfStore disk after = WasOpened disks blocks.blocks_in (store_limits limits) disk after
@@ -113,7 +113,7 @@ pub record OpensHost {D : Type 0} (disks : Ghosts D) (limits : Limits) (name : L
   pub operator_is : host.operator ≡ operator
   pub logs : OpensLogs disks limits owners given host.trees host.store host.keys
 
--- where a refusal is: want of memory has no place
+-- the place of a refusal among the logs; want of memory has the place 0
 abbrev pub place_by : ℕ → OpenWhy → ℕ
 place_by n why.OutOfMemory = 0
 place_by n other = n
@@ -137,7 +137,7 @@ pub record StopsAtOne {D : Type 0} (disks : Ghosts D) (limits : Limits)
   pub why_is : fault.why ≡ refused.why
   pub which_is : fault.which ≡ place_by (length before) refused.why
 
--- or no disk was opened, for want of memory
+-- no disk was opened, for want of memory
 pub record OpensNone {D : Type 0} (given : List D) (fault : HostFault D) : Type 0 where
   pub handed : fault.disks.disks ≡ given
   pub why_is : fault.why ≡ why.OutOfMemory
@@ -164,7 +164,7 @@ pub record TakesTrees {D : Type 0} (disks : Ghosts D) (limits : Limits) (owners 
   pub taken : old ≡ used ++ new
   pub opened : OpensTrees disks limits owners used trees
 
--- or so were some, and the next one was refused
+-- some of the first disks were opened as the trees of the first of these owners, and the next one was refused
 pub record StopsAtTree {D : Type 0} (disks : Ghosts D) (limits : Limits) (owners : List UserName)
     (old new : List D) (trees : List (Held (tree.State D))) (fault : OpenFault D) : Type 0 where
   pub before : List UserName

@@ -39,7 +39,7 @@ abbrev pub text_by : {D : Type 0} → Option (Held (tree.State D)) → UserName 
 text_by (Some held) asker path = group_text_answer (tree.log_of held.state) asker path
 text_by None asker path = answer_elsewhere path
 
--- by a host of these trees
+-- the reply of a host of these trees to the question for a group's text
 abbrev pub group_text_by : {D : Type 0} → List (Held (tree.State D)) → UserName → PathName → Reply
 group_text_by trees asker path = text_by (tree_on trees path.owner) asker path
 

@@ -50,7 +50,7 @@ pub record AreOrdered (own : Option (List ℕ)) (first next : Event) : Type 0 wh
   pub never_falls : first.position ≤ next.position
   pub behind_own : (n : ℕ) (positions : List ℕ) → own ≡ Some positions → Contains positions n → n ≤ next.position
 
--- in a run that starts with these views
+-- the answers of a run that starts with these views are ordered, log by log
 abbrev pub IsOrdered : {D : Type 0} → disk.Ghosts D → Views → List (Called D) → Type 0
 IsOrdered {D} disks a calls =
     (i j : ℕ) (first next : Called D) (log : LogName) → i < j → slice_get calls i ≡ Some first → slice_get calls j ≡ Some next
@@ -62,7 +62,7 @@ abbrev pub number_of_io : List Event → ℕ
 number_of_io [] = 0
 number_of_io (event ∷ events) = io_of event.reply + number_of_io events
 
--- They are at most as many as the counts of the disks and of the loader rose together, unless these stand at their end.
+-- The replies Io are at most as many as the counts of the disks and of the loader rose together, unless these stand at their end.
 pub record HasFewIo (before after : ℕ) (events : List Event) : Type 0 where
   pub later : before ≤ after
   pub io : after < 2 ^ 64 - 1 → before + number_of_io events ≤ after

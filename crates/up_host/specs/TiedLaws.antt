@@ -49,14 +49,14 @@ same_view x v w p q =
     let same : v ≡ w = cc in
     subst (AddsOwn v) same refl
 
--- where no own record came, and none but own ones come, the log is as long
+-- where no own record came, and none but own ones come, a log stays as long
 as_long : {E F : Type 0} (v w : Seen E F) → AddsOwn v w → w.own ≡ v.own → length v.seen ≡ length w.seen
 as_long v w grown same =
     let p : length w.seen + length v.own ≡ length v.seen + length w.own = grown in
     let k : length w.own ≡ length v.own = ap length same in
     omega (arith, p, k)
 
--- so with a tree that a host has
+-- where no own record came, and none but own ones come, the log of a tree stays as long
 tree_long : (n : ℕ) (x y : Option SeenTree) → LaterTree x y → own_of y ≡ own_of x
     → ((v w : SeenTree) → x ≡ Some v → y ≡ Some w → AddsOwn v w)
     → option_map (λ (v : SeenTree). length v.seen) y ≡ Some n → option_map (λ (v : SeenTree). length v.seen) x ≡ Some n

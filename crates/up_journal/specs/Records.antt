@@ -24,7 +24,7 @@ replay_from step gate state [] = Ok state
 replay_from step gate state (payload ∷ log) =
     or_place gate (step state payload) (λ next. replay_from step (gate + head_size + length payload) next log)
 
--- the same of a whole log
+-- the state to which a whole log leads, or its damage
 abbrev pub replay : {S : Type 0} → (S → List ℕ → Option S) → S → List (List ℕ) → Result S Damage
 replay step start log = replay_from step first_gate start log
 

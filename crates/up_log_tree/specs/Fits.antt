@@ -108,7 +108,8 @@ has_place owner tree path = elim (parent_of path) [
   | Some parent ↦ is_directory_node (node_at tree parent)
 ]
 
--- whether an entry of this kind may take the place of what is there: of nothing, or a file or link of a file
+-- whether an entry of this kind may take the place of what is there: any kind where there is nothing, and any but a directory where there
+-- is a file
 abbrev pub may_replace : Option Node → Kind → Bool
 may_replace None kind = true
 may_replace (Some node) kind = is_file (kind_of node) && not (is_directory kind)

@@ -2,7 +2,7 @@
 use Rattle.std.specs.Prelude.{◌≡◌, ℕ, List, map, Option, Some, slice_get}
 use Rattle.std.specs.Option.{option_and_then}
 
--- the same keys with other values
+-- the keys of a map, with what is made of their values
 abbrev pub with_values : {K V W : Type 0} → (V → W) → List (K × V) → List (K × W)
 with_values value entries = map (λ entry. (entry.0, value entry.1)) entries
 

@@ -16,7 +16,7 @@ unders_of records path = positions_of (changes_some (λ name. is_under name path
 abbrev pub noted_all : List Under → List (List ℕ)
 noted_all changes_below = map (λ (under : Under). under.positions.items) changes_below
 
--- those at a number; behind the last list there are none
+-- the positions that are kept at a number; after the last list there are none
 abbrev pub noted_in : List (List ℕ) → ℕ → List ℕ
 noted_in lists id = unwrap_or (slice_get lists id) []
 
@@ -57,7 +57,7 @@ pub record NotesWay (slots : List Known) (path : PathName) (low position : ℕ) 
   pub rest : (id : ℕ) → (IsOnWay slots path low id → ⊥) → slice_get new id ≡ slice_get old id
   pub size : length new ≡ length old
 
--- and at the next number, where the path has no slot yet
+-- a position was noted at the slots on the way to a path, and at the next number, where the path has no slot yet
 pub record Notes (slots : List Known) (paths : List PathName) (path : PathName) (position : ℕ) (old new : List Under) : Type 0 where
   pub way : (id : ℕ) → IsOnWay slots path 0 id → noted_in (noted_all new) id ≡ noted_in (noted_all old) id ++ position ∷ []
   pub own : has_path paths path ≡ false → noted_in (noted_all new) (length slots) ≡ noted_in (noted_all old) (length slots) ++ position ∷ []

@@ -43,7 +43,7 @@ changes_in changes (Some change) = changes ++ change ∷ []
 unfoldable pub entered_own : Option Node → ℕ → Option (Change (List Item)) → Known → Known
 entered_own node position group slot = record slot { node = node; last = position; group = changes_in slot.group group }
 
--- that of its directory
+-- the slot of the directory of the path that a record changes
 unfoldable pub entered_parent : Edit → Edit → Option (Change (List Rule)) → Known → Known
 entered_parent named children access slot =
     record slot { named = edited named slot.named; children = edited children slot.children; access = changes_in slot.access access }

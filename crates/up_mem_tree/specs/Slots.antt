@@ -123,7 +123,7 @@ abbrev pub IsIdOf : List PathName → List Known → PathName → Option ℕ →
 IsIdOf paths slots path None = has_path paths path ≡ false
 IsIdOf paths slots path (Some id) = path_in slots id ≡ Some path
 
--- that of its parent, where it has one
+-- the slot of a path's parent, where the path has one
 abbrev pub IsParentIdOf : List PathName → List Known → PathName → Option ℕ → Type 0
 IsParentIdOf paths slots path id = MatchOption (parent_of path) (id ≡ None) (λ dir. IsIdOf paths slots dir id)
 

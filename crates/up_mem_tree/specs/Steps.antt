@@ -30,7 +30,7 @@ unfoldable pub stepped_above : Option ParentStep → List Known → List Known
 stepped_above None slots = slots
 stepped_above (Some parent) slots = changed_at parent.id (entered_parent parent.named parent.children parent.access) slots
 
--- and then at the path
+-- the slots after what is changed at the path
 unfoldable pub stepped_own : Own → Option Node → ℕ → Option (Change (List Item)) → List Known → List Known
 stepped_own (There id) node position group slots = changed_at id (entered_own node position group) slots
 stepped_own (New slot) node position group slots = slots ++ entered_own node position group (known slot) ∷ []
@@ -101,7 +101,7 @@ access_change owner path after position = elim (control_of path) [
   | control.Ordinary ↦ None
 ]
 
--- and of the text of the Group file at it
+-- what becomes of the text of the Group file at a path, after which that node stands there
 abbrev pub group_change : List ℕ → PathName → Option Node → ℕ → Option (Change (List Item))
 group_change owner path after position = elim (control_of path) [
   | control.Group ↦ Some (record { position = position; text = option_map (items_of owner) (group_file path after) })
@@ -142,7 +142,7 @@ pub record IsAboveTo (paths : List PathName) (slots : List Known) (path : PathNa
   pub children : IsEditTo parent.children id path now after
   pub texts : parent.access ≡ access
 
--- the same, as the records go on by one that changes the path
+-- What changes in the directory at `dir`, as the records go on by one that changes the path.
 abbrev pub IsAboveOf : List ℕ → List Rec → Rec → PathName → Option Node → List PathName → List Known → ℕ → PathName → ParentStep → Type 0
 IsAboveOf owner records rec path after paths slots id dir parent =
     IsAboveTo paths slots path id dir (children (tree_of records) dir)

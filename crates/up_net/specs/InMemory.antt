@@ -25,7 +25,7 @@ GivesSame (Some byte) (Some bytes) new = (new ≡ Some byte) × ((n : ℕ) × (b
 GivesSame None None new = new ≡ None
 GivesSame _ _ _ = ⊥
 
--- of a machine nothing is told: any run, any reading and any bytes may come
+-- of a machine's programs nothing is told: any run may come
 abbrev pub AnyRun : {M : Type 0} → M → ProgramRun → M → Type 0
 AnyRun old run new = Unit {0}
 

@@ -7,7 +7,7 @@ use Rattle.up_wire.specs.declared.replies.Reply.{Reply}
 abbrev pub AnyAnswer : {S : Type 0} → S → Request → Option Reply → S → Type 0
 AnyAnswer old request reply new = Unit {0}
 
--- it holds nothing that is borrowed
+-- nothing is said of what is borrowed, since nothing is
 abbrev pub AnyTie : {S : Type 0} → S → S → Type 0
 AnyTie old new = Unit {0}
 

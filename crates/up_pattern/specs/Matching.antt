@@ -38,7 +38,7 @@ abbrev pub cuts : List ℕ → List (List ℕ × List ℕ)
 cuts [] = ([], []) ∷ []
 cuts (c ∷ rest) = ([], c ∷ rest) ∷ map (λ cut. (c ∷ cut.0, cut.1)) (cuts rest)
 
--- the same as a test: the empty text is cut into no pieces, and otherwise the first piece is cut off in some way
+-- Whether terms match a text, as a test: the empty text is cut into no pieces, and otherwise the first piece is cut off in some way.
 unfoldable pub matches : List Term → List ℕ → Bool
 matches [] [] = true
 matches [] (c ∷ rest) = false

@@ -52,7 +52,7 @@ pub record StoreTurned {D J : Type 0} (disks : disk.Ghosts D)
   pub keys : new.keys ≡ seats.keys
   pub keys_limits : new.keys_limits ≡ seats.keys_limits
 
--- So with the seat at the keys.
+-- One turn of the seat at the keys: it looked, and then the job was run on the state; and no other seat changed.
 pub record KeysTurned {D J : Type 0} (disks : disk.Ghosts D)
     (did : J → LogState D KeyRecord → J → LogState D KeyRecord → Type 0) (job after : J) (seats new : Seats D) : Type 0 where
   pub count : ℕ
@@ -65,7 +65,7 @@ pub record KeysTurned {D J : Type 0} (disks : disk.Ghosts D)
   pub store_limits : new.store_limits ≡ seats.store_limits
   pub keys_limits : new.keys_limits ≡ seats.keys_limits
 
--- the same seats, borrowed by the same name, of the same host; and at most one log got own records
+-- a caller still has the same seats, borrowed by the same name, of the same host; and at most one log got own records
 pub record IsTied {N D : Type 0} (but : Option LogName) (shared shared_after : Shared D)
     (name name_after : N) (seats seats_after : Seats D) : Type 0 where
   pub host : shared_after ≡ shared
@@ -90,7 +90,7 @@ each_trans P joined [] (y ∷ ys) zs one two = absurd one
 each_trans P joined (x ∷ xs) [] zs one two = absurd one
 each_trans P joined (x ∷ xs) (y ∷ ys) [] one two = absurd two
 
--- two that were found go together, or none was found
+-- two items that were found go together, or none was found
 abbrev pub FoundPair : {X : Type 0} → (X → X → Type 0) → Option X → Option X → Type 0
 FoundPair P None None = Unit {0}
 FoundPair P (Some x) (Some y) = P x y

@@ -20,7 +20,7 @@ EachPair P (x ∷ xs) (y ∷ ys) = P x y × EachPair P xs ys
 EachPair P [] (y ∷ ys) = ⊥
 EachPair P (x ∷ xs) [] = ⊥
 
--- of one log: what the seat has seen, its own records, the failures in its turns, and the part that stays
+-- what a seat has seen of one log, with its own records, the failures in its turns, and the part that stays
 abbrev pub seen_by : {E F : Type 0} → Known E F → F → Seen E F
 seen_by seat fixed = record { seen = seat.seen; own = seat.own; failed = seat.failed; fixed = fixed }
 
@@ -94,7 +94,7 @@ module _ {D : Type 0} where
 
   -- ---- what happened at the seat of one log
 
-  -- so it is with the seat before and after at the tree of an owner
+  -- this holds of the seat before and after at the tree of an owner
   pub record AtTree (holds : TreeSeat D → TreeSeat D → Type 0) (owner : UserName) (a b : Seats D) : Type 0 where
     pub v : TreeSeat D
     pub w : TreeSeat D

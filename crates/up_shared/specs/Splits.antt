@@ -66,7 +66,7 @@ pub record SharesAdd {E F : Type 0} (one other whole : Known E F) : Type 0 where
   pub add : (n : ℕ) → one.halvings ≤ n → other.halvings ≤ n → whole.halvings ≤ n → parts n one + parts n other ≡ parts n whole
 
 module _ {D : Type 0} where
-  -- so it is with the seats at each place of three lists
+  -- at each place of three lists, two seats have together the share of the third
   abbrev pub TreesAdd : List (TreeSeat D) → List (TreeSeat D) → List (TreeSeat D) → Type 0
   TreesAdd [] [] [] = Unit {0}
   TreesAdd (x ∷ xs) (y ∷ ys) (z ∷ zs) = SharesAdd x.seat y.seat z.seat × TreesAdd xs ys zs

@@ -42,7 +42,7 @@ old_path owner path = record { owner = owner; elements = drop 4 path.elements }
 abbrev pub renamed : PathName → Node → Node
 renamed path node = record node { entry = record node.entry { name = path } }
 
--- its text is no longer than a path's may be
+-- a path has no longer a text than a path's may be
 abbrev pub is_short : PathName → Bool
 is_short path = nat_le (length (canonical path)) 4096
 

@@ -39,7 +39,7 @@ module _ {A V C N Q R : Type 0} (who : Parties A V C N Q R) where
     pub no_write_failed : Rose a.ends.write_faults b.ends.write_faults → ⊥
     pub no_verdict_failed : Rose (who.verifier_faults a.around.verifier) (who.verifier_faults b.around.verifier) → ⊥
 
-  -- It ended behind the last frame, and all that was asked came and was answered; or there was no memory.
+  -- The connection ended after the last frame, and all that was asked came and was answered; or there was no memory.
   abbrev pub Completes : World A V C N → World A V C N → List (FromClient Q) → TalkEnd → Type 0
   Completes a b asked talk.Ended = (talks : Talks who a b talk.Ended) × (talks.came ≡ asked)
   Completes a b asked talk.OutOfMemory = Unit {0}

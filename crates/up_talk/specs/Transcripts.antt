@@ -52,7 +52,7 @@ module _ {A V C N Q R : Type 0} (who : Parties A V C N Q R) where
     pub judged : Grew (who.judged before.verifier) (who.judged b.verifier) (judged_of signing signature verdict ∷ [])
     pub rest : b ≡ record before { verifier = b.verifier }
 
-  -- it was asked, and failed
+  -- the verifier was asked of a signature, and failed
   pub record IsUnjudged (a : Around A V C N) (text : List ℕ) (signing : Signing) (nonce : List ℕ) (b : Around A V C N) : Type 0 where
     pub before : Around A V C N
     pub challenged : IsChallenged a text signing nonce before

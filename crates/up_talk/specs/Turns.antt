@@ -286,7 +286,7 @@ module _ {A V C N Q R : Type 0} (who : Parties A V C N Q R) where
     pub counts : CountsSame who a b
     pub tie : who.tied a.around.answerer b.around.answerer
 
-  -- it has ended, and these bytes are still to be written; where a write fault has ended it, none are
+  -- a connection has ended, and these bytes are still to be written; where a write fault has ended it, none are
   pub record Ending (a b : World A V C N) (unwritten : List ℕ) (end : TalkEnd) : Type 0 where
     pub came : List (FromClient Q)
     pub made : List (ToClient R)
@@ -301,7 +301,7 @@ module _ {A V C N Q R : Type 0} (who : Parties A V C N Q R) where
     pub counts : CountsStay who a b end
     pub tie : who.tied a.around.answerer b.around.answerer
 
-  -- it goes on, or has ended
+  -- a connection goes on, or has ended
   abbrev pub GoesOn : World A V C N → World A V C N → Standing → Held → List ℕ → Result (Unit {0}) TalkEnd → Type 0
   GoesOn a b standing incoming unwritten (Ok done) = Talking a b standing incoming unwritten
   GoesOn a b standing incoming unwritten (Err end) = Ending a b unwritten end

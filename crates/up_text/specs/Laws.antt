@@ -30,7 +30,7 @@ abbrev pub IsOfBytes : Option Entry → Type 0
 IsOfBytes None = ⊤
 IsOfBytes (Some e) = AreOfBytes e
 
--- and so is each reference of what was done
+-- each reference of what was done is of bytes
 abbrev pub HasByteReferences : Done → Type 0
 HasByteReferences (done.Entry e) = AreOfBytes e
 HasByteReferences (done.Rows rows) = AllByRecursion (λ row. AreOfBytes row.entry) rows
@@ -39,7 +39,7 @@ HasByteReferences (done.Events events next) = AllByRecursion (λ event. AreOfByt
 HasByteReferences (done.Reference reference) = IsBytes reference
 HasByteReferences _ = ⊤
 
--- and of a reply
+-- each reference of a reply is of bytes
 abbrev pub ReferencesAreBytes : Reply → Type 0
 ReferencesAreBytes (reply.Ok d) = HasByteReferences d
 ReferencesAreBytes (reply.FollowLink e) = AreOfBytes e

@@ -38,7 +38,7 @@ what_word what.Key = codes "key"
 what_word what.SnapshotWatch = codes "snapshotwatch"
 what_word what.GroupName = codes "groupname"
 
--- and for a pattern the number of the element
+-- the word of the element of a pattern that is malformed; nothing else that is malformed has one
 abbrev pub element_words : What → List Text
 element_words (what.Pattern element) = decimal element ∷ []
 element_words _ = []
@@ -77,7 +77,7 @@ done_words (done.Reference reference) = codes "ref" ∷ text_of reference ∷ []
 done_words (done.Bytes bytes) = codes "bytes" ∷ coded bytes ∷ []
 done_words (done.Key known) = codes "key" ∷ key_words known
 
--- and of the lines behind it
+-- the words of the lines after the first one of what was done
 unfoldable pub further_words : Done → List (List Text)
 further_words (done.Rows rows) = map (λ row. row_words row) rows
 further_words (done.Events events next) = map (λ event. event_words event) events

@@ -33,7 +33,7 @@ entry_by user name attr seconds wanted = record {
   sequence = wanted;
 }
 
--- and by the words of its path, its time and its sequence
+-- the entry that a line puts, by the words of its path, its time and its sequence
 unfoldable pub plain_entry : UserName → ℕ → Text → Text → Text → Option PutEntry
 plain_entry user attr path time sequence = do
   name ← decoded path

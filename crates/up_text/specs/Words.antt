@@ -71,7 +71,8 @@ coded text =
     if length text == 0 then codes "-"
     else (if bytes_eq text (codes "-") then codes "%2D" else flat_map coded_byte text)
 
--- the same inside a block's fields and in lists of endpoints
+-- this project's own: the word for a text inside a block's fields and in lists of endpoints; the empty text is `-`, and the text `-` is
+-- `%2D`
 unfoldable pub field : List ℕ → List ℕ
 field text =
     if length text == 0 then codes "-"

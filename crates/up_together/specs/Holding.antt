@@ -7,12 +7,12 @@ use Rattle.up_shared.specs.Sharing.{SeatsLater}
 use Rattle.up_shared.specs.Splits.{AreWhole, SeatsAdd}
 use Rattle.up_shared.specs.declared.shared.Seats.{Seats}
 
--- one look at the count of its cell, and the seat's own positions are all above the base and up to that count
+-- once a seat has looked at the count of its cell, its own positions are all above the base and up to that count
 pub record HasAll {E F : Type 0} (v : Known E F) : Type 0 where
   pub look : (n : ℕ) → HasEvery (looked_of v n) n → (looked_of v n).own ≡ between v.base n
 
 module _ {D : Type 0} where
-  -- so it is with each seat of a caller
+  -- once any seat of a caller has looked at the count of its cell, its own positions are all above the base and up to that count
   pub record HaveAll (seats : Seats D) : Type 0 where
     pub trees : AllByRecursion (λ place. HasAll place.seat) seats.trees.items
     pub store : HasAll seats.store

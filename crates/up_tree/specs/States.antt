@@ -50,7 +50,7 @@ pub record State (D : Type 0) : Type 0 where
   pub doubtful : Bool
   pub further : Option Rec
 
--- the same without its owner: a log of records over a journal
+-- a tree's log without its owner: a log of records over a journal
 abbrev pub over_journal : {D : Type 0} → State D → LogState D Rec
 over_journal state =
     record { disk = state.disk; limits = state.limits; log = state.log; doubtful = state.doubtful; further = state.further }

@@ -55,7 +55,7 @@ pub record AreDecided (watching : Watching) (decided : Decided) : Type 0 where
   pub each : (dir : PathName) (control : Bool) (given : Given)
       → given_in decided dir control ≡ Some given → IsGiven watching control dir given
 
--- the same of what was decided in the tree as it is, and in the tree as it was
+-- what is kept of decisions is right in the tree as it is, and in the tree as it was
 pub record Remembers (watching : Watching) (known : Known) : Type 0 where
   pub current : AreDecided watching known.current
   pub past : AreDecided watching known.past

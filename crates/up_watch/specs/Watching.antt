@@ -31,7 +31,7 @@ pub record Watching : Type 0 where
 abbrev pub now : Watching → Look
 now watching = record { owner = watching.owner; tree = tree_of watching.log; loaded = watching.loaded; user = watching.user }
 
--- and as it was directly after record n
+-- the watched tree as it was directly after record n, as its user meets it
 abbrev pub after : Watching → ℕ → Look
 after watching n = record { owner = watching.owner; tree = tree_at watching.log n; loaded = watching.loaded; user = watching.user }
 
