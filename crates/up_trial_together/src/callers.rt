@@ -149,7 +149,7 @@ fn callers_at(
     ensures { IfOk result (λ callers. All (λ caller. AreSeats shared.now caller.seats) callers.items) }
 {
     let mut callers = Vec::new(alloc);
-    for _ in 0..count {
+    for made in 0..count {
         add_caller(alloc, shared, seats, &mut callers)?;
     }
     Ok(callers)

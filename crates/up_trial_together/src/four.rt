@@ -27,7 +27,10 @@ const SHARED: [Line; 7] = [
         BOB,
         "file bob@b.example/Group/friends 1 100 0 - 13D1BC0E5C7DE048170748CBAFCC6F867E432B498D8D9F94F8D7875F5CA0AAC7:28",
     ),
-    (ANN, "store *:ann@a.example%0Ar,l:bob@b.example/Group/friends"),
+    (
+        ANN,
+        "store *:ann@a.example%0Ar,l:bob@b.example/Group/friends",
+    ),
     (
         ANN,
         "file ann@a.example/Access 1 100 0 - 75A9588666C70EAE0DECAE432118779E25E378790373C67B228F8845C71D81CB:47",

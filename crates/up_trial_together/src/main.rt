@@ -38,11 +38,31 @@ fn try_all<R: Threads + Wait + Sync>(
     random: RandomState,
 ) -> ExitCode {
     let printed = [
-        print(rt, "two trees", waiting::two_trees(threads, rt.alloc(), random)),
-        print(rt, "a load outside", waiting::load_outside(threads, rt.alloc(), random)),
-        print(rt, "a fetch outside", waiting::fetch_outside(threads, rt.alloc(), random)),
-        print(rt, "read back", waiting::read_back(threads, rt.alloc(), random)),
-        print(rt, "four callers", four::four_callers(threads, rt.alloc(), random)),
+        print(
+            rt,
+            "two trees",
+            waiting::two_trees(threads, rt.alloc(), random),
+        ),
+        print(
+            rt,
+            "a load outside",
+            waiting::load_outside(threads, rt.alloc(), random),
+        ),
+        print(
+            rt,
+            "a fetch outside",
+            waiting::fetch_outside(threads, rt.alloc(), random),
+        ),
+        print(
+            rt,
+            "read back",
+            waiting::read_back(threads, rt.alloc(), random),
+        ),
+        print(
+            rt,
+            "four callers",
+            four::four_callers(threads, rt.alloc(), random),
+        ),
     ];
     if printed.iter().all(|done| *done) {
         ExitCode::from(0)
@@ -55,7 +75,11 @@ fn try_all<R: Threads + Wait + Sync>(
 fn print(rt: HostRuntime, name: &str, came: Result<bool, AllocError>) -> bool {
     match came {
         Ok(right) => {
-            let word = if right { "as it should be" } else { "otherwise" };
+            let word = if right {
+                "as it should be"
+            } else {
+                "otherwise"
+            };
             println!(rt; "{name}: {word}").is_ok()
         }
         Err(_) => {

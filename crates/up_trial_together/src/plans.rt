@@ -69,11 +69,7 @@ fn requests_of(
     Ok(requests)
 }
 
-fn request_asked(
-    alloc: Global,
-    session: &Session,
-    asking: &Asking,
-) -> Result<Request, AllocError> {
+fn request_asked(alloc: Global, session: &Session, asking: &Asking) -> Result<Request, AllocError> {
     let request = request_of(alloc, session.user(), asking.line)?;
     match &asking.elsewhere {
         Some(elsewhere) => with_block(alloc, request, elsewhere),

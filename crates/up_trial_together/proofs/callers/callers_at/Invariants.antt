@@ -1,0 +1,9 @@
+use Rattle.std.specs.Prelude.{All}
+use Rattle.up_shared.specs.Sharing.{AreSeats}
+use Rattle.up_trial_together.proofs.callers.callers_at.Given as goal
+
+abbrev pub invariant-loop-made : goal.invariant-loop-made
+invariant-loop-made l = record {
+  sits : AreSeats l.shared l.seats;
+  each : All (λ caller. AreSeats l.shared caller.seats) l.callers.items;
+}
