@@ -1,13 +1,13 @@
 //! Callers of a host that is shared, each in a thread of its own.
-ghost use Rattle.std.specs.Prelude.{◌≡◌, ◌<◌, All, IfOk, OnOk};
+ghost use Rattle.std.specs.Prelude.{All, IfOk, OnOk};
 ghost use Rattle.up_shared.specs.Sharing.{AreSeats};
 
 use crate::disks::HostDisk;
 use crate::hosts::NOW;
+use crate::plans::{Part, Plan};
 use crate::waits::{Others, set, wait_while_armed};
 use std::alloc::{AllocError, Global};
 use std::sync::Wait;
-use std::sync::atomic::AtomicU64;
 use std::thread;
 use std::thread::Threads;
 use up_calls::Event;
@@ -16,30 +16,8 @@ use up_shared::{Seats, Shared};
 use up_sign::Session;
 use up_wire::Request;
 
-// More callers than any trial has.
+// More callers than any trial has, so that each has a thread of its own.
 const THREADS: usize = 8;
-
-/// What one caller asks, one request after the other, and what it has to do with the flag.
-#[derive(Drop)]
-pub struct Plan<'a> {
-    pub session: Session,
-    pub requests: Vec<Request>,
-    pub flag: &'a AtomicU64,
-    pub part: Part,
-}
-
-/// What a caller has to do with the flag.
-#[derive(Clone, Copy, PartialEq, Eq)]
-pub enum Part {
-    /// Nothing.
-    None,
-    /// It asks only once the flag does not hold it up any more.
-    AsksLater,
-    /// Whoever is asked on its behalf answers only once the flag does not hold it up any more.
-    AsksOthers,
-    /// It sets the flag once it was answered.
-    Sets,
-}
 
 /// A caller's seats, and what came of its requests.
 #[derive(Drop)]
@@ -48,28 +26,113 @@ pub struct Caller {
     pub events: Vec<Event>,
 }
 
-impl Caller {
-    // A caller that was answered nothing yet.
-    fn new(alloc: Global, seats: Seats<HostDisk>) -> Caller
-        ensures { result.seats ≡ seats }
-    {
-        Caller {
-            seats,
-            events: Vec::new(alloc),
-        }
-    }
+/// Shares a host between as many callers as there are plans, which all ask at once.
+pub fn ask_at_once<R: Threads + Wait + Sync>(
+    rt: &R,
+    alloc: Global,
+    host: Host<HostDisk>,
+    plans: &[Plan<'_>],
+) -> Result<Vec<Caller>, AllocError> {
+    let (shared, mut seats) = host.into_shared(alloc)?;
+    let came = share(rt, alloc, &shared, &mut seats, plans);
+    drop(seats);
+    drop(shared);
+    came
+}
 
-    // Asks what a plan has.
-    fn run<R: Wait>(&mut self, rt: &R, alloc: Global, shared: &Shared<HostDisk>, plan: &Plan<'_>)
+fn share<R: Threads + Wait + Sync>(
+    rt: &R,
+    alloc: Global,
+    shared: &Shared<HostDisk>,
+    seats: &mut Seats<HostDisk>,
+    plans: &[Plan<'_>],
+) -> Result<Vec<Caller>, AllocError>
+    requires { AreSeats shared.now seats.old }
+{
+    let mut callers = callers_at(alloc, shared, seats, plans.len())?;
+    run_all(rt, alloc, shared, plans, callers.as_mut_slice());
+    Ok(callers)
+}
+
+// So many callers, each with seats that were split off from these.
+#[tactic(auto, using(crate::proofs::CallerLemmas::none_each))]
+fn callers_at(
+    alloc: Global,
+    shared: &Shared<HostDisk>,
+    seats: &mut Seats<HostDisk>,
+    count: usize,
+) -> Result<Vec<Caller>, AllocError>
+    requires { AreSeats shared.now seats.old }
+    ensures { IfOk result (λ callers.
+        All (λ caller. AreSeats shared.now caller.seats) callers.items) }
+{
+    let mut callers = Vec::new(alloc);
+    for made in 0..count {
+        add_caller(alloc, shared, seats, &mut callers)?;
+    }
+    Ok(callers)
+}
+
+#[tactic(auto, using(crate::proofs::CallerLemmas::each_more))]
+fn add_caller(
+    alloc: Global,
+    shared: &Shared<HostDisk>,
+    seats: &mut Seats<HostDisk>,
+    callers: &mut Vec<Caller>,
+) -> Result<(), AllocError>
+    requires sits { AreSeats shared.now seats.old }
+    requires each { All (λ caller. AreSeats shared.now caller.seats) callers.old.items }
+    ensures sits { AreSeats shared.now seats.new }
+    ensures each { OnOk result (All (λ caller. AreSeats shared.now caller.seats) callers.new.items) }
+{
+    let seats = shared.split(alloc, seats)?;
+    let events = Vec::new(alloc);
+    callers.push(Caller { seats, events })?;
+    Ok(())
+}
+
+// Runs all callers at once, each by the plan at its place.
+fn run_all<R: Threads + Wait + Sync>(
+    rt: &R,
+    alloc: Global,
+    shared: &Shared<HostDisk>,
+    plans: &[Plan<'_>],
+    callers: &mut [Caller],
+)
+    requires { All (λ caller. AreSeats shared.now caller.seats) callers.old }
+{
+    thread::for_each_mut(
+        rt,
+        callers,
+        THREADS,
+        &|k, caller: &mut Caller| caller.run(rt, alloc, shared, plans, k),
+    );
+}
+
+impl Caller {
+    // Asks what the plan at a place has.
+    fn run<R: Wait>(
+        &mut self,
+        rt: &R,
+        alloc: Global,
+        shared: &Shared<HostDisk>,
+        plans: &[Plan<'_>],
+        k: usize,
+    )
         requires { AreSeats shared.now self.old.seats }
     {
+        let Some(plan) = plans.get(k) else {
+            return;
+        };
         if plan.part == Part::AsksLater {
             wait_while_armed(plan.flag);
         }
-        let mut others = if plan.part == Part::AsksOthers {
-            Others::behind(plan.flag)
-        } else {
-            Others::at_once()
+        let mut others = Others {
+            flag: if plan.part == Part::AsksOthers {
+                Some(plan.flag)
+            } else {
+                None
+            },
         };
         self.ask_all(rt, alloc, shared, &mut others, plan);
         if plan.part == Part::Sets {
@@ -107,99 +170,5 @@ impl Caller {
     {
         let event = shared.ask(rt, alloc, &mut self.seats, others, session, request, NOW);
         let _ = self.events.push(event);
-    }
-}
-
-/// Shares a host between as many callers as there are plans, which all ask at once.
-pub fn ask_at_once<R: Threads + Wait + Sync>(
-    rt: &R,
-    alloc: Global,
-    host: Host<HostDisk>,
-    plans: &[Plan<'_>],
-) -> Result<Vec<Caller>, AllocError> {
-    let (shared, mut seats) = host.into_shared(alloc)?;
-    let came = share(rt, alloc, &shared, &mut seats, plans);
-    drop(seats);
-    drop(shared);
-    came
-}
-
-fn share<R: Threads + Wait + Sync>(
-    rt: &R,
-    alloc: Global,
-    shared: &Shared<HostDisk>,
-    seats: &mut Seats<HostDisk>,
-    plans: &[Plan<'_>],
-) -> Result<Vec<Caller>, AllocError>
-    requires { AreSeats shared.now seats.old }
-{
-    let mut callers = callers_at(alloc, shared, seats, plans.len())?;
-    run_all(rt, alloc, shared, plans, callers.as_mut_slice());
-    Ok(callers)
-}
-
-// So many callers, each with seats that were split off from these.
-fn callers_at(
-    alloc: Global,
-    shared: &Shared<HostDisk>,
-    seats: &mut Seats<HostDisk>,
-    count: usize,
-) -> Result<Vec<Caller>, AllocError>
-    requires { AreSeats shared.now seats.old }
-    ensures { IfOk result (λ callers. All (λ caller. AreSeats shared.now caller.seats) callers.items) }
-{
-    let mut callers = Vec::new(alloc);
-    for made in 0..count {
-        add_caller(alloc, shared, seats, &mut callers)?;
-    }
-    Ok(callers)
-}
-
-fn add_caller(
-    alloc: Global,
-    shared: &Shared<HostDisk>,
-    seats: &mut Seats<HostDisk>,
-    callers: &mut Vec<Caller>,
-) -> Result<(), AllocError>
-    requires sits { AreSeats shared.now seats.old }
-    requires each { All (λ caller. AreSeats shared.now caller.seats) callers.old.items }
-    ensures sits { AreSeats shared.now seats.new }
-    ensures each { OnOk result (All (λ caller. AreSeats shared.now caller.seats) callers.new.items) }
-{
-    let other = shared.split(alloc, seats)?;
-    callers.push(Caller::new(alloc, other))?;
-    Ok(())
-}
-
-// Runs all callers at once, each by the plan at its place.
-fn run_all<R: Threads + Wait + Sync>(
-    rt: &R,
-    alloc: Global,
-    shared: &Shared<HostDisk>,
-    plans: &[Plan<'_>],
-    callers: &mut [Caller],
-)
-    requires { All (λ caller. AreSeats shared.now caller.seats) callers.old }
-{
-    thread::for_each_mut(
-        rt,
-        callers,
-        THREADS,
-        &|k, caller: &mut Caller| run_at(rt, alloc, shared, plans, k, caller),
-    );
-}
-
-fn run_at<R: Wait>(
-    rt: &R,
-    alloc: Global,
-    shared: &Shared<HostDisk>,
-    plans: &[Plan<'_>],
-    k: usize,
-    caller: &mut Caller,
-)
-    requires { AreSeats shared.now caller.old.seats }
-{
-    if let Some(plan) = plans.get(k) {
-        caller.run(rt, alloc, shared, plan);
     }
 }

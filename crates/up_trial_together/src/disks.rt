@@ -1,5 +1,5 @@
 //! Disks in memory, of which one may wait in each sync.
-ghost use Rattle.std.specs.Prelude.{◌≡◌, ◌+◌, length, IfOk};
+ghost use Rattle.std.specs.Prelude.{◌≡◌, ◌+◌, length, IfOk, OnOk};
 
 use crate::waits::WaitsInSync;
 use std::alloc::{AllocError, Global};
@@ -10,42 +10,31 @@ use up_lists::Items;
 
 pub type HostDisk = HookDisk<WaitsInSync>;
 
-/// The disks of two trees, of a store and of keys. That of the first tree waits in each sync while the flag is armed.
-pub fn four_disks(
+/// Empty disks, of two trees, a store and keys. That of the first tree waits in each sync while the flag is armed.
+pub fn empty_disks(
     alloc: Global,
     flag: &Arc<AtomicU64, Global>,
 ) -> Result<Disks<HostDisk>, AllocError>
     ensures { IfOk result (λ disks. length disks.disks ≡ 4) }
 {
+    let never = Arc::new(alloc, AtomicU64::new(0))?;
     let mut disks = Disks::new(alloc);
-    add_disk(&mut disks, waiting_disk(alloc, flag))?;
-    add_disk(&mut disks, plain_disk(alloc))?;
-    add_disk(&mut disks, plain_disk(alloc))?;
-    add_disk(&mut disks, plain_disk(alloc))?;
+    add_disk(alloc, &mut disks, flag)?;
+    add_disk(alloc, &mut disks, &never)?;
+    add_disk(alloc, &mut disks, &never)?;
+    add_disk(alloc, &mut disks, &never)?;
     Ok(disks)
 }
 
 fn add_disk(
+    alloc: Global,
     disks: &mut Disks<HostDisk>,
-    disk: Result<HostDisk, AllocError>,
+    flag: &Arc<AtomicU64, Global>,
 ) -> Result<(), AllocError>
-    ensures { IfOk result (λ done. length disks.new.disks ≡ length disks.old.disks + 1) }
+    ensures { OnOk result (length disks.new.disks ≡ length disks.old.disks + 1) }
 {
-    disks.push(disk?)?;
+    let flag = Arc::try_clone(flag)?;
+    let disk = MemDisk::new(alloc, Items::new(alloc));
+    disks.push(HookDisk::new(disk, WaitsInSync { flag }))?;
     Ok(())
-}
-
-fn plain_disk(alloc: Global) -> Result<HostDisk, AllocError> {
-    Ok(disk_of(alloc, Arc::new(alloc, AtomicU64::new(0))?))
-}
-
-fn waiting_disk(alloc: Global, flag: &Arc<AtomicU64, Global>) -> Result<HostDisk, AllocError> {
-    Ok(disk_of(alloc, Arc::try_clone(flag)?))
-}
-
-fn disk_of(alloc: Global, flag: Arc<AtomicU64, Global>) -> HostDisk {
-    HookDisk::new(
-        MemDisk::new(alloc, Items::new(alloc)),
-        WaitsInSync::new(flag),
-    )
 }

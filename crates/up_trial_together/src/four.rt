@@ -1,8 +1,9 @@
 //! Four callers at once on two trees.
-use crate::callers::{Part, Plan, ask_at_once};
+use crate::callers::ask_at_once;
 use crate::hosts::{Line, plain_host};
 use crate::judging::right_replies;
-use crate::users::{ANN, BOB, request_of, session_of};
+use crate::plans::{Part, Plan};
+use crate::users::{request_of, session_of};
 use std::alloc::{AllocError, Global};
 use std::hash::RandomState;
 use std::sync::Wait;
@@ -11,11 +12,17 @@ use std::thread::Threads;
 use up_names::User;
 use up_wire::Request;
 
+const ANN: &str = "ann@a.example";
+
+const BOB: &str = "bob@b.example";
+
 // How often each caller asks.
 const ASKS: u64 = 1_000;
 
 // Ann's tree lets Bob read and list as a member of a group of Bob's tree. Bob's lets all read.
-const SHARED: [Line; 7] = [
+const SHARED: [Line; 9] = [
+    (ANN, "mkdir ann@a.example/ 100 0"),
+    (BOB, "mkdir bob@b.example/ 100 0"),
     (BOB, "store *:bob@b.example%0Ar:all"),
     (
         BOB,
@@ -39,7 +46,7 @@ const SHARED: [Line; 7] = [
 
 /// Whether every reply to four callers of 1,000 requests each, who ask at once, is that of a host that is not shared, whose log has the records up
 /// to the reply's position.
-pub fn four_callers<R: Threads + Wait + Sync>(
+pub fn are_right<R: Threads + Wait + Sync>(
     rt: &R,
     alloc: Global,
     random: RandomState,
@@ -67,33 +74,28 @@ fn four_plans(alloc: Global, flag: &AtomicU64) -> Result<Vec<Plan<'_>>, AllocErr
 fn plan_of<'a>(
     alloc: Global,
     flag: &'a AtomicU64,
-    name: &str,
+    who: &str,
     other: &str,
 ) -> Result<Plan<'a>, AllocError> {
-    let session = session_of(alloc, name)?;
-    match requests_of(alloc, session.user(), name, other) {
-        Ok(requests) => Ok(Plan {
-            session,
-            requests,
-            flag,
-            part: Part::None,
-        }),
-        Err(failed) => {
-            drop(session);
-            Err(failed)
-        }
-    }
+    let session = session_of(alloc, who)?;
+    let requests = requests_of(alloc, session.user(), who, other)?;
+    Ok(Plan {
+        session,
+        requests,
+        flag,
+        part: Part::None,
+    })
 }
 
 fn requests_of(
     alloc: Global,
     user: &User,
-    name: &str,
+    who: &str,
     other: &str,
 ) -> Result<Vec<Request>, AllocError> {
     let mut requests = Vec::new(alloc);
     for number in 0..ASKS {
-        add_request(alloc, user, name, other, number, &mut requests)?;
+        add_request(alloc, user, who, other, number, &mut requests)?;
     }
     Ok(requests)
 }
@@ -101,12 +103,12 @@ fn requests_of(
 fn add_request(
     alloc: Global,
     user: &User,
-    name: &str,
+    who: &str,
     other: &str,
     number: u64,
     requests: &mut Vec<Request>,
 ) -> Result<(), AllocError> {
-    let line = line_of(alloc, name, other, number)?;
+    let line = line_of(alloc, who, other, number)?;
     let request = request_of(alloc, user, line.as_str());
     drop(line);
     requests.push(request?)?;
@@ -114,14 +116,14 @@ fn add_request(
 }
 
 // Each owner's two callers make, look up and delete the same directories, look at those of the other owner, and try to make one there.
-fn line_of(alloc: Global, name: &str, other: &str, number: u64) -> Result<String, AllocError> {
+fn line_of(alloc: Global, who: &str, other: &str, number: u64) -> Result<String, AllocError> {
     let place = number / 8 % 40;
     let earlier = number / 16 % 40;
     match number % 8 {
-        0 | 1 => format!(in alloc; "mkdir {name}/d{place} 100 0"),
-        2 => format!(in alloc; "lookup {name}/d{place}"),
+        0 | 1 => format!(in alloc; "mkdir {who}/d{place} 100 0"),
+        2 => format!(in alloc; "lookup {who}/d{place}"),
         3 => format!(in alloc; "lookup {other}/d{place}"),
-        4 => format!(in alloc; "delete {name}/d{earlier}"),
+        4 => format!(in alloc; "delete {who}/d{earlier}"),
         5 => format!(in alloc; "glob {other}/d*"),
         6 => format!(in alloc; "which {other}/d{earlier}"),
         _ => format!(in alloc; "mkdir {other}/d{place} 100 0"),

@@ -1,18 +1,15 @@
 //! A host of two trees, and what it answers while it is not shared.
-ghost use Rattle.std.specs.Prelude.{◌≡◌, ◌+◌, [], ◌∷◌, false, length, IfOk};
-ghost use Rattle.std.specs.List.{AllByRecursion, IsDistinct};
-ghost use Rattle.std.specs.Str.{bytes_eq};
-ghost use Rattle.up_policy.specs.Trees.{owns_snapshots};
+ghost use Rattle.std.specs.Prelude.{◌≡◌, ◌∷◌, [], codes, IfOk};
 
-use crate::disks::{HostDisk, four_disks};
-use crate::users::{ANN, BOB, HOST, request_of, session_of, user_of};
+use crate::disks::{HostDisk, empty_disks};
+use crate::users::{HOST, request_of, session_of, user_named};
 use crate::waits::Others;
 use std::alloc::{AllocError, Global};
 use std::hash::RandomState;
 use std::sync::Arc;
 use std::sync::atomic::AtomicU64;
-use up_disk::Disks;
-use up_host::{Event, Host};
+use up_calls::Event;
+use up_host::Host;
 use up_journal::Limits;
 use up_lists::Items;
 use up_names::User;
@@ -32,14 +29,8 @@ const WIDE: Limits = Limits {
 /// A user, and a line that it asks.
 pub type Line = (&'static str, &'static str);
 
-/// Both owners put the roots of their trees.
-const ROOTS: [Line; 2] = [
-    (ANN, "mkdir ann@a.example/ 100 0"),
-    (BOB, "mkdir bob@b.example/ 100 0"),
-];
-
-/// A host of the two trees, each with its root, that was asked these lines and answered each with Ok. The disk of the first tree waits in
-/// each sync while the flag is armed.
+/// A host of the trees of Ann and Bob that was asked these lines and answered each with Ok. The disk of Ann's tree waits in each sync
+/// while the flag is armed.
 pub fn host_with(
     alloc: Global,
     random: RandomState,
@@ -47,7 +38,7 @@ pub fn host_with(
     lines: &[Line],
 ) -> Result<Host<HostDisk>, AllocError> {
     let mut host = open_host(alloc, random, flag)?;
-    match prepare(alloc, &mut host, lines) {
+    match ask_lines(alloc, &mut host, lines) {
         Ok(()) => Ok(host),
         Err(failed) => {
             drop(host);
@@ -62,19 +53,14 @@ pub fn plain_host(
     random: RandomState,
     lines: &[Line],
 ) -> Result<Host<HostDisk>, AllocError> {
-    let flag = Arc::new(alloc, AtomicU64::new(0))?;
-    host_with(alloc, random, &flag, lines)
-}
-
-fn prepare(alloc: Global, host: &mut Host<HostDisk>, lines: &[Line]) -> Result<(), AllocError> {
-    ask_lines(alloc, host, ROOTS.as_slice())?;
-    ask_lines(alloc, host, lines)
+    let never = Arc::new(alloc, AtomicU64::new(0))?;
+    host_with(alloc, random, &never, lines)
 }
 
 // Asks all lines. An `Err` is a reply that is not Ok, or want of memory.
 fn ask_lines(alloc: Global, host: &mut Host<HostDisk>, lines: &[Line]) -> Result<(), AllocError> {
-    for (name, line) in lines.iter().copied() {
-        ask_line(alloc, host, name, line)?;
+    for (who, line) in lines.iter().copied() {
+        ask_line(alloc, host, who, line)?;
     }
     Ok(())
 }
@@ -82,24 +68,12 @@ fn ask_lines(alloc: Global, host: &mut Host<HostDisk>, lines: &[Line]) -> Result
 fn ask_line(
     alloc: Global,
     host: &mut Host<HostDisk>,
-    name: &str,
+    who: &str,
     line: &str,
 ) -> Result<(), AllocError> {
-    let session = session_of(alloc, name)?;
-    let asked = ask_as(alloc, host, &session, line);
-    drop(session);
-    asked
-}
-
-fn ask_as(
-    alloc: Global,
-    host: &mut Host<HostDisk>,
-    session: &Session,
-    line: &str,
-) -> Result<(), AllocError> {
+    let session = session_of(alloc, who)?;
     let request = request_of(alloc, session.user(), line)?;
-    let event = ask_alone(alloc, host, session, &request);
-    drop(request);
+    let event = ask_alone(alloc, host, &session, &request);
     match event.reply {
         Reply::Ok(_) => Ok(()),
         _ => Err(AllocError),
@@ -113,107 +87,40 @@ pub fn ask_alone(
     session: &Session,
     request: &Request,
 ) -> Event {
-    let mut others = Others::at_once();
+    let mut others = Others { flag: None };
     host.ask(alloc, &mut others, session, request, NOW)
 }
 
-// ---- opening
-
+// The host, with both trees, over empty disks. An `Err` is want of memory.
 fn open_host(
     alloc: Global,
     random: RandomState,
     flag: &Arc<AtomicU64, Global>,
 ) -> Result<Host<HostDisk>, AllocError> {
-    let disks = four_disks(alloc, flag)?;
-    match owners_of(alloc) {
-        Ok(owners) => open_over(alloc, random, owners, disks),
-        Err(failed) => {
-            drop(disks);
-            Err(failed)
-        }
-    }
-}
-
-fn open_over(
-    alloc: Global,
-    random: RandomState,
-    owners: Items<User>,
-    disks: Disks<HostDisk>,
-) -> Result<Host<HostDisk>, AllocError>
-    requires distinct { IsDistinct bytes_eq owners }
-    requires plain { AllByRecursion (λ owner. owns_snapshots owner ≡ false) owners }
-    requires disks { length disks.disks ≡ length owners + 2 }
-{
-    match user_of(alloc, "op@h.example") {
-        Ok(operator) => opened(alloc, random, operator, owners, disks),
-        Err(failed) => {
-            drop(owners);
-            drop(disks);
-            Err(failed)
-        }
-    }
-}
-
-// A host, of which nothing else is known.
-fn opened(
-    alloc: Global,
-    random: RandomState,
-    operator: User,
-    owners: Items<User>,
-    disks: Disks<HostDisk>,
-) -> Result<Host<HostDisk>, AllocError>
-    requires distinct { IsDistinct bytes_eq owners }
-    requires plain { AllByRecursion (λ owner. owns_snapshots owner ≡ false) owners }
-    requires disks { length disks.disks ≡ length owners + 2 }
-{
+    let operator = user_named(alloc, b"op@h.example")?;
+    let Ok(owners) = owners(alloc) else {
+        drop(operator);
+        return Err(AllocError);
+    };
+    let Ok(disks) = empty_disks(alloc, flag) else {
+        drop(operator);
+        drop(owners);
+        return Err(AllocError);
+    };
     match Host::open(alloc, random, HOST, operator, owners, disks, WIDE) {
         Ok(host) => Ok(host),
         Err(_) => Err(AllocError),
     }
 }
 
-// The two owners, who differ and have no tree of snapshots.
-fn owners_of(alloc: Global) -> Result<Items<User>, AllocError>
-    ensures distinct { IfOk result (IsDistinct bytes_eq) }
-    ensures plain { IfOk result (AllByRecursion (λ owner. owns_snapshots owner ≡ false)) }
-    ensures two { IfOk result (λ owners. length owners ≡ 2) }
-{
-    let ann = user_of(alloc, ANN)?;
-    match user_of(alloc, BOB) {
-        Ok(bob) => two_owners(alloc, ann, bob),
-        Err(failed) => {
-            drop(ann);
-            Err(failed)
-        }
-    }
-}
-
-#[tactic(auto, using(crate::proofs::OwnerLemmas::two_differ, crate::proofs::OwnerLemmas::two_plain))]
-fn two_owners(alloc: Global, ann: User, bob: User) -> Result<Items<User>, AllocError>
-    ensures distinct { IfOk result (IsDistinct bytes_eq) }
-    ensures plain { IfOk result (AllByRecursion (λ owner. owns_snapshots owner ≡ false)) }
-    ensures two { IfOk result (λ owners. length owners ≡ 2) }
-{
-    if ann == bob || owns_snapshots(&ann) || owns_snapshots(&bob) {
-        return Err(AllocError);
-    }
-    listed(alloc, ann, bob)
-}
-
-fn listed(alloc: Global, ann: User, bob: User) -> Result<Items<User>, AllocError>
-    ensures { IfOk result (λ owners. owners ≡ ann ∷ bob ∷ []) }
+// The owners of both trees.
+#[tactic(auto, using(crate::proofs::Names::first_owner, crate::proofs::Names::second_owner))]
+fn owners(alloc: Global) -> Result<Items<User>, AllocError>
+    ensures { IfOk result (λ owners.
+        owners ≡ codes "ann@a.example" ∷ codes "bob@b.example" ∷ []) }
 {
     let mut owners = Items::new(alloc);
-    owners.push(ann)?;
-    owners.push(bob)?;
+    owners.push(user_named(alloc, b"ann@a.example")?)?;
+    owners.push(user_named(alloc, b"bob@b.example")?)?;
     Ok(owners)
-}
-
-fn owns_snapshots(owner: &User) -> bool
-    ensures { result ≡ owns_snapshots owner.now }
-{
-    match owner.suffix() {
-        Some(suffix) => suffix == "snapshot",
-        None => false,
-    }
 }

@@ -1,7 +1,8 @@
 //! Replies of a host that was shared, beside those of one that is not.
-use crate::callers::{Caller, Plan};
+use crate::callers::Caller;
 use crate::disks::HostDisk;
 use crate::hosts::ask_alone;
+use crate::plans::Plan;
 use std::alloc::Global;
 use up_calls::Event;
 use up_host::Host;

@@ -1,9 +1,9 @@
 //! Trials of a host that many share, with callers in threads of their own.
 //!
-//! What no clause can say is tried here: that a caller of one tree does not wait for a caller of another, that groups and blocks are loaded
-//! outside of the turn of the tree that is asked, and that one caller sees what another was told. Each thread that waits for another does
-//! so for some turns at most, so that a trial in which one caller holds another up fails, and does not hang. At last four callers ask
-//! at once, and every reply is held against that of a host that is not shared.
+//! What no clause can say is tried here: that a caller of one tree does not wait for a caller of another, that groups and blocks are
+//! loaded outside of the turn of the tree that is asked, and that one caller sees what another was told. A thread that waits for another
+//! does so for some turns at most, so that a trial in which one caller holds another up fails, and does not hang. At last four callers ask at
+//! once, and every reply is held against that of a host that is not shared.
 //!
 //! The program prints how each trial came out; its status is 1 where one could not be made.
 #![tactic(auto)]
@@ -14,16 +14,16 @@ mod four;
 mod hosts;
 mod judging;
 mod plans;
+mod trials;
 mod users;
-mod waiting;
 mod waits;
 
-use std::alloc::{AllocError, Global};
+use std::alloc::AllocError;
 use std::hash::RandomState;
-use std::io;
 use std::process::ExitCode;
 use std::sync::Wait;
 use std::thread::Threads;
+use trials::{FETCH_OUTSIDE, LOAD_OUTSIDE, READ_BACK, TWO_TREES};
 
 fn main(rt: HostRuntime) -> ExitCode {
     match RandomState::new(&rt) {
@@ -37,51 +37,25 @@ fn try_all<R: Threads + Wait + Sync>(
     rt: HostRuntime,
     random: RandomState,
 ) -> ExitCode {
-    let printed = [
-        print(
-            rt,
-            "two trees",
-            waiting::two_trees(threads, rt.alloc(), random),
-        ),
-        print(
-            rt,
-            "a load outside",
-            waiting::load_outside(threads, rt.alloc(), random),
-        ),
-        print(
-            rt,
-            "a fetch outside",
-            waiting::fetch_outside(threads, rt.alloc(), random),
-        ),
-        print(
-            rt,
-            "read back",
-            waiting::read_back(threads, rt.alloc(), random),
-        ),
-        print(
-            rt,
-            "four callers",
-            four::four_callers(threads, rt.alloc(), random),
-        ),
-    ];
-    if printed.iter().all(|done| *done) {
-        ExitCode::from(0)
-    } else {
-        ExitCode::from(1)
+    let alloc = rt.alloc();
+    let mut made = true;
+    for trial in [TWO_TREES, LOAD_OUTSIDE, FETCH_OUTSIDE, READ_BACK] {
+        made = made
+            & print(
+                rt,
+                trial.name,
+                trials::comes_out(threads, alloc, random, trial),
+            );
     }
+    made = made & print(rt, "four callers", four::are_right(threads, alloc, random));
+    ExitCode::from(if made { 0 } else { 1 })
 }
 
 // Prints whether a trial came out as it should, and tells whether that could be said.
 fn print(rt: HostRuntime, name: &str, came: Result<bool, AllocError>) -> bool {
     match came {
-        Ok(right) => {
-            let word = if right {
-                "as it should be"
-            } else {
-                "otherwise"
-            };
-            println!(rt; "{name}: {word}").is_ok()
-        }
+        Ok(true) => println!(rt; "{name}: as it should be").is_ok(),
+        Ok(false) => println!(rt; "{name}: otherwise").is_ok(),
         Err(_) => {
             let _ = eprintln!(rt; "{name}: the trial could not be made");
             false

@@ -1,4 +1,7 @@
 //! Who asks, and the words of what is asked.
+ghost use Rattle.std.specs.Prelude.{◌≡◌, IfOk, Ok};
+ghost use Rattle.up_names.specs.UserNames.{user_of};
+
 use std::alloc::{AllocError, Global};
 use up_bytes::{Bytes, copy_of};
 use up_ends::{FixedVerifier, Verdict};
@@ -11,40 +14,27 @@ use up_wire::{KeyRecord, Request};
 /// The name of the host.
 pub const HOST: &str = "h";
 
-/// Whose the first tree is.
-pub const ANN: &str = "ann@a.example";
-
-/// Whose the second tree is.
-pub const BOB: &str = "bob@b.example";
-
-/// A user of neither tree.
-pub const CARL: &str = "carl@c.example";
-
-/// The user of a name. All names here are good, so an `Err` is want of memory.
-pub fn user_of(alloc: Global, name: &str) -> Result<User, AllocError> {
-    match parse_user(alloc, name.as_bytes()) {
+/// The user of this name. All names here are good, so an `Err` is want of memory.
+pub fn user_named(alloc: Global, who: &[u8]) -> Result<User, AllocError>
+    ensures { IfOk result (λ user. user_of who.now ≡ Ok user) }
+{
+    match parse_user(alloc, who) {
         Ok(user) => Ok(user),
         Err(_) => Err(AllocError),
     }
 }
 
-/// The session of a user, to whose sign-on the verifier says Yes.
-pub fn session_of(alloc: Global, name: &str) -> Result<Session, AllocError> {
-    let user = user_of(alloc, name)?;
-    let card = card_of(alloc, user);
-    let begun = SignOn::begin(alloc, HOST, &card, [0; 32]);
-    drop(card);
-    prove(alloc, begun?)
-}
-
-// A key record, whose key nobody looks at.
-fn card_of(alloc: Global, user: User) -> KeyRecord {
-    KeyRecord {
-        user,
+/// A session of the user of this name, to whose sign-on the verifier says Yes.
+pub fn session_of(alloc: Global, who: &str) -> Result<Session, AllocError> {
+    let card = KeyRecord {
+        user: user_named(alloc, who.as_bytes())?,
         dirs: Items::new(alloc),
         stores: Items::new(alloc),
         key: Bytes::new(alloc),
-    }
+    };
+    let begun = SignOn::begin(alloc, HOST, &card, [0; 32]);
+    drop(card);
+    prove(alloc, begun?)
 }
 
 fn prove(alloc: Global, begun: SignOn) -> Result<Session, AllocError> {
@@ -58,16 +48,11 @@ fn prove(alloc: Global, begun: SignOn) -> Result<Session, AllocError> {
 /// The request that the words of a line ask for a user. All lines here are good, so an `Err` is want of memory.
 pub fn request_of(alloc: Global, user: &User, line: &str) -> Result<Request, AllocError> {
     let words = words_of(alloc, line)?;
-    let request = request_said(alloc, words.as_slice(), user);
+    let request = read_request(alloc, words.as_slice(), user);
     drop(words);
-    request
-}
-
-fn request_said(alloc: Global, words: &[Bytes], user: &User) -> Result<Request, AllocError> {
-    match read_request(alloc, words, user) {
+    match request {
         Ok(Some(request)) => Ok(request),
-        Ok(None) => Err(AllocError),
-        Err(failed) => Err(failed),
+        Ok(None) | Err(_) => Err(AllocError),
     }
 }
 

@@ -51,13 +51,7 @@ pub fn wait_while_armed(flag: &AtomicU64) {
 /// Waits before each sync of a disk.
 #[derive(Drop)]
 pub struct WaitsInSync {
-    flag: Arc<AtomicU64, Global>,
-}
-
-impl WaitsInSync {
-    pub fn new(flag: Arc<AtomicU64, Global>) -> WaitsInSync {
-        WaitsInSync { flag }
-    }
+    pub flag: Arc<AtomicU64, Global>,
 }
 
 impl Hook for WaitsInSync {
@@ -71,20 +65,10 @@ impl Hook for WaitsInSync {
 /// Whom a host asks for what other hosts have: nobody has anything. Where there is a flag, each question waits for it.
 #[derive(Drop)]
 pub struct Others<'a> {
-    flag: Option<&'a AtomicU64>,
+    pub flag: Option<&'a AtomicU64>,
 }
 
 impl<'a> Others<'a> {
-    /// Nobody waits.
-    pub fn at_once() -> Others<'a> {
-        Others { flag: None }
-    }
-
-    /// Each question waits for the flag.
-    pub fn behind(flag: &'a AtomicU64) -> Others<'a> {
-        Others { flag: Some(flag) }
-    }
-
     fn wait(&self) {
         if let Some(flag) = self.flag {
             wait_while_armed(flag);
