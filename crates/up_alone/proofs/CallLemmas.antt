@@ -26,7 +26,7 @@ use Rattle.up_host.specs.Alone.{views}
 use Rattle.up_journal.specs.Logs.{EachFits}
 use Rattle.up_keys.specs.Records as keys
 use Rattle.up_list.specs.Asking.{asked_of, owner_asked}
-use Rattle.up_list.specs.declared.asking.Asked.{Asked}
+use Rattle.up_list.specs.declared.asking.ReadRequest.{ReadRequest}
 use Rattle.up_names.specs.Texts.{UserName}
 use Rattle.up_peer.specs.declared.loader.Loader as loader
 use Rattle.up_log_tree.proofs.Paths.{some_none, some_same}
@@ -69,7 +69,7 @@ route_few : (user : UserName) (request : Request) → FewRoute (route_of user re
 unfolding route_of
 route_few user request = go (asked_of user request)
   where
-    go : (o : std.Result Asked EntryFault) → FewRoute (elim o as (λ _. Route) [ std.Ok asked ↦ route.Tree (log_owner (owner_asked asked)) (locations_asked asked) | std.Err why ↦ route.Refused (fault_reply why) ])
+    go : (o : std.Result ReadRequest EntryFault) → FewRoute (elim o as (λ _. Route) [ std.Ok asked ↦ route.Tree (log_owner (owner_asked asked)) (locations_asked asked) | std.Err why ↦ route.Refused (fault_reply why) ])
     go (std.Ok asked) = tt
     go (std.Err why) = fault_few why
 

@@ -41,5 +41,7 @@ AreApart user loadings one two (a ∷ as') (b ∷ bs) =
 
 -- Under such turns two logs that agree for a user other than the owner at the start are in step: they agree after each of them.
 abbrev pub ApartTurnsAreInStep : Type 0
-ApartTurnsAreInStep = (user : UserName) (loadings : List Loading) (one two : Log) (as' bs : List Turn) → user ≢ one.owner → IsWhole one → IsWhole two →
-    AreInCalendar as' → AreInCalendar bs → Agree user loadings one two → AreApart user loadings one two as' bs → InStep user loadings one two as' bs
+ApartTurnsAreInStep =
+    (user : UserName) (loadings : List Loading) (one two : Log) (as' bs : List Turn) → user ≢ one.owner → IsWhole one → IsWhole two →
+    AreInCalendar as' → AreInCalendar bs → Agree user loadings one two
+    → AreApart user loadings one two as' bs → InStep user loadings one two as' bs

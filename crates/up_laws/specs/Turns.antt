@@ -27,17 +27,19 @@ use Rattle.up_laws.specs.declared.turns.Turn as given
 abbrev pub turn_by : UserName → Request → Loading → Fetched → ℕ → Turn
 turn_by user request loaded fetched now = record { user = user; request = request; loaded = loaded; fetched = fetched; now = now }
 
--- the turns that were handed in
+-- a turn that was handed in
 abbrev pub turn_of : given.Turn → Turn
 turn_of turn = turn_by turn.user turn.request turn.loaded turn.fetched turn.now
 
+-- the turns that were handed in
 abbrev pub turns_of : List given.Turn → List Turn
 turns_of turns = map turn_of turns
 
--- what is answered in a turn over a log, and the records that it adds
+-- what is answered in a turn over a log
 abbrev pub answer_in : Log → Turn → Reply
 answer_in log turn = answer log turn.loaded turn.fetched turn.user turn.request turn.now
 
+-- the records that a turn adds to a log
 abbrev pub added_in : Log → Turn → List Rec
 added_in log turn = added log turn.loaded turn.fetched turn.user turn.request turn.now
 

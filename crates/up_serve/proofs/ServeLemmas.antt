@@ -61,12 +61,6 @@ apart value code bad = absurd (cc)
 
 -- ---- what the status says of source and sink
 
--- the text was not read, by no fault of its source
-pub stays_unread : {X : Type 0} (read read_now status code : ℕ) (result : Result X ℕ) → result ≡ Err status → code ≡ status → StaysUnless read read_now (result ≡ Err 2) → StaysUnless read read_now (code ≡ 2)
-stays_unread {X} read read_now status code result is same quiet = record {
-  stays = λ none. quiet.stays (λ bad. let e : ◌≡◌ {A = Result X ℕ} (Err status) (Err 2) = sym is ∙ bad in let k : status ≡ 2 = cc in none (same ∙ k));
-}
-
 module _ (given given_now read read_now wrote wrote_now : ℕ) (left : Option Text) where
   -- a log did not open
   pub causes_refused : (held held_now : Option Text) (which : ℕ) (reason : OpenWhy) (status : ℕ) → AnswersOne held held_now (refused_by which reason) status → given_now ≡ given → read_now ≡ read → (status ≡ 3 → Rose wrote wrote_now) → wrote ≤ wrote_now
@@ -102,6 +96,16 @@ module _ (given given_now read read_now wrote wrote_now : ℕ) (left : Option Te
     where
       not_three : (n : ℕ) → IsOneOf (2 ∷ 4 ∷ 7 ∷ []) n → n ≡ 3 → ⊥
       not_three n is bad = grind (arith)
+
+  -- the same of the status that is handed back with the disks
+  pub causes_given_back : {X : Type 0} (code status : ℕ) (result : Result X ℕ) → code ≡ status → result ≡ Err status → IsOneOf (2 ∷ 4 ∷ 7 ∷ []) status → (result ≡ Err 2 → Rose read read_now) → (result ≡ Err 7 → IfSome left (λ bytes. input_limit < length bytes))
+      → (given + input_limit < 2 ^ 64 - 1 → (result ≡ Err 7 ↔ (given + input_limit < given_now))) → read ≤ read_now → wrote_now ≡ wrote → HasCauses code given given_now read read_now wrote wrote_now left
+  causes_given_back code status result same is one fault long exact later stays =
+      subst (λ n. HasCauses n given given_now read read_now wrote wrote_now left) (sym same) (causes_unread status result is one fault long exact later stays)
+
+  -- the source's count stays where it was not its fault
+  pub quiet_given_back : {X : Type 0} (code status : ℕ) (result : Result X ℕ) → code ≡ status → result ≡ Err status → StaysUnless read read_now (result ≡ Err 2) → StaysUnless read read_now (code ≡ 2)
+  quiet_given_back code status result same is quiet = record { stays = λ not_two. quiet.stays (λ two. not_two (let apart : Err status ≡ Err 2 = sym is ∙ two in cc)) }
 
   -- it was read whole
   not_over : {X : Type 0} (result : Result X ℕ) (value : X) → result ≡ Ok value → (given + input_limit < 2 ^ 64 - 1 → (result ≡ Err 7 ↔ (given + input_limit < given_now))) → given + input_limit < 2 ^ 64 - 1 → given + input_limit < given_now → ⊥
