@@ -43,7 +43,7 @@ abbrev pub event_places_to : Log → ℕ → PathName → ℕ → List Place
 event_places_to log sequence path zero = []
 event_places_to log sequence path (suc n) = event_places_to log sequence path n ++ event_places log sequence path n
 
--- what a Watch looks at behind the watched path, by its sequence
+-- what a Watch looks at after the watched path, by its sequence
 abbrev pub watch_places : Log → PathName → ℤ → List Place
 watch_places log path (pos sequence) = event_places_to log sequence path (length log.records)
 watch_places log path (negsuc zero) = items_where (λ name. is_under name path) (tree_of log.records)

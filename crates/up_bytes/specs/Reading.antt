@@ -1,4 +1,4 @@
--- Reading a field at the front of what is left: its value and what is left behind it, or the fault. Short is the
+-- Reading a field at the front of what is left: its value and what is left after it, or the fault. Short is the
 -- fault where the input ends within the field, and Spelling with the field's place where no spelling begins there.
 use Rattle.std.specs.Prelude.{◌≡◌, ◌≢◌, ℕ, zero, suc, ℤ, List, [], ◌∷◌, length, take, Option, Some, None, Result, Ok, Err, nat_lt, ◌==◌, slice_index, if◌then◌else◌}
 use Rattle.up_bytes.specs.declared.fault.FieldFault.{FieldFault}
@@ -85,12 +85,12 @@ made_of make read input = read input >>= made make
 abbrev pub plain : {A : Type 0} → A → Input → Result (A × Input) FieldFault
 plain x input = Ok (x, input)
 
--- what stands behind a tag, by a table: the fields of the first row with that tag, or no spelling at the tag's place
+-- what stands after a tag, by a table: the fields of the first row with that tag, or no spelling at the tag's place
 abbrev pub row_at : {A : Type 0} → List (ℕ × (Input → Result (A × Input) FieldFault)) → ℕ → ℕ → Input → Result (A × Input) FieldFault
 row_at [] place tag input = Err (Spelling place)
 row_at (row ∷ rows) place tag input = if tag == row.0 then row.1 input else row_at rows place tag input
 
--- a byte, and the fields that the table has behind it
+-- a byte, and the fields that the table has after it
 unfoldable pub tagged_at : {A : Type 0} → List (ℕ × (Input → Result (A × Input) FieldFault)) → Input → Result (A × Input) FieldFault
 tagged_at table input = do
   tag ← byte_at input
@@ -100,7 +100,7 @@ tagged_at table input = do
 abbrev pub from_start : List ℕ → Input
 from_start bytes = record { size = length bytes; left = bytes }
 
--- the value that is the whole of these bytes: a byte behind its last field is Spelling with that byte's place
+-- the value that is the whole of these bytes: a byte after its last field is Spelling with that byte's place
 unfoldable pub whole_of : {A : Type 0} → (Input → Result (A × Input) FieldFault) → List ℕ → Result A FieldFault
 whole_of read bytes = do
   found ← read (from_start bytes)

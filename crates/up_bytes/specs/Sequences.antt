@@ -5,7 +5,7 @@ use Rattle.up_bytes.specs.declared.fault.FieldFault.TheVariants.{Short, Spelling
 use Rattle.up_bytes.specs.Input.{Input}
 use Rattle.up_bytes.specs.Forms.{IsBytes, Takes, EndsWithin, IsNoSpelling}
 
--- the input with further bytes behind it
+-- the input with further bytes after it
 abbrev pub longer : Input → List ℕ → Input
 longer input more = record { size = input.size + length more; left = input.left ++ more }
 
@@ -25,7 +25,7 @@ pub record AreFields {A : Type 0} (Fits : A → Type 0) (spelling : A → List �
   -- the answer that a field is misspelled stays, with its place, whatever bytes follow
   pub stays : (input : Input) (more : List ℕ) (p : ℕ) → IsBytes input.left → IsBytes more
       → read input ≡ Err (Spelling p) → read (longer input more) ≡ Err (Spelling p)
-  -- short is never the last answer: some further bytes behind the input bring another
+  -- short is never the last answer: some further bytes after the input bring another
   pub answers : (input : Input) → IsBytes input.left → (more : List ℕ) × IsBytes more × (read (longer input more) ≢ Err Short)
 
 -- Values that are each the whole of some bytes, and how they are read.

@@ -52,7 +52,7 @@ IsOwn operator a b pair = (v w : SeenTree) → a.tree pair.0.owner ≡ Some v �
 abbrev pub IsOld : Views → Pair → Type 0
 IsOld a pair = a.tree pair.0.owner ≡ None → is_some (a.tree (log_owner pair.0.owner)) ≡ true → pair.1 ≡ loads.Missing
 
--- each name whose owner's tree the host has was answered from there, and is not one of the host's that is missing by its owner
+-- each name whose owner's tree the host has was answered from there, and one of the snapshot user of such an owner is missing
 abbrev pub OwnTexts : UserName → Views → Views → Loading → Type 0
 OwnTexts operator a b loaded = AllByRecursion (λ (pair : Pair). IsOwn operator a b pair × IsOld a pair) loaded
 

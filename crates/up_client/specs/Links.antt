@@ -22,11 +22,11 @@ is_link kinds.Link = true
 is_link kinds.File = false
 is_link kinds.Directory = false
 
--- the target, and behind it what stands in the path behind its first n elements
+-- the target, and after it what stands in the path after its first n elements
 abbrev pub behind : ℕ → PathName → PathName → PathName
 behind n path target = record { owner = target.owner; elements = target.elements ++ drop n path.elements }
 
--- Where a reply leads: a link that stands at the path or above it leads to its target and what stands behind the link.
+-- Where a reply leads: a link that stands at the path or above it leads to its target and what stands after the link.
 abbrev pub leads_to : PathName → Reply → Option PathName
 leads_to path (replies.FollowLink entry) =
     if is_link entry.attr.kind && is_under path entry.name

@@ -8,7 +8,7 @@ use Rattle.up_wire.specs.declared.replies.Reply.TheVariants as reply
 use Rattle.up_list.specs.Changes.{◌>>=◌}
 use Rattle.up_answers.specs.Fetching.{Fetched, fetch_for, is_failed, joined_bytes}
 
--- bytes, with others behind them, unless those are refused
+-- bytes, with others after them, unless those are refused
 abbrev pub behind : List ℕ → Result (List ℕ) Reply → Result (List ℕ) Reply
 behind front rest = rest >>= λ more. Ok (front ++ more)
 

@@ -1,4 +1,4 @@
--- Reading an entry or a record, field by field: its value and what is left behind it, or the first fault. A field that
+-- Reading an entry or a record, field by field: its value and what is left after it, or the first fault. A field that
 -- the input ends within is Short. A field whose bytes are no spelling of a value that may stand there is Spelling, with
 -- the field's place.
 use Rattle.std.specs.Prelude.{ℕ, Bool, false, not, ◌&&◌, ◌||◌, ◌==◌, if◌then◌else◌, List, [], ◌∷◌, length, Option, Some, None, option_map, Result, Ok, Err}
@@ -154,7 +154,7 @@ put_at input = do
   control ← control_text_at entry.0 entry.1
   Ok (Put entry.0 control.0, control.1)
 
--- the fields behind each tag
+-- the fields after each tag
 abbrev pub rec_table : List (ℕ × (Input → Result (Rec × Input) FieldFault))
 rec_table =
     (1, put_at)

@@ -9,7 +9,7 @@ use Rattle.up_feed_wire.specs.declared.ask.FeedAsk.{FeedAsk}
 use Rattle.up_feed_wire.specs.declared.reply.FeedReply.{FeedReply}
 use Rattle.up_feed_wire.specs.declared.reply.FeedReply.TheVariants as replies
 
--- ---- what is asked: 40, and behind how many records
+-- ---- what is asked: 40, and after how many records
 
 -- the payload of a question
 abbrev pub feed_ask : FeedAsk → List ℕ

@@ -19,7 +19,7 @@ OnlyLonger None None = ⊤
 OnlyLonger (Some log) None = ⊥
 OnlyLonger None (Some later) = ⊥
 
--- A batch from a position on: texts that stand directly behind so many of the leader's log, and none exactly where it has no more.
+-- A batch from a position on: texts that stand directly after so many of the leader's log, and none exactly where it has no more.
 pub record IsBatch (from : ℕ) (batch leader : List (List ℕ)) : Type 0 where
   pub behind : Begins batch (drop from leader)
   pub none : (batch ≡ []) ↔ (length leader ≤ from)

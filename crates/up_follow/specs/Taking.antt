@@ -12,11 +12,11 @@ use Rattle.up_log_tree.specs.Fits.{fits}
 use Rattle.up_log_tree.specs.Sizes.{size_of, sizes_of}
 use Rattle.up_tree.specs.States.{Applies, State, record_in}
 
--- the record, where it fits behind a log
+-- the record, where it fits after a log
 abbrev pub if_fits : UserName → List Rec → Rec → Option Rec
 if_fits owner log rec = if fits owner log rec then Some rec else None
 
--- the record that a text spells and that fits behind a log, if there is one
+-- the record that a text spells and that fits after a log, if there is one
 abbrev pub fitting_in : UserName → List Rec → List ℕ → Option Rec
 fitting_in owner log text = option_and_then (if_fits owner log) (record_in text)
 

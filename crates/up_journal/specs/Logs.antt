@@ -1,5 +1,5 @@
 -- What the records of a journal stand for where the state is the list of them, whatever they are: a reader above the journal says
--- which record a payload decodes to, and which record fits behind others. This project's own.
+-- which record a payload decodes to, and which record fits after others. This project's own.
 use Rattle.std.specs.Prelude.{◌≡◌, ◌≢◌, ◌⊎◌, ℕ, Bool, true, false, if◌then◌else◌, List, [], ◌∷◌, ◌++◌, length, map, take, slice_get, is_ok, is_some, Option, Some, None, option_and_then, Result, Ok, IfOk, IfSome, OnErr, OnOk}
 use Rattle.up_disk.specs.declared.disk.Disk.{Ghosts}
 use Rattle.up_disk.specs.Leaving.{Leaves, LeavesNow}

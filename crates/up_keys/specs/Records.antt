@@ -36,7 +36,7 @@ largest_room = 8192
 abbrev pub decoded : List ℕ → Option KeyRecord
 decoded payload = result_ok (logged_of payload)
 
--- a record fits behind any others where it keeps its bounds
+-- a record fits after any others where it keeps its bounds
 abbrev pub fits : List KeyRecord → KeyRecord → Bool
 fits log known = has_bounds known
 

@@ -38,7 +38,7 @@ group_item (Err fault) = None
 abbrev pub has_slash : Text → Bool
 has_slash name = list_any is_slash name
 
--- `*@` and what stands behind it, without a slash
+-- `*@` and what stands after it, without a slash
 abbrev pub is_domain_name : Text → Bool
 is_domain_name name = starts_with nat_eq name (codes "*@") && not (has_slash name)
 
@@ -47,7 +47,7 @@ abbrev pub has_owner : Text → Bool
 has_owner name = list_any is_at (before_first is_slash name)
 
 -- The item that a name stands for in a text of this owner, read in this order, or none where the name is bad: everyone;
--- `*@` and a domain; with an `@` before the first slash a user, or behind a slash a group; else the short name of a group
+-- `*@` and a domain; with an `@` before the first slash a user, or after a slash a group; else the short name of a group
 -- of the owner.
 unfoldable pub item_of : UserName → Text → Option Item
 item_of owner name =

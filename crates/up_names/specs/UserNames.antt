@@ -63,11 +63,11 @@ without_final_period text = if ends_with nat_eq text (byte "." ∷ []) then take
 abbrev pub name_part : UserName → Text
 name_part user = before_first is_at user
 
--- the part behind the `@`
+-- the part after the `@`
 abbrev pub domain_part : UserName → Text
 domain_part user = after_first is_at user
 
--- the suffix behind the first `+` of a name part, if there is a `+`
+-- the suffix after the first `+` of a name part, if there is a `+`
 abbrev pub suffix_in : Text → Option Text
 suffix_in name = if list_any is_plus name then Some (after_first is_plus name) else None
 

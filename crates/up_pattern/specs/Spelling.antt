@@ -14,7 +14,7 @@ abbrev pub joined : {X : Type 0} → List (List X) → List X
 joined [] = []
 joined (piece ∷ pieces) = piece ++ joined pieces
 
--- a character as it is written: an escaped one behind a `\`
+-- a character as it is written: an escaped one after a `\`
 abbrev pub spelled : Token → List ℕ
 spelled token = if token.is_escaped then byte "\\" ∷ token.character ∷ [] else token.character ∷ []
 
@@ -34,7 +34,7 @@ SpellsRange range piece =
 abbrev pub SpellsRanges : List Range → List Token → Type 0
 SpellsRanges ranges tokens = (pieces : List (List Token)) × (joined pieces ≡ tokens) × AllZip SpellsRange ranges pieces
 
--- what stands between brackets, of a class: one range at least, behind a `^` those that are excepted
+-- what stands between brackets, of a class: one range at least, after a `^` those that are excepted
 abbrev pub SpellsClass : Term → List Token → Type 0
 SpellsClass (OneOf ranges) inside =
     (first : Token) × (rest : List Token) × (inside ≡ first ∷ rest) × (is_sign (byte "^") first ≡ false) × SpellsRanges ranges inside

@@ -34,7 +34,7 @@ first_to snap_user records path zero = None
 first_to snap_user records path (suc n) =
     option_or (first_to snap_user records path n) (bearing snap_user path (suc n) (slice_get records n))
 
--- the path that a snapshot shows at a path: the elements behind the four of its moment
+-- the path that a snapshot shows at a path: the elements after the four of its moment
 abbrev pub old_path : UserName → PathName → PathName
 old_path owner path = record { owner = owner; elements = drop 4 path.elements }
 

@@ -54,7 +54,7 @@ endpoints_word (first ∷ more) = join_by (λ endpoint. endpoint_word endpoint) 
 
 -- ---- entries
 
--- the word of a kind, with `?` behind it where the incomplete mark is set
+-- the word of a kind, with `?` after it where the incomplete mark is set
 abbrev pub mark : Bool → Text
 mark true = codes "?"
 mark false = []

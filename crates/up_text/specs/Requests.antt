@@ -1,5 +1,5 @@
 -- What each line of a script asks of a server, or of the client. The script language is this project's own. The words are those
--- behind the session's number: a keyword, and the words that it takes.
+-- after the session's number: a keyword, and the words that it takes.
 use Rattle.std.specs.Prelude.{ℕ, ℤ, ◌^◌, nat_lt, if◌then◌else◌, List, [], ◌∷◌, Option, Some, None, option_map, codes, bytes_eq}
 use Rattle.up_names.specs.Texts.{Text, UserName}
 use Rattle.up_entry.specs.declared.puts.PutEntry.{PutEntry}

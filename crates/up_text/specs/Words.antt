@@ -18,7 +18,7 @@ abbrev pub pair_byte : ℕ → ℕ → Option ℕ
 pair_byte high low =
     if is_digit high 16 && is_digit low 16 then Some (16 * digit_value high + digit_value low) else None
 
--- what a piece behind a `%` stands for: the byte of its two digits, and then the rest as it is
+-- what a piece after a `%` stands for: the byte of its two digits, and then the rest as it is
 abbrev pub after_percent : List ℕ → Option (List ℕ)
 after_percent [] = None
 after_percent (high ∷ []) = None

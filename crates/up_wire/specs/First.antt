@@ -1,4 +1,4 @@
--- What fails first where a message is read, or a record of a key server's log: its tag, or the first field behind it. This project's
+-- What fails first where a message is read, or a record of a key server's log: its tag, or the first field after it. This project's
 -- own.
 use Rattle.std.specs.Prelude.{ℕ, List, [], ◌∷◌}
 use Rattle.up_bytes.specs.declared.fault.FieldFault.{FieldFault}

@@ -1,4 +1,4 @@
--- Reading a message: a tag, and the fields that a table has behind it. The first field that is no spelling of a value that
+-- Reading a message: a tag, and the fields that a table has after it. The first field that is no spelling of a value that
 -- may stand there is Spelling, with its place; where the input ends before that, it is Short.
 use Rattle.std.specs.Prelude.{ℕ, Bool, true, false, List, [], ◌∷◌, Option, Some, None, Result, Ok}
 use Rattle.up_bytes.specs.declared.fault.FieldFault.{FieldFault}
