@@ -1,4 +1,6 @@
 //! A run of the command, over the disk of a follower or over an image of it.
+ghost use Rattle.up_journal.specs.Journal.{AreLimits};
+
 use crate::follow_cases::follows::Stage;
 use crate::host_cases::stopping::add_alike;
 use crate::serve_cases::plans::words_of;
@@ -94,7 +96,7 @@ fn run_of(alloc: Global, stage: &Stage, text: &str) -> Result<Run, Fault> {
 
 fn source_of(alloc: Global, stage: &Stage, lines: &str) -> Result<MemSource, AllocError> {
     let mut input = lines.to_string(alloc)?.into_bytes();
-    for byte in input.as_mut_slice() {
+    for byte in input.iter_mut() {
         if *byte == b'|' {
             *byte = b'\n';
         }
@@ -144,19 +146,31 @@ fn within(
     let Some(owner) = follow_owner(alloc, &run.words)? else {
         return Err(Fault::BadLine);
     };
-    if limits.device > 1 << 62 || limits.largest > u32::MAX as u64 || disks.len() != 1 {
+    if disks.len() != 1 {
+        drop(owner);
         return Err(Fault::BadLine);
     }
     Ok(follow_within(
         alloc,
         stage.random,
-        limits,
+        fit(limits),
         owner,
         &mut run.feed,
         disks,
         &mut run.source,
         &mut run.sink,
     ))
+}
+
+// These limits, or the greatest that a log takes.
+fn fit(limits: Limits) -> Limits
+    ensures { AreLimits result }
+{
+    Limits {
+        records: limits.records,
+        device: limits.device.min(1 << 62),
+        largest: limits.largest.min(u32::MAX as u64),
+    }
 }
 
 // Each line behind a `|`.
