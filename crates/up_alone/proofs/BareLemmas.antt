@@ -29,13 +29,13 @@ use Rattle.up_wire.specs.declared.replies.Done.TheVariants as done
 use Rattle.up_wire.specs.declared.replies.Reply.{Reply}
 use Rattle.up_wire.specs.declared.replies.Reply.TheVariants as reply
 use Rattle.up_wire.specs.declared.requests.Request.{Request}
-use Rattle.up_replay.specs.declared.node.Node.{Node}
-use Rattle.up_replay.specs.Fits.{IsLog, root_of}
-use Rattle.up_replay.specs.Trees.{Tree, children, is_file, kind_of, node_at, tree_of}
-use Rattle.up_replay.specs.Snapshots.{snap_at}
-use Rattle.up_replay.specs.Logs.{Log}
-use Rattle.up_list.specs.declared.asking.Asked.{Asked}
-use Rattle.up_list.specs.declared.asking.Asked.TheVariants.{Lookup, WhichAccess, GroupText, Delete, Put, Glob, Watch}
+use Rattle.up_log_tree.specs.declared.node.Node.{Node}
+use Rattle.up_log_tree.specs.Fits.{IsLog, root_of}
+use Rattle.up_log_tree.specs.Trees.{Tree, children, is_file, kind_of, node_at, tree_of}
+use Rattle.up_log_tree.specs.Snapshots.{snap_at}
+use Rattle.up_log_tree.specs.Logs.{Log}
+use Rattle.up_list.specs.declared.asking.ReadRequest.{ReadRequest}
+use Rattle.up_list.specs.declared.asking.ReadRequest.TheVariants.{Lookup, WhichAccess, GroupText, Delete, Put, Glob, Watch}
 use Rattle.up_list.specs.Asking.{asked_of, owner_asked}
 use Rattle.up_list.specs.Changes.{◌>>=◌, refuse, right_to_put, unless}
 use Rattle.up_list.specs.Checks.{at_link, check, first_link, lacking, link_at, ways, ways_before}
@@ -52,7 +52,7 @@ use Rattle.up_answers.specs.Puts.{holds, is_in_file, is_new, lacks_parent, place
 use Rattle.up_answers.specs.SnapshotReplies.{snapshot_delete, snapshot_outcome, snapshot_put, snapshot_record, takes_snapshot}
 use Rattle.up_answers.specs.SnapshotTrees.{snapshot_look}
 use Rattle.up_answers.specs.Watches.{batch, is_watched, watch_reply, watched}
-use Rattle.up_replay.proofs.Paths.{some_none, some_same}
+use Rattle.up_log_tree.proofs.Paths.{some_none, some_same}
 use Rattle.up_alone.proofs.LinkLemmas.{IsBare, ShowsBareLinks, snapshot_links, tree_links}
 
 -- where the reply is to follow a link, that has neither blocks nor packdata
@@ -265,7 +265,7 @@ module _ (look : Look) (links : ShowsBareLinks look.tree) where
       go false = tt
 
 module _ (log : Log) (user : List ℕ) (now : ℕ) (is : IsLog log.owner log.records) where
-  snapshot_bare : (asked : Asked) → BareLed (snapshot_outcome log user asked now)
+  snapshot_bare : (asked : ReadRequest) → BareLed (snapshot_outcome log user asked now)
   unfolding snapshot_outcome snapshot_delete
   snapshot_bare (Lookup path) = lookup_bare (snapshot_look log user) (snapshot_links log is) path
   snapshot_bare (WhichAccess path) = access_bare (snapshot_look log user) (snapshot_links log is) path
@@ -278,7 +278,7 @@ module _ (log : Log) (user : List ℕ) (now : ℕ) (is : IsLog log.owner log.rec
   -- ---- all requests
 
   module _ (loaded : Loading) (fetched : Fetched) where
-    tree_bare : (asked : Asked) → BareLed (tree_outcome log loaded fetched user asked)
+    tree_bare : (asked : ReadRequest) → BareLed (tree_outcome log loaded fetched user asked)
     unfolding tree_outcome
     tree_bare (Lookup path) = lookup_bare (look_now log loaded user) (tree_links log is) path
     tree_bare (WhichAccess path) = access_bare (look_now log loaded user) (tree_links log is) path
@@ -288,7 +288,7 @@ module _ (log : Log) (user : List ℕ) (now : ℕ) (is : IsLog log.owner log.rec
     tree_bare (Delete path) = delete_bare (look_now log loaded user) (tree_links log is) path
     tree_bare (Put put) = put_bare (look_now log loaded user) (tree_links log is) (length log.records) fetched put
 
-    asked_bare : (asked : Asked) → BareLed (asked_outcome log loaded fetched user asked now)
+    asked_bare : (asked : ReadRequest) → BareLed (asked_outcome log loaded fetched user asked now)
     unfolding asked_outcome
     asked_bare asked = go (bytes_eq (owner_asked asked) log.owner) (bytes_eq (log_owner (owner_asked asked)) log.owner)
       where
@@ -305,6 +305,6 @@ module _ (log : Log) (user : List ℕ) (now : ℕ) (is : IsLog log.owner log.rec
         why_bare (fault.Invalid w) = tt
         why_bare fault.OutOfMemory = tt
 
-        go : (o : Result Asked EntryFault) → BareLed (elim o as (λ _. Result Rec Reply) [ Ok asked ↦ asked_outcome log loaded fetched user asked now | Err why ↦ Err (fault_reply why) ])
+        go : (o : Result ReadRequest EntryFault) → BareLed (elim o as (λ _. Result Rec Reply) [ Ok asked ↦ asked_outcome log loaded fetched user asked now | Err why ↦ Err (fault_reply why) ])
         go (Ok asked) = asked_bare asked
         go (Err why) = why_bare why

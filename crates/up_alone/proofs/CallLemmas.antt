@@ -15,9 +15,9 @@ use Rattle.up_calls.specs.Views.{SeenKeys, SeenStore, SeenTree, Views, log_seen}
 use Rattle.up_calls.specs.declared.event.Event.{Event}
 use Rattle.up_calls.specs.declared.service.Service.{Service}
 use Rattle.up_calls.specs.declared.service.Service.TheVariants as service
-use Rattle.up_changes.specs.Routes.{route_of}
-use Rattle.up_changes.specs.declared.routes.Route.{Route}
-use Rattle.up_changes.specs.declared.routes.Route.TheVariants as route
+use Rattle.up_edits.specs.Routes.{route_of}
+use Rattle.up_edits.specs.declared.routes.Route.{Route}
+use Rattle.up_edits.specs.declared.routes.Route.TheVariants as route
 use Rattle.up_disk.specs.declared.disk.Disk as disk
 use Rattle.up_entry.specs.declared.fault.EntryFault.{EntryFault}
 use Rattle.up_entry.specs.declared.fault.EntryFault.TheVariants as fault
@@ -26,10 +26,10 @@ use Rattle.up_host.specs.Alone.{views}
 use Rattle.up_journal.specs.Logs.{EachFits}
 use Rattle.up_keys.specs.Records as keys
 use Rattle.up_list.specs.Asking.{asked_of, owner_asked}
-use Rattle.up_list.specs.declared.asking.Asked.{Asked}
+use Rattle.up_list.specs.declared.asking.ReadRequest.{ReadRequest}
 use Rattle.up_names.specs.Texts.{UserName}
 use Rattle.up_peer.specs.declared.loader.Loader as loader
-use Rattle.up_replay.proofs.Paths.{some_none, some_same}
+use Rattle.up_log_tree.proofs.Paths.{some_none, some_same}
 use Rattle.up_wire.specs.Spelling.{IsReply, IsServer, server}
 use Rattle.up_wire.specs.declared.keys.KeyRecord.{KeyRecord}
 use Rattle.up_wire.specs.declared.messages.ServerFrame.{ServerFrame}
@@ -69,7 +69,7 @@ route_few : (user : UserName) (request : Request) → FewRoute (route_of user re
 unfolding route_of
 route_few user request = go (asked_of user request)
   where
-    go : (o : std.Result Asked EntryFault) → FewRoute (elim o as (λ _. Route) [ std.Ok asked ↦ route.Tree (log_owner (owner_asked asked)) (locations_asked asked) | std.Err why ↦ route.Refused (fault_reply why) ])
+    go : (o : std.Result ReadRequest EntryFault) → FewRoute (elim o as (λ _. Route) [ std.Ok asked ↦ route.Tree (log_owner (owner_asked asked)) (locations_asked asked) | std.Err why ↦ route.Refused (fault_reply why) ])
     go (std.Ok asked) = tt
     go (std.Err why) = fault_few why
 

@@ -8,7 +8,7 @@ use Rattle.std.specs.Map.{values_of}
 use Rattle.std.specs.Ordering.{eq_by_cmp}
 use Rattle.std.specs.declared.cmp.Ordering.{Ordering}
 use Rattle.std.specs.declared.cmp.Ordering.TheVariants.{Less, Equal, Greater}
-use Rattle.up_replay.proofs.Paths.{some_none, some_same}
+use Rattle.up_log_tree.proofs.Paths.{some_none, some_same}
 
 -- ---- lists
 

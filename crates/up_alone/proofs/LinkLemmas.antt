@@ -16,11 +16,11 @@ use Rattle.up_entry.specs.declared.entries.Kind.{Kind}
 use Rattle.up_entry.specs.declared.entries.Kind.TheVariants.{File, Directory, Link}
 use Rattle.up_entry.specs.declared.records.Rec.{Rec}
 use Rattle.up_entry.specs.declared.records.Rec.TheVariants as rec
-use Rattle.up_replay.specs.declared.node.Node.{Node}
-use Rattle.up_replay.specs.Fits.{Fits, IsLog}
-use Rattle.up_replay.specs.Logs.{Log}
-use Rattle.up_replay.specs.Trees.{Tree, after_record, is_link, kind_of, node_at, tree_at, tree_of}
-use Rattle.up_replay.proofs.Paths.{some_none, some_same}
+use Rattle.up_log_tree.specs.declared.node.Node.{Node}
+use Rattle.up_log_tree.specs.Fits.{Fits, IsLog}
+use Rattle.up_log_tree.specs.Logs.{Log}
+use Rattle.up_log_tree.specs.Trees.{Tree, after_record, is_link, kind_of, node_at, tree_at, tree_of}
+use Rattle.up_log_tree.proofs.Paths.{some_none, some_same}
 use Rattle.up_list.specs.Checks.{link_at}
 use Rattle.up_list.specs.Entries.{entry_of, if_link}
 use Rattle.up_answers.specs.SnapshotTrees.{directories_above, has_room, made_up, moved_node, moved_nodes, snapshot_tree, snapshots_to, with_new, with_node, with_snapshot, with_snapshot_of}

@@ -26,9 +26,9 @@ use Rattle.up_names.specs.UserNames.{user_of}
 use Rattle.up_names.specs.declared.fault.NameFault.{NameFault}
 use Rattle.up_refs.specs.References.{reference_in}
 use Rattle.up_refs.specs.Sha256.{sha256}
-use Rattle.up_replay.specs.Logs.{Log}
+use Rattle.up_log_tree.specs.Logs.{Log}
 use Rattle.up_rights.specs.declared.Right.TheVariants as right
-use Rattle.up_replay.specs.Sizes.{size_of}
+use Rattle.up_log_tree.specs.Sizes.{size_of}
 use Rattle.up_wire.specs.Bounds.{bounded}
 use Rattle.up_wire.specs.Keys.{logged}
 use Rattle.up_wire.specs.Spelling.{IsReply}

@@ -28,7 +28,8 @@ pub record HostAlone (D L : Type 0) : Type 0 where
 
 -- One call of a host that is not shared, at a moment: what its caller sees of it, and what its one caller sees besides; the reply tells
 -- no more than the user sees.
-pub record AsksAlone {D L : Type 0} (disks : disk.Ghosts D) (loaders : loader.Ghosts L) (a : HostAlone D L) (q : Question) (moment : ℕ) (e : Event) (b : HostAlone D L) : Type 0 where
+pub record AsksAlone {D L : Type 0} (disks : disk.Ghosts D) (loaders : loader.Ghosts L)
+    (a : HostAlone D L) (q : Question) (moment : ℕ) (e : Event) (b : HostAlone D L) : Type 0 where
   pub asked : Asked loaders a.host.operator (views disks a.host) a.peers q e (views disks b.host) b.peers
   pub alone : IsAlone (views disks a.host) (views disks b.host) q e
   pub counts : Counts (disk_faults disks a.host) (disk_faults disks b.host) (loaders.faults a.peers) (loaders.faults b.peers) e
@@ -39,7 +40,8 @@ pub record AsksAlone {D L : Type 0} (disks : disk.Ghosts D) (loaders : loader.Gh
   pub name : b.host.name ≡ a.host.name
 
 -- a request of a user at a moment, with the frame that answers it: that of the reply
-pub record AnswersAlone {D L : Type 0} (disks : disk.Ghosts D) (loaders : loader.Ghosts L) (a : HostAlone D L) (user : UserName) (request : Request) (moment : ℕ) (frame : ServerFrame) (b : HostAlone D L) : Type 0 where
+pub record AnswersAlone {D L : Type 0} (disks : disk.Ghosts D) (loaders : loader.Ghosts L) (a : HostAlone D L)
+    (user : UserName) (request : Request) (moment : ℕ) (frame : ServerFrame) (b : HostAlone D L) : Type 0 where
   pub event : Event
   pub asks : AsksAlone disks loaders a (record { user = user; request = request }) moment event b
   pub frame_is : frame ≡ servers.Answer event.reply
@@ -57,7 +59,8 @@ pub record TiedAlone {D L : Type 0} (loaders : loader.Ghosts L) (a b : HostAlone
   pub peers : loaders.tied a.peers b.peers
 
 -- a host that is not shared, among those that a connection has
-abbrev pub alone_among : {D L V C N : Type 0} → disk.Ghosts D → loader.Ghosts L → verifier.Ghosts V → clock.Ghosts C → nonces.Ghosts N → Parties (HostAlone D L) V C N Request ServerFrame
+abbrev pub alone_among : {D L V C N : Type 0} → disk.Ghosts D → loader.Ghosts L → verifier.Ghosts V
+    → clock.Ghosts C → nonces.Ghosts N → Parties (HostAlone D L) V C N Request ServerFrame
 alone_among disks loaders verifiers clocks drawn = record {
   name = λ a. a.host.name;
   looked = LooksAlone;
@@ -72,8 +75,10 @@ alone_among disks loaders verifiers clocks drawn = record {
   challenges = drawn.coming;
 }
 
+-- this host, and these peers behind it
 abbrev pub host_alone : {D L : Type 0} → HostState D → L → HostAlone D L
 host_alone host peers = record { host = host; peers = peers }
 
+-- this host with these peers, and what a connection has around it
 abbrev pub alone_at : {D L V C N : Type 0} → HostState D → L → V → C → N → Around (HostAlone D L) V C N
 alone_at host peers verifier clock nonces = record { answerer = host_alone host peers; verifier = verifier; clock = clock; nonces = nonces }

@@ -14,16 +14,16 @@ use Rattle.up_wire.specs.declared.replies.Reply.{Reply}
 use Rattle.up_wire.specs.declared.replies.Reply.TheVariants as reply
 use Rattle.up_wire.specs.declared.replies.Done.{Done}
 use Rattle.up_wire.specs.declared.replies.Done.TheVariants as done
-use Rattle.up_replay.specs.declared.node.Node.{Node}
-use Rattle.up_replay.specs.Trees.{Tree, node_at, kind_of}
+use Rattle.up_log_tree.specs.declared.node.Node.{Node}
+use Rattle.up_log_tree.specs.Trees.{Tree, node_at, kind_of}
 use Rattle.up_list.specs.Checks.{link_at, first_link, ways_to, ways, at_link, lacking, check}
 use Rattle.up_list.specs.Looks.{Look, rights, has_some, shown}
 use Rattle.up_answers.specs.Views.{View, view, sight, shown_node}
 use Rattle.up_list.specs.Governing.{governing_file}
 use Rattle.up_list.specs.Entries.{entry_at, entry_of}
 use Rattle.up_list.specs.Reads.{entry_reply, lookup_reply, access_reply}
-use Rattle.up_replay.proofs.Rooted.{IsRooted}
-use Rattle.up_replay.proofs.Paths.{some_none, some_same, cut_cut, length_cut}
+use Rattle.up_log_tree.proofs.Rooted.{IsRooted}
+use Rattle.up_log_tree.proofs.Paths.{some_none, some_same, cut_cut, length_cut}
 use Rattle.up_answers.proofs.LinkedLemmas.{is_link_there, link_there, nothing_below}
 use Rattle.up_answers.proofs.RightLemmas.{none_from, none_below}
 

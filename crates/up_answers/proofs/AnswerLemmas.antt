@@ -25,15 +25,15 @@ use Rattle.up_wire.specs.declared.replies.Reply.TheVariants as reply
 use Rattle.up_wire.specs.declared.replies.Done.TheVariants as done
 use Rattle.up_wire.specs.declared.requests.Request.{Request}
 use Rattle.up_wire.specs.declared.requests.Request.TheVariants as request
-use Rattle.up_replay.specs.declared.node.Node.{Node}
-use Rattle.up_replay.specs.Trees.{node_at, tree_of}
-use Rattle.up_replay.specs.Rights.{is_group}
-use Rattle.up_replay.specs.Logs.{Limits, Log, bytes_of}
-use Rattle.up_replay.specs.Sizes.{size_of}
-use Rattle.up_replay.proofs.Trees.{tree_sorted}
-use Rattle.up_replay.proofs.Rooted.{IsRooted, rooted}
-use Rattle.up_list.specs.declared.asking.Asked.{Asked}
-use Rattle.up_list.specs.declared.asking.Asked.TheVariants.{Lookup, WhichAccess, GroupText, Delete, Put, Glob, Watch}
+use Rattle.up_log_tree.specs.declared.node.Node.{Node}
+use Rattle.up_log_tree.specs.Trees.{node_at, tree_of}
+use Rattle.up_log_tree.specs.Rights.{is_group}
+use Rattle.up_log_tree.specs.Logs.{Limits, Log, bytes_of}
+use Rattle.up_log_tree.specs.Sizes.{size_of}
+use Rattle.up_log_tree.proofs.Trees.{tree_sorted}
+use Rattle.up_log_tree.proofs.Rooted.{IsRooted, rooted}
+use Rattle.up_list.specs.declared.asking.ReadRequest.{ReadRequest}
+use Rattle.up_list.specs.declared.asking.ReadRequest.TheVariants.{Lookup, WhichAccess, GroupText, Delete, Put, Glob, Watch}
 use Rattle.up_list.specs.Asking.{asked_of, owner_asked, pattern_or_fault}
 use Rattle.up_list.specs.Looks.{look_now}
 use Rattle.up_list.specs.Checks.{check, ways, ways_before}
@@ -116,7 +116,7 @@ led_same one two a b limits count bytes same =
 
 -- ---- what a request uses of what was loaded
 
-abbrev used_by : Asked → Loading → Loading
+abbrev used_by : ReadRequest → Loading → Loading
 used_by (GroupText path) loaded = []
 used_by (Lookup path) loaded = loaded
 used_by (WhichAccess path) loaded = loaded
@@ -126,7 +126,7 @@ used_by (Glob pattern) loaded = loaded
 used_by (Watch path sequence) loaded = loaded
 
 -- a GroupText is asked of a Group path
-abbrev IsWellAsked : Asked → Type 0
+abbrev IsWellAsked : ReadRequest → Type 0
 IsWellAsked (GroupText path) = control_of path ≡ control.Group
 IsWellAsked (Lookup path) = ⊤
 IsWellAsked (WhichAccess path) = ⊤
@@ -135,7 +135,7 @@ IsWellAsked (Put put) = ⊤
 IsWellAsked (Glob pattern) = ⊤
 IsWellAsked (Watch path sequence) = ⊤
 
-record IsReadAs (request : Request) (loaded : Loading) (asked : Asked) : Type 0 where
+record IsReadAs (request : Request) (loaded : Loading) (asked : ReadRequest) : Type 0 where
   uses : used request loaded ≡ used_by asked loaded
   well : IsWellAsked asked
 
@@ -147,10 +147,10 @@ rule_ok : (w : What) (b : Bool) (x : ⊤) → rule w b ≡ std.Ok x → b ≡ tr
 rule_ok w true x h = refl
 rule_ok w false x h = absurd (cc)
 
-pub asked_same : (x y : Asked) → ◌≡◌ {A = Result Asked EntryFault} (std.Ok x) (std.Ok y) → x ≡ y
+pub asked_same : (x y : ReadRequest) → ◌≡◌ {A = Result ReadRequest EntryFault} (std.Ok x) (std.Ok y) → x ≡ y
 asked_same x y h = cc
 
-pub not_asked : (fault : EntryFault) (y : Asked) → ◌≡◌ {A = Result Asked EntryFault} (std.Err fault) (std.Ok y) → ⊥
+pub not_asked : (fault : EntryFault) (y : ReadRequest) → ◌≡◌ {A = Result ReadRequest EntryFault} (std.Err fault) (std.Ok y) → ⊥
 not_asked fault y h = absurd (cc)
 
 group_control : (path : PathName) → is_group path ≡ true → control_of path ≡ control.Group
@@ -161,7 +161,7 @@ group_control path h = go (control_of path) refl
     go control.Access e = absurd (false≢true (sym (ap (λ c. elim c as (λ _. Bool) [ control.Group ↦ true | control.Access ↦ false | control.Ordinary ↦ false ]) e) ∙ h))
     go control.Ordinary e = absurd (false≢true (sym (ap (λ c. elim c as (λ _. Bool) [ control.Group ↦ true | control.Access ↦ false | control.Ordinary ↦ false ]) e) ∙ h))
 
-read_as : (user : List ℕ) (loaded : Loading) (request' : Request) (asked : Asked) → asked_of user request' ≡ std.Ok asked → IsReadAs request' loaded asked
+read_as : (user : List ℕ) (loaded : Loading) (request' : Request) (asked : ReadRequest) → asked_of user request' ≡ std.Ok asked → IsReadAs request' loaded asked
 unfolding asked_of
 read_as user loaded (request.Lookup text) asked h =
     let a = step_ok (path_or what.Name text) _ asked h in
@@ -226,7 +226,7 @@ module _ (user : List ℕ) (loaded : Loading) (one two : Log) (is : IsWhole one)
       (check_same (look_now one loaded user) (look_now two loaded user) alike rooted₁ rooted₂ stranger stranger' (ways path) path (ways_are path) None)
       (λ passes. watched_same path sequence))
 
-  tree_same : (fetched : Fetched) (asked : Asked) → used_by asked loaded ≡ loaded → IsWellAsked asked → tree_outcome one loaded fetched user asked ≡ tree_outcome two loaded fetched user asked
+  tree_same : (fetched : Fetched) (asked : ReadRequest) → used_by asked loaded ≡ loaded → IsWellAsked asked → tree_outcome one loaded fetched user asked ≡ tree_outcome two loaded fetched user asked
   unfolding tree_outcome
   tree_same fetched (Lookup path) u well = ap (λ r. std.Err r) (lookup_same (look_now one loaded user) (look_now two loaded user) alike rooted₁ rooted₂ stranger stranger' path)
   tree_same fetched (WhichAccess path) u well = ap (λ r. std.Err r) (access_same (look_now one loaded user) (look_now two loaded user) alike rooted₁ rooted₂ stranger stranger' path)
@@ -240,7 +240,7 @@ module _ (user : List ℕ) (loaded : Loading) (one two : Log) (is : IsWhole one)
   tree_same fetched (Watch path sequence) u well = ap (λ r. std.Err r) (watch_same path sequence)
 
 -- what is loaded makes no difference to what uses nothing of it
-tree_used : (log : Log) (loaded : Loading) (fetched : Fetched) (user : List ℕ) (asked : Asked) → tree_outcome log loaded fetched user asked ≡ tree_outcome log (used_by asked loaded) fetched user asked
+tree_used : (log : Log) (loaded : Loading) (fetched : Fetched) (user : List ℕ) (asked : ReadRequest) → tree_outcome log loaded fetched user asked ≡ tree_outcome log (used_by asked loaded) fetched user asked
 unfolding tree_outcome group_text_reply
 tree_used log loaded fetched user (GroupText path) = refl
 tree_used log loaded fetched user (Lookup path) = refl
@@ -250,7 +250,7 @@ tree_used log loaded fetched user (Put put) = refl
 tree_used log loaded fetched user (Glob pattern) = refl
 tree_used log loaded fetched user (Watch path sequence) = refl
 
-used_twice : (asked : Asked) (loaded : Loading) → used_by asked (used_by asked loaded) ≡ used_by asked loaded
+used_twice : (asked : ReadRequest) (loaded : Loading) → used_by asked (used_by asked loaded) ≡ used_by asked loaded
 used_twice (GroupText path) loaded = refl
 used_twice (Lookup path) loaded = refl
 used_twice (WhichAccess path) loaded = refl
@@ -262,7 +262,7 @@ used_twice (Watch path sequence) loaded = refl
 -- ---- on the snapshot tree
 
 -- what is answered there to anybody but the base user
-abbrev pub hidden_outcome : Asked → Result Rec Reply
+abbrev pub hidden_outcome : ReadRequest → Result Rec Reply
 hidden_outcome (Watch path sequence) = std.Err (reply.Invalid what.SnapshotWatch)
 hidden_outcome (Lookup path) = std.Err reply.Private
 hidden_outcome (WhichAccess path) = std.Err reply.Private
@@ -287,7 +287,7 @@ module _ (log : Log) (user : List ℕ) (plain : IsPlain log.owner) (stranger : u
       go true = kept (check (snapshot_look log user) (ways (literal_path pattern)) (literal_path pattern) None) _ (refused (ways (literal_path pattern)) (literal_path pattern) None)
       go false = kept (check (snapshot_look log user) (ways (literal_path pattern)) (literal_path pattern) (Some right.List)) _ (refused (ways (literal_path pattern)) (literal_path pattern) (Some right.List))
 
-  pub snapshot_hidden : (asked : Asked) (now : ℕ) → snapshot_outcome log user asked now ≡ hidden_outcome asked
+  pub snapshot_hidden : (asked : ReadRequest) (now : ℕ) → snapshot_outcome log user asked now ≡ hidden_outcome asked
   unfolding snapshot_outcome lookup_reply access_reply group_text_reply snapshot_delete snapshot_put
   snapshot_hidden (Lookup path) now = ap (λ r. std.Err r) (kept (check (snapshot_look log user) (ways path) path None) _ (refused (ways path) path None))
   snapshot_hidden (WhichAccess path) now = ap (λ r. std.Err r) (kept (check (snapshot_look log user) (ways path) path None) _ (refused (ways path) path None))
@@ -312,7 +312,7 @@ plain_owner log name other same = go (owns_snapshots name) ((bytes_eq-Decides (l
     go false e = absurd (false≢true (sym other ∙ (bytes_eq-Decides name log.owner).1 e))
 
 module _ (user : List ℕ) (loaded : Loading) (fetched : Fetched) (now : ℕ) (one two : Log) (is : IsWhole one) (is' : IsWhole two) (owner : one.owner ≡ two.owner) (count : length one.records ≡ length two.records) (stranger : user ≡ one.owner → ⊥) where
-  asked_alike : (asked : Asked) → SeesTheSame user (used_by asked loaded) one two → IsWellAsked asked → asked_outcome one loaded fetched user asked now ≡ asked_outcome two loaded fetched user asked now
+  asked_alike : (asked : ReadRequest) → SeesTheSame user (used_by asked loaded) one two → IsWellAsked asked → asked_outcome one loaded fetched user asked now ≡ asked_outcome two loaded fetched user asked now
   unfolding asked_outcome
   asked_alike asked same well =
       go (bytes_eq (owner_asked asked) one.owner) refl (bytes_eq (log_owner (owner_asked asked)) one.owner) refl
@@ -353,7 +353,7 @@ module _ (user : List ℕ) (loaded : Loading) (fetched : Fetched) (now : ℕ) (o
   unfolding outcome
   led_alike request' same = go (asked_of user request') refl
     where
-      go : (r : Result Asked EntryFault) → asked_of user request' ≡ r →
+      go : (r : Result ReadRequest EntryFault) → asked_of user request' ≡ r →
           (elim r as (λ _. Result Rec Reply) [ std.Ok asked ↦ asked_outcome one loaded fetched user asked now | std.Err fault ↦ std.Err (fault_reply fault) ])
           ≡ (elim r as (λ _. Result Rec Reply) [ std.Ok asked ↦ asked_outcome two loaded fetched user asked now | std.Err fault ↦ std.Err (fault_reply fault) ])
       go (std.Err fault) e = refl

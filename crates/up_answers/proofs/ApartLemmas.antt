@@ -14,20 +14,20 @@ use Rattle.up_entry.specs.declared.entries.Entry.{Entry}
 use Rattle.up_entry.specs.Rules.{is_directory}
 use Rattle.up_entry.specs.declared.records.Rec.{Rec}
 use Rattle.up_entry.specs.declared.records.Rec.TheVariants.{Put, Delete, Snap}
-use Rattle.up_replay.specs.declared.node.Node.{Node}
-use Rattle.up_replay.specs.Trees.{kind_of, made_of, node_at, tree_of, is_parent, children}
+use Rattle.up_log_tree.specs.declared.node.Node.{Node}
+use Rattle.up_log_tree.specs.Trees.{kind_of, made_of, node_at, tree_of, is_parent, children}
 use Rattle.up_list.specs.Looks.{Look, rights, has_some, shown, look_now}
-use Rattle.up_replay.specs.Rights.{group_node, is_group_file}
+use Rattle.up_log_tree.specs.Rights.{group_node, is_group_file}
 use Rattle.up_answers.specs.Views.{view, sight, where_held, control_text, of_directory, shown_node, shown_children}
 use Rattle.up_answers.proofs.GovernorLemmas.{governor_node, governor_shown}
-use Rattle.up_replay.specs.Logs.{Log, bytes_of}
-use Rattle.up_replay.specs.Sizes.{size_of}
+use Rattle.up_log_tree.specs.Logs.{Log, bytes_of}
+use Rattle.up_log_tree.specs.Sizes.{size_of}
 use Rattle.up_answers.specs.Events.{Change, change_in, event_of, events}
 use Rattle.up_policy.specs.Loadings.{Loading}
 use Rattle.up_answers.specs.Laws.{ApartChangesKeepAgreement, IsWhole, touched, with_record}
-use Rattle.up_replay.proofs.Paths.{some_none, path_same, path_other, some_same}
-use Rattle.up_replay.proofs.Trees.{children_made, node_at-put, node_at-delete, tree_of-push, tree_sorted, made_same}
-use Rattle.up_replay.proofs.Rooted.{rooted}
+use Rattle.up_log_tree.proofs.Paths.{some_none, path_same, path_other, some_same}
+use Rattle.up_log_tree.proofs.Trees.{children_made, node_at-put, node_at-delete, tree_of-push, tree_sorted, made_same}
+use Rattle.up_log_tree.proofs.Rooted.{rooted}
 use Rattle.up_answers.proofs.PutLemmas.{ends_extended}
 use Rattle.up_answers.proofs.SeenLemmas.{nothing_made}
 use Rattle.up_answers.proofs.QuietLemmas.{IsQuiet, governor_quiet, shown_quiet, now_quiet, events_after}

@@ -7,7 +7,7 @@ use Rattle.std.proofs.lemmas.List.Folds.{list_any-append}
 use Rattle.up_names.specs.UserNames.{base_of, domain_part, is_at, is_plus, name_part, suffix_of}
 use Rattle.up_names.proofs.CutLemmas.{after_first-joined, before_first-joined, before_first-none, list_any-take}
 use Rattle.up_policy.specs.Trees.{owns_snapshots}
-use Rattle.up_replay.specs.Fits.{snapshot_user}
+use Rattle.up_log_tree.specs.Fits.{snapshot_user}
 
 -- a user without suffix: a name without `+` and `@`, and a domain
 pub record IsPlain (user : List ℕ) : Type 0 where

@@ -19,19 +19,19 @@ use Rattle.up_entry.specs.ControlFiles.{is_control_file, is_ordinary}
 use Rattle.up_wire.specs.declared.replies.Reply.{Reply}
 use Rattle.up_wire.specs.declared.replies.Reply.TheVariants as reply
 use Rattle.up_wire.specs.declared.replies.Done.TheVariants as done
-use Rattle.up_replay.specs.declared.node.Node.{Node}
-use Rattle.up_replay.specs.Trees.{Tree, node_at, kind_of, is_file, is_parent, made_of, children}
+use Rattle.up_log_tree.specs.declared.node.Node.{Node}
+use Rattle.up_log_tree.specs.Trees.{Tree, node_at, kind_of, is_file, is_parent, made_of, children}
 use Rattle.up_entry.specs.Rules.{is_directory}
 use Rattle.up_list.specs.Looks.{Look, rights, has_some, shown}
 use Rattle.up_answers.specs.Views.{View, where_held, control_text, shown_node}
-use Rattle.up_replay.specs.Fits.{HasDirectory}
+use Rattle.up_log_tree.specs.Fits.{HasDirectory}
 use Rattle.up_list.specs.Checks.{ways, ways_before, check}
 use Rattle.up_list.specs.Reads.{file_text, text_reply}
 use Rattle.up_list.specs.Changes.{◌>>=◌, unless, refuse}
 use Rattle.up_answers.specs.Deletes.{delete_outcome}
-use Rattle.up_replay.proofs.Trees.{children_made, made_same}
-use Rattle.up_replay.proofs.Rooted.{IsRooted}
-use Rattle.up_replay.proofs.Paths.{path_same, some_none, some_same, parent_is, cut_cut, length_cut}
+use Rattle.up_log_tree.proofs.Trees.{children_made, made_same}
+use Rattle.up_log_tree.proofs.Rooted.{IsRooted}
+use Rattle.up_log_tree.proofs.Paths.{path_same, some_none, some_same, parent_is, cut_cut, length_cut}
 use Rattle.up_answers.proofs.AlikeLemmas.{AreAlike, same_sight, same_rights, same_entry, AreWays, ways_are, check_same, passed_some, passed_right, same_kind}
 
 -- ---- GroupText

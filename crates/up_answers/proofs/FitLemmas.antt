@@ -35,12 +35,12 @@ use Rattle.up_policy.specs.Loadings.{Loading}
 use Rattle.up_policy.specs.Trees.{owns_snapshots}
 use Rattle.up_wire.specs.declared.replies.Reply.{Reply}
 use Rattle.up_wire.specs.declared.replies.Reply.TheVariants as reply
-use Rattle.up_replay.specs.declared.node.Node.{Node}
-use Rattle.up_replay.specs.Trees.{Tree, node_at, tree_of, kind_of, is_file, is_link, children}
-use Rattle.up_replay.specs.Fits.{Fits, HasDirectory, HasPlace, MayReplace, TextFits, control_for}
-use Rattle.up_replay.specs.Logs.{Log}
-use Rattle.up_replay.specs.Sizes.{size_of}
-use Rattle.up_replay.proofs.Paths.{cut_whole, parent_is, parent_none, some_none, some_same}
+use Rattle.up_log_tree.specs.declared.node.Node.{Node}
+use Rattle.up_log_tree.specs.Trees.{Tree, node_at, tree_of, kind_of, is_file, is_link, children}
+use Rattle.up_log_tree.specs.Fits.{Fits, HasDirectory, HasPlace, MayReplace, TextFits, control_for}
+use Rattle.up_log_tree.specs.Logs.{Log}
+use Rattle.up_log_tree.specs.Sizes.{size_of}
+use Rattle.up_log_tree.proofs.Paths.{cut_whole, parent_is, parent_none, some_none, some_same}
 use Rattle.up_list.specs.Checks.{check, first_link, link_at, ways_to, ways, ways_before}
 use Rattle.up_list.specs.Changes.{◌>>=◌, added_by, is_full, unless, refuse, right_to_put}
 use Rattle.up_list.specs.Entries.{entry_of, if_link}
@@ -58,12 +58,12 @@ use Rattle.up_names.proofs.PathAgain.{path_of-again}
 use Rattle.up_names.proofs.PathLaws.{canonical-proper}
 use Rattle.up_wire.specs.declared.requests.Request.{Request}
 use Rattle.up_wire.specs.declared.requests.Request.TheVariants as request
-use Rattle.up_replay.specs.Fits.{is_snap_at, root_of, snapshot_user}
-use Rattle.up_replay.specs.Rights.{is_group}
-use Rattle.up_replay.specs.Snapshots.{snap_at}
-use Rattle.up_replay.proofs.Paths.{path_same}
-use Rattle.up_list.specs.declared.asking.Asked.{Asked}
-use Rattle.up_list.specs.declared.asking.Asked.TheVariants.{Lookup, WhichAccess, GroupText, Delete, Put, Glob, Watch}
+use Rattle.up_log_tree.specs.Fits.{is_snap_at, root_of, snapshot_user}
+use Rattle.up_log_tree.specs.Rights.{is_group}
+use Rattle.up_log_tree.specs.Snapshots.{snap_at}
+use Rattle.up_log_tree.proofs.Paths.{path_same}
+use Rattle.up_list.specs.declared.asking.ReadRequest.{ReadRequest}
+use Rattle.up_list.specs.declared.asking.ReadRequest.TheVariants.{Lookup, WhichAccess, GroupText, Delete, Put, Glob, Watch}
 use Rattle.up_list.specs.Asking.{asked_of, owner_asked, pattern_or_fault}
 use Rattle.up_answers.specs.Answers.{added, asked_outcome, fault_reply, log_owner, outcome, tree_outcome}
 use Rattle.up_answers.specs.SnapshotReplies.{snapshot_outcome, snapshot_put, snapshot_record, takes_snapshot}
@@ -371,7 +371,7 @@ put_on_snapshots log user put now record' plain calendar short h = go (takes_sna
 -- ---- all requests
 
 -- the entry of a Put has the form of entries, under a user's name
-abbrev pub IsFormed : Asked → Type 0
+abbrev pub IsFormed : ReadRequest → Type 0
 IsFormed (Put put) = HasFixedForm put.entry × (length put.entry.name.owner ≤ 254)
 IsFormed (Lookup path) = ⊤
 IsFormed (WhichAccess path) = ⊤
@@ -386,7 +386,7 @@ put_formed put user checked h =
     let proper = canonical-proper checked.entry.name (path_of-again put.name checked.entry.name is.name) in
     (is.form, at_most_254 checked.entry.name.owner checked.entry.name.owner proper.owner)
 
-formed : (user : List ℕ) (request' : Request) (asked : Asked) → asked_of user request' ≡ std.Ok asked → IsFormed asked
+formed : (user : List ℕ) (request' : Request) (asked : ReadRequest) → asked_of user request' ≡ std.Ok asked → IsFormed asked
 unfolding asked_of
 formed user (request.Lookup text) asked h = let a = step_ok (path_or what.Name text) _ asked h in subst IsFormed (asked_same (Lookup a.0) asked a.2) tt
 formed user (request.WhichAccess text) asked h = let a = step_ok (path_or what.Name text) _ asked h in subst IsFormed (asked_same (WhichAccess a.0) asked a.2) tt
@@ -409,7 +409,7 @@ formed user (request.KeyLookup text) asked h = absurd (not_asked _ asked h)
 formed user (request.KeyPut card) asked h = absurd (not_asked _ asked h)
 
 module _ (log : Log) (loaded : Loading) (fetched : Fetched) (user : List ℕ) (now : ℕ) (calendar : now < 253402207200) where
-  on_tree : (asked : Asked) (record' : Rec) → owner_asked asked ≡ log.owner → IsFormed asked → tree_outcome log loaded fetched user asked ≡ std.Ok record' → Fits log.owner log.records record'
+  on_tree : (asked : ReadRequest) (record' : Rec) → owner_asked asked ≡ log.owner → IsFormed asked → tree_outcome log loaded fetched user asked ≡ std.Ok record' → Fits log.owner log.records record'
   unfolding tree_outcome
   on_tree (Lookup path) record' owned form h = absurd (err_ok _ record' h)
   on_tree (WhichAccess path) record' owned form h = absurd (err_ok _ record' h)
@@ -419,7 +419,7 @@ module _ (log : Log) (loaded : Loading) (fetched : Fetched) (user : List ℕ) (n
   on_tree (Delete path) record' owned form h = delete_fits log loaded user path record' h
   on_tree (Put put) record' owned form h = put_fits log loaded user fetched put record' form.0 owned h
 
-  on_snapshots : (asked : Asked) (record' : Rec) → IsPlain log.owner → IsFormed asked → snapshot_outcome log user asked now ≡ std.Ok record' → Fits log.owner log.records record'
+  on_snapshots : (asked : ReadRequest) (record' : Rec) → IsPlain log.owner → IsFormed asked → snapshot_outcome log user asked now ≡ std.Ok record' → Fits log.owner log.records record'
   unfolding snapshot_outcome
   on_snapshots (Lookup path) record' plain form h = absurd (err_ok _ record' h)
   on_snapshots (WhichAccess path) record' plain form h = absurd (err_ok _ record' h)
@@ -429,7 +429,7 @@ module _ (log : Log) (loaded : Loading) (fetched : Fetched) (user : List ℕ) (n
   on_snapshots (Delete path) record' plain form h = absurd (err_ok _ record' h)
   on_snapshots (Put put) record' plain form h = put_on_snapshots log user put now record' plain calendar form.1 h
 
-  asked_fits : (asked : Asked) (record' : Rec) → IsFormed asked → asked_outcome log loaded fetched user asked now ≡ std.Ok record' → Fits log.owner log.records record'
+  asked_fits : (asked : ReadRequest) (record' : Rec) → IsFormed asked → asked_outcome log loaded fetched user asked now ≡ std.Ok record' → Fits log.owner log.records record'
   unfolding asked_outcome
   asked_fits asked record' form h = go (bytes_eq (owner_asked asked) log.owner) refl (bytes_eq (log_owner (owner_asked asked)) log.owner) refl h
     where
@@ -450,7 +450,7 @@ module _ (log : Log) (loaded : Loading) (fetched : Fetched) (user : List ℕ) (n
   unfolding outcome
   led_fits request' record' h = go (asked_of user request') refl h
     where
-      go : (r : Result Asked EntryFault) → asked_of user request' ≡ r → (elim r as (λ _. Result Rec Reply) [ std.Ok asked ↦ asked_outcome log loaded fetched user asked now | std.Err fault ↦ std.Err (fault_reply fault) ]) ≡ std.Ok record' → Fits log.owner log.records record'
+      go : (r : Result ReadRequest EntryFault) → asked_of user request' ≡ r → (elim r as (λ _. Result Rec Reply) [ std.Ok asked ↦ asked_outcome log loaded fetched user asked now | std.Err fault ↦ std.Err (fault_reply fault) ]) ≡ std.Ok record' → Fits log.owner log.records record'
       go (std.Err fault) e k = absurd (err_ok (fault_reply fault) record' k)
       go (std.Ok asked) e k = asked_fits asked record' (formed user request' asked e) k
 

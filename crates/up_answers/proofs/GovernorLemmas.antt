@@ -6,10 +6,10 @@ use Rattle.up_names.specs.PathNames.{PathName}
 use Rattle.up_policy.specs.Governors.{prefixes}
 use Rattle.up_policy.specs.Trees.{owns_snapshots}
 use Rattle.up_policy.proofs.PathLists.{Contains-behind, Contains-head}
-use Rattle.up_replay.specs.declared.node.Node.{Node}
-use Rattle.up_replay.specs.Trees.{Tree}
-use Rattle.up_replay.specs.Rights.{access_node, access_path, governing_prefix}
-use Rattle.up_replay.proofs.Paths.{some_none}
+use Rattle.up_log_tree.specs.declared.node.Node.{Node}
+use Rattle.up_log_tree.specs.Trees.{Tree}
+use Rattle.up_log_tree.specs.Rights.{access_node, access_path, governing_prefix}
+use Rattle.up_log_tree.proofs.Paths.{some_none}
 use Rattle.up_list.specs.Entries.{entry_at, entry_of}
 use Rattle.up_list.specs.Governing.{governing_file}
 use Rattle.up_list.specs.Looks.{Look, shown}

@@ -25,22 +25,22 @@ use Rattle.up_policy.specs.Trees.{owns_snapshots}
 use Rattle.up_policy.specs.Governors.{governor}
 use Rattle.up_policy.specs.Verdicts.{only_looks, is_control, without_text, text_decides, right_test}
 use Rattle.up_wire.specs.declared.replies.WatchEvent.{WatchEvent}
-use Rattle.up_replay.specs.declared.node.Node.{Node}
-use Rattle.up_replay.specs.Trees.{Tree, node_at, kind_of, tree_of, made_of, is_parent, children, is_file}
+use Rattle.up_log_tree.specs.declared.node.Node.{Node}
+use Rattle.up_log_tree.specs.Trees.{Tree, node_at, kind_of, tree_of, made_of, is_parent, children, is_file}
 use Rattle.up_entry.specs.Rules.{is_directory}
 use Rattle.up_list.specs.Looks.{Look, rights, has_some, shown, look_now}
-use Rattle.up_replay.specs.Rights.{group_node, is_group, is_group_file, facts_of, group_paths}
+use Rattle.up_log_tree.specs.Rights.{group_node, is_group, is_group_file, facts_of, group_paths}
 use Rattle.up_answers.specs.Views.{View, view, sight, where_held, control_text}
 use Rattle.up_answers.proofs.GovernorLemmas.{governor_node, governor_shown}
-use Rattle.up_replay.specs.Logs.{Log}
-use Rattle.up_replay.specs.Fits.{HasDirectory, Fits}
+use Rattle.up_log_tree.specs.Logs.{Log}
+use Rattle.up_log_tree.specs.Fits.{HasDirectory, Fits}
 use Rattle.up_answers.specs.Events.{Change, change_in, event_of, events}
 use Rattle.up_policy.specs.Loadings.{Loading}
 use Rattle.up_answers.specs.Agreement.{SeesTheSame}
 use Rattle.up_answers.specs.Laws.{IsWhole, touched, with_record}
-use Rattle.up_replay.proofs.Paths.{some_none, path_eq_itself, path_same, some_same}
-use Rattle.up_replay.proofs.Trees.{children_made, node_at-put, node_at-delete, tree_of-push, tree_sorted, made_same, made_alike}
-use Rattle.up_replay.proofs.Rooted.{IsRooted, rooted}
+use Rattle.up_log_tree.proofs.Paths.{some_none, path_eq_itself, path_same, some_same}
+use Rattle.up_log_tree.proofs.Trees.{children_made, node_at-put, node_at-delete, tree_of-push, tree_sorted, made_same, made_alike}
+use Rattle.up_log_tree.proofs.Rooted.{IsRooted, rooted}
 use Rattle.up_answers.proofs.RightLemmas.{decided, held_is, stranger_test}
 use Rattle.up_answers.proofs.AnswerLemmas.{alike_of}
 use Rattle.up_answers.proofs.AlikeLemmas.{AreAlike, same_sight, same_rights, same_entry, same_kind}

@@ -6,10 +6,10 @@ use Rattle.up_names.specs.PathNames.{PathName, cut}
 use Rattle.up_entry.specs.declared.entries.Entry.{Entry}
 use Rattle.up_entry.specs.declared.entries.Kind.{Kind}
 use Rattle.up_entry.specs.declared.entries.Kind.TheVariants.{File, Directory, Link}
-use Rattle.up_replay.specs.declared.node.Node.{Node}
-use Rattle.up_replay.specs.Trees.{Tree, kind_of, is_link, node_at}
-use Rattle.up_replay.proofs.Paths.{some_none, some_same}
-use Rattle.up_replay.proofs.Rooted.{IsRooted, prefix_directory}
+use Rattle.up_log_tree.specs.declared.node.Node.{Node}
+use Rattle.up_log_tree.specs.Trees.{Tree, kind_of, is_link, node_at}
+use Rattle.up_log_tree.proofs.Paths.{some_none, some_same}
+use Rattle.up_log_tree.proofs.Rooted.{IsRooted, prefix_directory}
 use Rattle.up_list.specs.Checks.{link_at}
 use Rattle.up_list.specs.Entries.{entry_of, if_link}
 

@@ -20,14 +20,14 @@ use Rattle.up_policy.specs.Laws.{ListsGroups}
 use Rattle.up_policy.proofs.VerdictLemmas.{test_is_right, at_any}
 use Rattle.up_wire.specs.declared.replies.Reply.{Reply}
 use Rattle.up_wire.specs.declared.replies.Reply.TheVariants as reply
-use Rattle.up_replay.specs.declared.node.Node.{Node}
-use Rattle.up_replay.specs.Trees.{Tree, node_at, tree_of, made_of}
+use Rattle.up_log_tree.specs.declared.node.Node.{Node}
+use Rattle.up_log_tree.specs.Trees.{Tree, node_at, tree_of, made_of}
 use Rattle.up_list.specs.Checks.{first_link, check, lacking, at_link}
 use Rattle.up_list.specs.Looks.{Look, rights, has_some, shown}
-use Rattle.up_replay.specs.Rights.{group_node, is_group_file, items_of, facts_of, group_paths}
+use Rattle.up_log_tree.specs.Rights.{group_node, is_group_file, items_of, facts_of, group_paths}
 use Rattle.up_answers.specs.Laws.{RightsAreMeant, SnapshotsArePrivate}
-use Rattle.up_replay.proofs.Paths.{path_same}
-use Rattle.up_replay.proofs.Trees.{find-made, tree_sorted}
+use Rattle.up_log_tree.proofs.Paths.{path_same}
+use Rattle.up_log_tree.proofs.Trees.{find-made, tree_sorted}
 use Rattle.up_answers.proofs.RightLemmas.{held_is, decided, from_any, stranger_test}
 
 -- ---- rights

@@ -36,13 +36,13 @@ use Rattle.up_policy.specs.Loadings.{Loading}
 use Rattle.up_policy.specs.Reached.{needed, needed_by, reached}
 use Rattle.up_policy.specs.Verdicts.{grants, is_control, only_looks, right_test, rights_held, text_decides, without_text}
 use Rattle.up_policy.proofs.PathLists.{Contains-cons, no_member}
-use Rattle.up_replay.specs.declared.node.Node.{Node}
-use Rattle.up_replay.specs.Fits.{Fits}
-use Rattle.up_replay.specs.Logs.{Log, bytes_of}
-use Rattle.up_replay.specs.Rights.{facts_of, group_paths, rules_of}
-use Rattle.up_replay.specs.Trees.{after_record, is_parent, made_of, node_at, tree_of}
-use Rattle.up_replay.proofs.Paths.{some_none}
-use Rattle.up_list.specs.declared.asking.Asked.TheVariants.{Lookup}
+use Rattle.up_log_tree.specs.declared.node.Node.{Node}
+use Rattle.up_log_tree.specs.Fits.{Fits}
+use Rattle.up_log_tree.specs.Logs.{Log, bytes_of}
+use Rattle.up_log_tree.specs.Rights.{facts_of, group_paths, rules_of}
+use Rattle.up_log_tree.specs.Trees.{after_record, is_parent, made_of, node_at, tree_of}
+use Rattle.up_log_tree.proofs.Paths.{some_none}
+use Rattle.up_list.specs.declared.asking.ReadRequest.TheVariants.{Lookup}
 use Rattle.up_list.specs.Looks.{has_some, look_after, look_now, rights, shown}
 use Rattle.up_answers.specs.Agreement.{Agree, SeesTheSame}
 use Rattle.up_answers.specs.Events.{Change, change_at, event_at, event_of, events_to}

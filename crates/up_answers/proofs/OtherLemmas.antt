@@ -10,13 +10,13 @@ use Rattle.up_policy.specs.Governors.{first_text, prefixes_to, governor}
 use Rattle.up_policy.specs.Loadings.{Loading}
 use Rattle.up_policy.specs.Trees.{owns_snapshots}
 use Rattle.up_policy.specs.Verdicts.{only_looks, is_control, without_text, text_decides, right_test}
-use Rattle.up_replay.specs.declared.node.Node.{Node}
-use Rattle.up_replay.specs.Trees.{Tree, node_at, tree_of}
-use Rattle.up_replay.specs.Fits.{HasDirectory}
-use Rattle.up_replay.specs.Rights.{access_node, rules_of, facts_of, group_paths}
-use Rattle.up_replay.specs.Logs.{Log}
-use Rattle.up_replay.proofs.Paths.{length_cut, parent_is, parent_none}
-use Rattle.up_replay.proofs.Rooted.{IsRooted, rooted}
+use Rattle.up_log_tree.specs.declared.node.Node.{Node}
+use Rattle.up_log_tree.specs.Trees.{Tree, node_at, tree_of}
+use Rattle.up_log_tree.specs.Fits.{HasDirectory}
+use Rattle.up_log_tree.specs.Rights.{access_node, rules_of, facts_of, group_paths}
+use Rattle.up_log_tree.specs.Logs.{Log}
+use Rattle.up_log_tree.proofs.Paths.{length_cut, parent_is, parent_none}
+use Rattle.up_log_tree.proofs.Rooted.{IsRooted, rooted}
 use Rattle.up_list.specs.Looks.{rights, has_some, look_now}
 use Rattle.up_answers.specs.Views.{view, sight}
 use Rattle.up_answers.specs.Laws.{IsWhole, OtherPathsAreHidden}

@@ -27,21 +27,21 @@ use Rattle.up_policy.specs.Governors.{prefixes_to, prefixes, governor}
 use Rattle.up_policy.specs.Verdicts.{only_looks, is_control, without_text, text_decides, right_test}
 use Rattle.up_wire.specs.declared.replies.Reply.{Reply}
 use Rattle.up_wire.specs.declared.replies.Reply.TheVariants as reply
-use Rattle.up_replay.specs.declared.node.Node.{Node}
-use Rattle.up_replay.specs.Trees.{Tree, node_at, kind_of, is_file}
+use Rattle.up_log_tree.specs.declared.node.Node.{Node}
+use Rattle.up_log_tree.specs.Trees.{Tree, node_at, kind_of, is_file}
 use Rattle.up_list.specs.Checks.{first_link, ways, check, lacking, at_link}
 use Rattle.up_entry.specs.Rules.{is_directory}
 use Rattle.up_list.specs.Looks.{Look, rights, has_some, shown}
-use Rattle.up_replay.specs.Rights.{access_node, facts_of, group_paths}
+use Rattle.up_log_tree.specs.Rights.{access_node, facts_of, group_paths}
 use Rattle.up_answers.specs.Views.{View, where_held, control_text, shown_node}
 use Rattle.up_answers.proofs.GovernorLemmas.{first_made, governor_node, governor_shown, made_found}
-use Rattle.up_replay.specs.Fits.{HasDirectory}
+use Rattle.up_log_tree.specs.Fits.{HasDirectory}
 use Rattle.up_list.specs.Reads.{file_text, text_reply, group_text_reply}
 use Rattle.up_list.specs.Changes.{◌>>=◌, unless, refuse, right_to_put}
 use Rattle.up_answers.specs.Puts.{wanted, is_new, holds, lacks_parent, is_in_file, place_refusal, put_outcome}
 use Rattle.up_answers.specs.Fetching.{text_put, Fetched}
-use Rattle.up_replay.proofs.Rooted.{IsRooted}
-use Rattle.up_replay.proofs.Paths.{some_none, some_same, parent_is, cut_cut, cut_whole, length_cut}
+use Rattle.up_log_tree.proofs.Rooted.{IsRooted}
+use Rattle.up_log_tree.proofs.Paths.{some_none, some_same, parent_is, cut_cut, cut_whole, length_cut}
 use Rattle.up_answers.proofs.RightLemmas.{governed_above, test_above, held_is, stranger_test, any_from}
 use Rattle.up_answers.proofs.AlikeLemmas.{AreAlike, turned_round, same_some, same_sight, same_rights, same_entry, same_governor, ways_are, check_same, passed_some, passed_right, behind_check, same_kind}
 use Rattle.up_answers.proofs.ChangeLemmas.{text_is_seen, held_alike, bind_same, unless_ok, same_there, said_text}

@@ -18,16 +18,16 @@ use Rattle.up_policy.specs.Trees.{owns_snapshots}
 use Rattle.up_policy.specs.Governors.{prefixes}
 use Rattle.up_policy.specs.Verdicts.{rights_held}
 use Rattle.up_wire.specs.declared.replies.WatchEvent.{WatchEvent}
-use Rattle.up_replay.specs.declared.node.Node.{Node}
-use Rattle.up_replay.specs.Trees.{Tree, node_at, tree_of}
+use Rattle.up_log_tree.specs.declared.node.Node.{Node}
+use Rattle.up_log_tree.specs.Trees.{Tree, node_at, tree_of}
 use Rattle.up_list.specs.Looks.{Look, rights, has_some, shown, look_now, look_after}
-use Rattle.up_replay.specs.Rights.{access_node, group_node, is_group_file, facts_of, group_paths, rules_of, items_of}
+use Rattle.up_log_tree.specs.Rights.{access_node, group_node, is_group_file, facts_of, group_paths, rules_of, items_of}
 use Rattle.up_answers.proofs.GovernorLemmas.{first_made, governor_node}
-use Rattle.up_replay.specs.Logs.{Log}
+use Rattle.up_log_tree.specs.Logs.{Log}
 use Rattle.up_answers.specs.Events.{Change, change_in, change_at, event_of, event_at, events_to, events}
 use Rattle.up_answers.specs.Laws.{with_record}
-use Rattle.up_replay.proofs.Trees.{tree_sorted, made_same}
-use Rattle.up_replay.proofs.Fronts.{take_next}
+use Rattle.up_log_tree.proofs.Trees.{tree_sorted, made_same}
+use Rattle.up_log_tree.proofs.Fronts.{take_next}
 
 -- the same Access files and Group files
 pub record IsQuiet (before after : Tree) : Type 0 where

@@ -20,12 +20,12 @@ use Rattle.up_policy.specs.Verdicts.{is_control, only_looks}
 use Rattle.up_wire.specs.declared.replies.Reply.{Reply}
 use Rattle.up_wire.specs.declared.replies.Reply.TheVariants as reply
 use Rattle.up_wire.specs.declared.requests.Request.{Request}
-use Rattle.up_replay.specs.declared.node.Node.{Node}
-use Rattle.up_replay.specs.Trees.{children, node_at}
-use Rattle.up_replay.specs.Logs.{Limits, Log, bytes_of}
-use Rattle.up_replay.specs.Sizes.{size_of}
-use Rattle.up_list.specs.declared.asking.Asked.{Asked}
-use Rattle.up_list.specs.declared.asking.Asked.TheVariants.{Lookup, WhichAccess, GroupText, Delete, Put, Glob, Watch}
+use Rattle.up_log_tree.specs.declared.node.Node.{Node}
+use Rattle.up_log_tree.specs.Trees.{children, node_at}
+use Rattle.up_log_tree.specs.Logs.{Limits, Log, bytes_of}
+use Rattle.up_log_tree.specs.Sizes.{size_of}
+use Rattle.up_list.specs.declared.asking.ReadRequest.{ReadRequest}
+use Rattle.up_list.specs.declared.asking.ReadRequest.TheVariants.{Lookup, WhichAccess, GroupText, Delete, Put, Glob, Watch}
 use Rattle.up_list.specs.Asking.{asked_of, owner_asked}
 use Rattle.up_list.specs.Changes.{◌>>=◌, added_by, refuse, right_to_put, unless}
 use Rattle.up_list.specs.Checks.{check, ways, ways_before}
@@ -73,7 +73,7 @@ put_made look n fetched put record' h =
     let c = bind_ok (text_put look.owner fetched put.entry) last record' b.2 in
     (path, ap touched (sym (ok_same (rec.Put (record (put.entry) { sequence = n + 1 }) c.0) record' c.2)), right_to_put found, changing found, passed_right look (ways path) path (right_to_put found) (unless_ok (check look (ways path) path (Some (right_to_put found))) a.1))
 
-hidden_adds_none : (asked : Asked) (record' : Rec) → hidden_outcome asked ≡ std.Ok record' → ⊥
+hidden_adds_none : (asked : ReadRequest) (record' : Rec) → hidden_outcome asked ≡ std.Ok record' → ⊥
 hidden_adds_none (Lookup path) record' h = err_ok reply.Private record' h
 hidden_adds_none (WhichAccess path) record' h = err_ok reply.Private record' h
 hidden_adds_none (GroupText path) record' h = err_ok reply.Private record' h
@@ -83,7 +83,7 @@ hidden_adds_none (Glob pattern) record' h = err_ok reply.Private record' h
 hidden_adds_none (Watch path sequence) record' h = err_ok _ record' h
 
 module _ (log : Log) (loaded : Loading) (fetched : Fetched) (user : List ℕ) (now : ℕ) (stranger : user ≡ log.owner → ⊥) where
-  tree_made : (asked : Asked) (record' : Rec) → tree_outcome log loaded fetched user asked ≡ std.Ok record' → Made (look_now log loaded user) record'
+  tree_made : (asked : ReadRequest) (record' : Rec) → tree_outcome log loaded fetched user asked ≡ std.Ok record' → Made (look_now log loaded user) record'
   unfolding tree_outcome
   tree_made (Delete path) record' h = delete_made (look_now log loaded user) path record' h
   tree_made (Put put) record' h = put_made (look_now log loaded user) (length log.records) fetched put record' h
@@ -93,7 +93,7 @@ module _ (log : Log) (loaded : Loading) (fetched : Fetched) (user : List ℕ) (n
   tree_made (Glob pattern) record' h = absurd (err_ok _ record' h)
   tree_made (Watch path sequence) record' h = absurd (err_ok _ record' h)
 
-  asked_made : (asked : Asked) (record' : Rec) → asked_outcome log loaded fetched user asked now ≡ std.Ok record' → Made (look_now log loaded user) record'
+  asked_made : (asked : ReadRequest) (record' : Rec) → asked_outcome log loaded fetched user asked now ≡ std.Ok record' → Made (look_now log loaded user) record'
   unfolding asked_outcome
   asked_made asked record' h = go (bytes_eq (owner_asked asked) log.owner) refl (bytes_eq (log_owner (owner_asked asked)) log.owner) refl h
     where
@@ -114,7 +114,7 @@ module _ (log : Log) (loaded : Loading) (fetched : Fetched) (user : List ℕ) (n
   unfolding outcome
   led_made request' record' h = go (asked_of user request') h
     where
-      go : (r : Result Asked EntryFault) → (elim r as (λ _. Result Rec Reply) [ std.Ok asked ↦ asked_outcome log loaded fetched user asked now | std.Err fault ↦ std.Err (fault_reply fault) ]) ≡ std.Ok record' → Made (look_now log loaded user) record'
+      go : (r : Result ReadRequest EntryFault) → (elim r as (λ _. Result Rec Reply) [ std.Ok asked ↦ asked_outcome log loaded fetched user asked now | std.Err fault ↦ std.Err (fault_reply fault) ]) ≡ std.Ok record' → Made (look_now log loaded user) record'
       go (std.Err fault) k = absurd (err_ok (fault_reply fault) record' k)
       go (std.Ok asked) k = asked_made asked record' k
 

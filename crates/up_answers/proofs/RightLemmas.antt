@@ -20,13 +20,13 @@ use Rattle.up_entry.specs.Rules.{control_fits}
 use Rattle.up_policy.specs.Trees.{TreeFacts, owns_snapshots}
 use Rattle.up_policy.specs.Governors.{first_text, prefixes_to, prefixes, governor}
 use Rattle.up_policy.specs.Verdicts.{only_looks, is_control, without_text, text_decides, right_test, rights_held}
-use Rattle.up_replay.specs.declared.node.Node.{Node}
-use Rattle.up_replay.specs.Trees.{Tree, node_at}
+use Rattle.up_log_tree.specs.declared.node.Node.{Node}
+use Rattle.up_log_tree.specs.Trees.{Tree, node_at}
 use Rattle.up_list.specs.Checks.{link_at}
 use Rattle.up_list.specs.Looks.{Look, rights, has_some}
-use Rattle.up_replay.specs.Rights.{access_node, facts_of, group_paths}
-use Rattle.up_replay.proofs.Rooted.{IsRooted}
-use Rattle.up_replay.proofs.Paths.{cut_cut, length_cut}
+use Rattle.up_log_tree.specs.Rights.{access_node, facts_of, group_paths}
+use Rattle.up_log_tree.proofs.Rooted.{IsRooted}
+use Rattle.up_log_tree.proofs.Paths.{cut_cut, length_cut}
 use Rattle.up_answers.proofs.LinkedLemmas.{is_link_there, nothing_below}
 
 -- ---- sets of rights

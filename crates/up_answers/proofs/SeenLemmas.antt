@@ -18,19 +18,19 @@ use Rattle.up_pattern.specs.Patterns.{PatternName}
 use Rattle.up_wire.specs.declared.replies.WatchEvent.{WatchEvent}
 use Rattle.up_wire.specs.declared.replies.Reply.TheVariants as reply
 use Rattle.up_wire.specs.declared.replies.Done.TheVariants as done
-use Rattle.up_replay.specs.declared.node.Node.{Node}
-use Rattle.up_replay.specs.Trees.{Tree, node_at, kind_of, is_file, is_link, is_parent}
+use Rattle.up_log_tree.specs.declared.node.Node.{Node}
+use Rattle.up_log_tree.specs.Trees.{Tree, node_at, kind_of, is_file, is_link, is_parent}
 use Rattle.up_entry.specs.Rules.{is_directory}
 use Rattle.up_list.specs.Looks.{Look, rights, has_some, shown}
 use Rattle.up_answers.specs.Views.{View, where_held, shown_node, shown_children}
-use Rattle.up_replay.specs.Fits.{HasDirectory}
+use Rattle.up_log_tree.specs.Fits.{HasDirectory}
 use Rattle.up_list.specs.Checks.{ways, check}
 use Rattle.up_list.specs.Globs.{is_literal, literals, literal_path, is_whole, matches_front, is_listed, ends_literal, is_candidate, is_met, row_of, rows, one_row, rows_reply, glob_reply, matches_name, whole_reply}
 use Rattle.up_list.specs.Entries.{entry_at, entry_of}
 use Rattle.up_answers.specs.Watches.{items_under}
-use Rattle.up_replay.proofs.Paths.{some_none, path_eq_itself, some_same, parent_is}
-use Rattle.up_replay.proofs.Trees.{made_same, made_alike}
-use Rattle.up_replay.proofs.Rooted.{IsRooted}
+use Rattle.up_log_tree.proofs.Paths.{some_none, path_eq_itself, some_same, parent_is}
+use Rattle.up_log_tree.proofs.Trees.{made_same, made_alike}
+use Rattle.up_log_tree.proofs.Rooted.{IsRooted}
 use Rattle.up_answers.proofs.RightLemmas.{any_from}
 use Rattle.up_answers.proofs.AlikeLemmas.{AreAlike, turned_round, same_some, same_sight, same_rights, same_entry, ways_are, check_same, passed_some, behind_check, same_kind}
 use Rattle.up_answers.proofs.ChangeLemmas.{held_alike}

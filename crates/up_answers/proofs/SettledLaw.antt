@@ -33,17 +33,17 @@ use Rattle.up_wire.specs.declared.replies.Reply.TheVariants as reply
 use Rattle.up_wire.specs.declared.replies.Done.TheVariants as done
 use Rattle.up_wire.specs.declared.replies.WatchEvent.{WatchEvent}
 use Rattle.up_wire.specs.declared.requests.Request.{Request}
-use Rattle.up_replay.specs.declared.node.Node.{Node}
-use Rattle.up_replay.specs.Trees.{Tree, children, node_at, tree_at, tree_of}
-use Rattle.up_replay.specs.Logs.{Log}
-use Rattle.up_replay.specs.Orders.{has_path as has}
-use Rattle.up_replay.specs.Rights.{facts_of, group_paths}
-use Rattle.up_replay.proofs.Paths.{cut_cut, length_cut, parent_is, path_same, some_none, some_same}
-use Rattle.up_replay.proofs.Rising.{has-filter}
-use Rattle.up_replay.proofs.Rooted.{IsRooted, rooted}
-use Rattle.up_replay.proofs.Trees.{has_node, made_same, tree_sorted}
-use Rattle.up_list.specs.declared.asking.Asked.{Asked}
-use Rattle.up_list.specs.declared.asking.Asked.TheVariants.{Lookup, WhichAccess, GroupText, Delete, Put, Glob, Watch}
+use Rattle.up_log_tree.specs.declared.node.Node.{Node}
+use Rattle.up_log_tree.specs.Trees.{Tree, children, node_at, tree_at, tree_of}
+use Rattle.up_log_tree.specs.Logs.{Log}
+use Rattle.up_log_tree.specs.Orders.{has_path as has}
+use Rattle.up_log_tree.specs.Rights.{facts_of, group_paths}
+use Rattle.up_log_tree.proofs.Paths.{cut_cut, length_cut, parent_is, path_same, some_none, some_same}
+use Rattle.up_log_tree.proofs.Rising.{has-filter}
+use Rattle.up_log_tree.proofs.Rooted.{IsRooted, rooted}
+use Rattle.up_log_tree.proofs.Trees.{has_node, made_same, tree_sorted}
+use Rattle.up_list.specs.declared.asking.ReadRequest.{ReadRequest}
+use Rattle.up_list.specs.declared.asking.ReadRequest.TheVariants.{Lookup, WhichAccess, GroupText, Delete, Put, Glob, Watch}
 use Rattle.up_list.specs.Asking.{asked_of, owner_asked}
 use Rattle.up_list.specs.Changes.{◌>>=◌, added_by, answer_of, refuse, right_to_put, unless}
 use Rattle.up_list.specs.Checks.{check, ways, ways_before}
@@ -311,7 +311,7 @@ module _ (log : Log) (less more : Loading) (fetched : Fetched) (user : List ℕ)
   watch_free path (negsuc zero) none = λ q under there. free_same q (items_needed (needed_at log less) (tree_of log.records) (λ name. is_under name path) none q under there)
   watch_free path (negsuc (suc n)) none = tt
 
-  others_settled : (asked : Asked) → owner_asked asked ≡ log.owner → flat_map (needed_at log less) (places log asked) ≡ [] → tree_outcome log less fetched user asked ≡ tree_outcome log more fetched user asked
+  others_settled : (asked : ReadRequest) → owner_asked asked ≡ log.owner → flat_map (needed_at log less) (places log asked) ≡ [] → tree_outcome log less fetched user asked ≡ tree_outcome log more fetched user asked
   unfolding tree_outcome places
   others_settled (Lookup path) owned none =
       let free = append_none (needed_at log less (tree_of log.records, path)) [] none in
@@ -371,7 +371,7 @@ module _ (log : Log) (less more : Loading) (fetched : Fetched) (whole : IsWhole 
   owner_watch path (negsuc zero) = λ q under there. looks_same (tree_of log.records) q
   owner_watch path (negsuc (suc n)) = tt
 
-  owner_settled : (asked : Asked) → owner_asked asked ≡ log.owner → flat_map (needed_at log less) (owner_places log asked) ≡ [] → tree_outcome log less fetched log.owner asked ≡ tree_outcome log more fetched log.owner asked
+  owner_settled : (asked : ReadRequest) → owner_asked asked ≡ log.owner → flat_map (needed_at log less) (owner_places log asked) ≡ [] → tree_outcome log less fetched log.owner asked ≡ tree_outcome log more fetched log.owner asked
   unfolding tree_outcome owner_places
   owner_settled (Lookup path) owned none =
       ap (λ r. std.Err r) (lookup_settled log.owner (tree_of log.records) owner_rooted (tree_sorted log.records) log.owner less more All (λ p _. looks_same (tree_of log.records) p) (λ p q _ _. tt) path tt)
@@ -391,14 +391,14 @@ module _ (log : Log) (less more : Loading) (fetched : Fetched) (whole : IsWhole 
 -- ---- all requests
 
 module _ (log : Log) (less more : Loading) (fetched : Fetched) (user : List ℕ) (now : ℕ) (whole : IsWhole log) (extends : Extends less more) where
-  tree_settled : (asked : Asked) → owner_asked asked ≡ log.owner → (b : Bool) → bytes_eq user log.owner ≡ b → flat_map (needed_at log less) (if b then owner_places log asked else places log asked) ≡ [] →
+  tree_settled : (asked : ReadRequest) → owner_asked asked ≡ log.owner → (b : Bool) → bytes_eq user log.owner ≡ b → flat_map (needed_at log less) (if b then owner_places log asked else places log asked) ≡ [] →
       tree_outcome log less fetched user asked ≡ tree_outcome log more fetched user asked
   tree_settled asked owned true e none =
       let own : user ≡ log.owner = (bytes_eq-Decides user log.owner).0 e in
       subst (λ u. tree_outcome log less fetched u asked ≡ tree_outcome log more fetched u asked) (sym own) (owner_settled log less more fetched whole extends asked owned none)
   tree_settled asked owned false e none = others_settled log less more fetched user whole extends asked owned none
 
-  asked_settled : (asked : Asked) → needs_asked log less user asked ≡ [] → asked_outcome log less fetched user asked now ≡ asked_outcome log more fetched user asked now
+  asked_settled : (asked : ReadRequest) → needs_asked log less user asked ≡ [] → asked_outcome log less fetched user asked now ≡ asked_outcome log more fetched user asked now
   unfolding asked_outcome needs_asked
   asked_settled asked none = go (bytes_eq (owner_asked asked) log.owner) refl (none_noted (flat_map (needed_at log less) (places_for log user asked)) none)
     where
@@ -412,7 +412,7 @@ module _ (log : Log) (less more : Loading) (fetched : Fetched) (user : List ℕ)
   unfolding outcome needs
   led_settled request' none = go (asked_of user request') none
     where
-      go : (o : Result Asked EntryFault) → (elim o as (λ _. List PathName) [ std.Ok asked ↦ needs_asked log less user asked | std.Err fault ↦ [] ]) ≡ [] →
+      go : (o : Result ReadRequest EntryFault) → (elim o as (λ _. List PathName) [ std.Ok asked ↦ needs_asked log less user asked | std.Err fault ↦ [] ]) ≡ [] →
           (elim o as (λ _. Result Rec Reply) [ std.Ok asked ↦ asked_outcome log less fetched user asked now | std.Err fault ↦ std.Err (fault_reply fault) ])
           ≡ (elim o as (λ _. Result Rec Reply) [ std.Ok asked ↦ asked_outcome log more fetched user asked now | std.Err fault ↦ std.Err (fault_reply fault) ])
       go (std.Ok asked) none = asked_settled asked none

@@ -23,7 +23,7 @@ use Rattle.up_policy.proofs.GovernorLemmas.{governor_is_one}
 use Rattle.up_policy.proofs.MonotoneLemmas.{rights_are_monotone}
 use Rattle.up_policy.proofs.ReachedLemmas.{Lists, looked_closed, reached_whole, met_reached}
 use Rattle.up_policy.proofs.VerdictLemmas.{lists_texts, group_among}
-use Rattle.up_replay.proofs.Paths.{some_none}
+use Rattle.up_log_tree.proofs.Paths.{some_none}
 use Rattle.up_answers.specs.Laws.{Extends, RightsAreSettled}
 
 -- none of a list passes

@@ -25,13 +25,13 @@ use Rattle.up_wire.specs.declared.replies.Reply.{Reply}
 use Rattle.up_wire.specs.declared.replies.Reply.TheVariants as reply
 use Rattle.up_wire.specs.declared.replies.Row.{Row}
 use Rattle.up_wire.specs.declared.replies.Done.TheVariants as done
-use Rattle.up_replay.specs.declared.node.Node.{Node}
-use Rattle.up_replay.specs.Trees.{Tree, is_file, is_link, kind_of, node_at}
-use Rattle.up_replay.specs.Fits.{HasDirectory}
-use Rattle.up_replay.specs.Rights.{access_path, facts_of, governing_prefix}
-use Rattle.up_replay.proofs.Paths.{length_cut}
-use Rattle.up_replay.proofs.Rooted.{IsRooted, prefix_directory}
-use Rattle.up_replay.proofs.Trees.{made_same}
+use Rattle.up_log_tree.specs.declared.node.Node.{Node}
+use Rattle.up_log_tree.specs.Trees.{Tree, is_file, is_link, kind_of, node_at}
+use Rattle.up_log_tree.specs.Fits.{HasDirectory}
+use Rattle.up_log_tree.specs.Rights.{access_path, facts_of, governing_prefix}
+use Rattle.up_log_tree.proofs.Paths.{length_cut}
+use Rattle.up_log_tree.proofs.Rooted.{IsRooted, prefix_directory}
+use Rattle.up_log_tree.proofs.Trees.{made_same}
 use Rattle.up_list.specs.Checks.{at_link, check, first_link, lacking, link_at, ways}
 use Rattle.up_list.specs.Entries.{entry_at, entry_of}
 use Rattle.up_list.specs.Globs.{ends_literal, glob_reply, is_candidate, is_listed, is_literal, is_met, is_whole, literal_path, literals, matches_front, matches_name, one_row, row_of, rows, rows_reply, whole_reply}

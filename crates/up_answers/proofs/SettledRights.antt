@@ -24,12 +24,12 @@ use Rattle.up_policy.specs.Reached.{needed, needed_by}
 use Rattle.up_policy.specs.Trees.{TreeFacts, owns_snapshots}
 use Rattle.up_policy.specs.Verdicts.{is_control, only_looks, right_test, rights_held, text_decides, without_text}
 use Rattle.up_policy.proofs.VerdictLemmas.{test_is_right}
-use Rattle.up_replay.specs.declared.node.Node.{Node}
-use Rattle.up_replay.specs.Trees.{Tree, kind_of, node_at}
-use Rattle.up_replay.specs.Fits.{HasDirectory}
-use Rattle.up_replay.specs.Rights.{access_node, access_path, facts_of, governing_prefix, group_paths, rules_of}
-use Rattle.up_replay.proofs.Paths.{cut_extended, cut_whole, length-extended, parent_extended, some_none}
-use Rattle.up_replay.proofs.Rooted.{IsRooted}
+use Rattle.up_log_tree.specs.declared.node.Node.{Node}
+use Rattle.up_log_tree.specs.Trees.{Tree, kind_of, node_at}
+use Rattle.up_log_tree.specs.Fits.{HasDirectory}
+use Rattle.up_log_tree.specs.Rights.{access_node, access_path, facts_of, governing_prefix, group_paths, rules_of}
+use Rattle.up_log_tree.proofs.Paths.{cut_extended, cut_whole, length-extended, parent_extended, some_none}
+use Rattle.up_log_tree.proofs.Rooted.{IsRooted}
 use Rattle.up_list.specs.Looks.{Look, rights}
 use Rattle.up_answers.specs.Laws.{Extends}
 use Rattle.up_answers.proofs.MeaningLemmas.{groups_listed}

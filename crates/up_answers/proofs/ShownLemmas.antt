@@ -19,13 +19,13 @@ use Rattle.up_wire.specs.declared.replies.Reply.{Reply}
 use Rattle.up_wire.specs.declared.replies.Reply.TheVariants as reply
 use Rattle.up_wire.specs.declared.replies.Row.{Row}
 use Rattle.up_wire.specs.declared.replies.WatchEvent.{WatchEvent}
-use Rattle.up_replay.specs.declared.node.Node.{Node}
-use Rattle.up_replay.specs.Fits.{HasDirectory}
-use Rattle.up_replay.specs.Logs.{Log}
-use Rattle.up_replay.specs.Trees.{is_link, is_parent, kind_of, made_of, node_at, tree_of}
-use Rattle.up_replay.proofs.Paths.{parent_passes, path_same, some_none, some_same}
-use Rattle.up_replay.proofs.Rooted.{rooted}
-use Rattle.up_replay.proofs.Trees.{find-made, tree_sorted}
+use Rattle.up_log_tree.specs.declared.node.Node.{Node}
+use Rattle.up_log_tree.specs.Fits.{HasDirectory}
+use Rattle.up_log_tree.specs.Logs.{Log}
+use Rattle.up_log_tree.specs.Trees.{is_link, is_parent, kind_of, made_of, node_at, tree_of}
+use Rattle.up_log_tree.proofs.Paths.{parent_passes, path_same, some_none, some_same}
+use Rattle.up_log_tree.proofs.Rooted.{rooted}
+use Rattle.up_log_tree.proofs.Trees.{find-made, tree_sorted}
 use Rattle.up_list.specs.Checks.{check, ways}
 use Rattle.up_list.specs.Entries.{entry_at, entry_of}
 use Rattle.up_list.specs.Globs.{glob_reply, is_met, is_whole, literal_path, one_row, row_of, rows_reply, whole_reply}

@@ -4,7 +4,7 @@ use Rattle.up_names.specs.Texts.{UserName}
 use Rattle.up_names.specs.PathNames.{PathName}
 use Rattle.up_wire.specs.declared.requests.Request.{Request}
 use Rattle.up_wire.specs.declared.requests.Request.TheVariants as request
-use Rattle.up_replay.specs.Logs.{Log, bytes_of}
+use Rattle.up_log_tree.specs.Logs.{Log, bytes_of}
 use Rattle.up_list.specs.Looks.{look_now}
 use Rattle.up_answers.specs.Events.{events}
 use Rattle.up_policy.specs.Loadings.{Loading}

@@ -13,9 +13,9 @@ use Rattle.up_policy.specs.Trees.{owns_snapshots}
 use Rattle.up_wire.specs.declared.requests.Request.{Request}
 use Rattle.up_wire.specs.declared.replies.Reply.{Reply}
 use Rattle.up_wire.specs.declared.replies.Reply.TheVariants as reply
-use Rattle.up_replay.specs.Logs.{Log}
-use Rattle.up_list.specs.declared.asking.Asked.{Asked}
-use Rattle.up_list.specs.declared.asking.Asked.TheVariants.{Lookup, WhichAccess, GroupText, Delete, Put, Glob, Watch}
+use Rattle.up_log_tree.specs.Logs.{Log}
+use Rattle.up_list.specs.declared.asking.ReadRequest.{ReadRequest}
+use Rattle.up_list.specs.declared.asking.ReadRequest.TheVariants.{Lookup, WhichAccess, GroupText, Delete, Put, Glob, Watch}
 use Rattle.up_list.specs.Looks.{look_now}
 use Rattle.up_list.specs.Reads.{lookup_reply, access_reply, group_text_reply}
 use Rattle.up_list.specs.Globs.{glob_reply}
@@ -28,7 +28,7 @@ use Rattle.up_answers.specs.Deletes.{delete_outcome}
 use Rattle.up_answers.specs.Puts.{put_outcome}
 
 -- What a user's request on a path of the tree leads to: a record that is to be added (Ok), or else a reply (Err).
-unfoldable pub tree_outcome : Log → Loading → Fetched → UserName → Asked → Result Rec Reply
+unfoldable pub tree_outcome : Log → Loading → Fetched → UserName → ReadRequest → Result Rec Reply
 tree_outcome log loaded fetched user (Lookup path) = std.Err (lookup_reply (look_now log loaded user) path)
 tree_outcome log loaded fetched user (WhichAccess path) = std.Err (access_reply (look_now log loaded user) path)
 tree_outcome log loaded fetched user (GroupText path) = std.Err (group_text_reply (look_now log loaded user) path)
@@ -42,7 +42,7 @@ abbrev pub log_owner : UserName → UserName
 log_owner owner = if owns_snapshots owner then base_of owner else owner
 
 -- What a user's request leads to whose texts were read: on a path of the tree; on one of its snapshot tree; elsewhere WrongHost.
-unfoldable pub asked_outcome : Log → Loading → Fetched → UserName → Asked → ℕ → Result Rec Reply
+unfoldable pub asked_outcome : Log → Loading → Fetched → UserName → ReadRequest → ℕ → Result Rec Reply
 asked_outcome log loaded fetched user asked now =
     if bytes_eq (owner_asked asked) log.owner then tree_outcome log loaded fetched user asked
     else if bytes_eq (log_owner (owner_asked asked)) log.owner then snapshot_outcome log user asked now

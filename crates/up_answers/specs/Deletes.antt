@@ -7,7 +7,7 @@ use Rattle.up_entry.specs.declared.records.Rec.{Rec}
 use Rattle.up_entry.specs.declared.records.Rec.TheVariants as rec
 use Rattle.up_wire.specs.declared.replies.Reply.{Reply}
 use Rattle.up_wire.specs.declared.replies.Reply.TheVariants as reply
-use Rattle.up_replay.specs.Trees.{node_at, children}
+use Rattle.up_log_tree.specs.Trees.{node_at, children}
 use Rattle.up_list.specs.Looks.{Look}
 use Rattle.up_list.specs.Checks.{check, ways_before}
 use Rattle.up_list.specs.Changes.{◌>>=◌, unless, refuse}

@@ -22,12 +22,12 @@ use Rattle.up_wire.specs.declared.replies.Reply.{Reply}
 use Rattle.up_wire.specs.declared.replies.Done.TheVariants.{Rows}
 use Rattle.up_wire.specs.declared.replies.Reply.TheVariants.{Ok, Private}
 use Rattle.up_wire.specs.declared.requests.Request.{Request}
-use Rattle.up_replay.specs.Trees.{made_of, node_at, tree_of}
-use Rattle.up_replay.specs.declared.node.Node.{Node}
-use Rattle.up_replay.specs.Rights.{facts_of, group_node}
-use Rattle.up_replay.specs.Fits.{IsLog}
-use Rattle.up_replay.specs.Logs.{Log}
-use Rattle.up_replay.specs.Sizes.{size_of}
+use Rattle.up_log_tree.specs.Trees.{made_of, node_at, tree_of}
+use Rattle.up_log_tree.specs.declared.node.Node.{Node}
+use Rattle.up_log_tree.specs.Rights.{facts_of, group_node}
+use Rattle.up_log_tree.specs.Fits.{IsLog}
+use Rattle.up_log_tree.specs.Logs.{Log}
+use Rattle.up_log_tree.specs.Sizes.{size_of}
 use Rattle.up_list.specs.Looks.{Look, rights, has_some, look_now, shown}
 use Rattle.up_list.specs.Checks.{check, link_at, ways}
 use Rattle.up_list.specs.Globs.{ends_literal, glob_reply, is_met, is_whole, literal_path, row_of}
@@ -35,7 +35,7 @@ use Rattle.up_answers.specs.Agreement.{Agree, SeesTheSame, used}
 use Rattle.up_answers.specs.Answers.{added, answer}
 use Rattle.up_answers.specs.Fetching.{Fetched}
 use Rattle.up_answers.specs.Needs.{needs_asked}
-use Rattle.up_list.specs.declared.asking.Asked.{Asked}
+use Rattle.up_list.specs.declared.asking.ReadRequest.{ReadRequest}
 use Rattle.up_answers.specs.Views.{View, view}
 use Rattle.up_answers.specs.Watches.{items_under}
 use Rattle.up_wire.specs.declared.replies.Row.{Row}
@@ -215,7 +215,7 @@ HistoriesAgree = (user : UserName) (loadings : List Loading) (one two : Log) (as
 -- some group needed in the other. So "the same answer" is one for the same loading, also where the other tree's host would have
 -- loaded more.
 abbrev pub NeedsMayDiffer : Type 0
-NeedsMayDiffer = (user : UserName) × (loaded : Loading) × (asked : Asked) × (one : Log) × (two : Log) × IsWhole one × IsWhole two × Agree user (loaded ∷ []) one two
+NeedsMayDiffer = (user : UserName) × (loaded : Loading) × (asked : ReadRequest) × (one : Log) × (two : Log) × IsWhole one × IsWhole two × Agree user (loaded ∷ []) one two
     × (needs_asked one loaded user asked ≡ []) × (needs_asked two loaded user asked ≢ [])
 
 -- the second loading has each answer of the first

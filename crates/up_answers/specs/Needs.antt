@@ -10,11 +10,11 @@ use Rattle.up_entry.specs.ControlFiles.{is_ordinary}
 use Rattle.up_policy.specs.declared.load_answer.LoadAnswer.{LoadAnswer}
 use Rattle.up_policy.specs.Reached.{needed, with_paths}
 use Rattle.up_wire.specs.declared.requests.Request.{Request}
-use Rattle.up_replay.specs.Trees.{Tree, tree_of, tree_at}
-use Rattle.up_replay.specs.Rights.{facts_of, group_paths}
-use Rattle.up_replay.specs.Logs.{Log}
-use Rattle.up_list.specs.declared.asking.Asked.{Asked}
-use Rattle.up_list.specs.declared.asking.Asked.TheVariants.{Lookup, WhichAccess, GroupText, Delete, Put, Glob, Watch}
+use Rattle.up_log_tree.specs.Trees.{Tree, tree_of, tree_at}
+use Rattle.up_log_tree.specs.Rights.{facts_of, group_paths}
+use Rattle.up_log_tree.specs.Logs.{Log}
+use Rattle.up_list.specs.declared.asking.ReadRequest.{ReadRequest}
+use Rattle.up_list.specs.declared.asking.ReadRequest.TheVariants.{Lookup, WhichAccess, GroupText, Delete, Put, Glob, Watch}
 use Rattle.up_list.specs.Globs.{literal_path, is_candidate}
 use Rattle.up_list.specs.Asking.{asked_of, owner_asked}
 use Rattle.up_answers.specs.Events.{change_at}
@@ -51,7 +51,7 @@ watch_places log path (negsuc (suc n)) = []
 
 -- The places that are looked at for a user who is not the owner: the path of the request; for a Glob the path of the literal
 -- elements in front and then the items that match; for a Watch the path and then its events or items. GroupText loads nothing.
-unfoldable pub places : Log → Asked → List Place
+unfoldable pub places : Log → ReadRequest → List Place
 places log (GroupText path) = []
 places log (Lookup path) = (tree_of log.records, path) ∷ []
 places log (WhichAccess path) = (tree_of log.records, path) ∷ []
@@ -65,7 +65,7 @@ abbrev pub where_ordinary : Log → PathName → List Place
 where_ordinary log path = if is_ordinary (control_of path) then (tree_of log.records, path) ∷ [] else []
 
 -- Those for the owner: the path of a Put or a Delete, where it is an ordinary path.
-unfoldable pub owner_places : Log → Asked → List Place
+unfoldable pub owner_places : Log → ReadRequest → List Place
 owner_places log (Delete path) = where_ordinary log path
 owner_places log (Put put) = where_ordinary log put.entry.name
 owner_places log (Lookup path) = []
@@ -75,7 +75,7 @@ owner_places log (Glob pattern) = []
 owner_places log (Watch path sequence) = []
 
 -- the places for a user; none outside the tree, so also in its snapshot tree
-abbrev pub places_for : Log → UserName → Asked → List Place
+abbrev pub places_for : Log → UserName → ReadRequest → List Place
 places_for log user asked =
     if not (bytes_eq (owner_asked asked) log.owner) then []
     else if bytes_eq user log.owner then owner_places log asked
@@ -87,7 +87,7 @@ needed_at log loaded place = needed (facts_of log.owner place.0) (group_paths pl
 
 -- The needed groups of a request whose texts were read: those of its places, one after the other, without repeats, and without those
 -- that have an answer already.
-unfoldable pub needs_asked : Log → Loading → UserName → Asked → List PathName
+unfoldable pub needs_asked : Log → Loading → UserName → ReadRequest → List PathName
 needs_asked log loaded user asked = with_paths [] (flat_map (needed_at log loaded) (places_for log user asked))
 
 -- The needed groups of a request; none where something of it is malformed.

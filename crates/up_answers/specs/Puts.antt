@@ -8,8 +8,8 @@ use Rattle.up_entry.specs.declared.records.Rec.TheVariants as rec
 use Rattle.up_entry.specs.Rules.{is_directory}
 use Rattle.up_wire.specs.declared.replies.Reply.{Reply}
 use Rattle.up_wire.specs.declared.replies.Reply.TheVariants as reply
-use Rattle.up_replay.specs.declared.node.Node.{Node}
-use Rattle.up_replay.specs.Trees.{Tree, node_at, kind_of, is_file}
+use Rattle.up_log_tree.specs.declared.node.Node.{Node}
+use Rattle.up_log_tree.specs.Trees.{Tree, node_at, kind_of, is_file}
 use Rattle.up_list.specs.Looks.{Look}
 use Rattle.up_list.specs.Checks.{check, ways}
 use Rattle.up_list.specs.Changes.{◌>>=◌, unless, refuse, right_to_put}

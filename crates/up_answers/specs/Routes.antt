@@ -5,8 +5,8 @@ use Rattle.up_entry.specs.declared.entries.Block.{Block}
 use Rattle.up_entry.specs.declared.entries.Entry.{Entry}
 use Rattle.up_entry.specs.declared.entries.Location.{Location}
 use Rattle.up_entry.specs.ControlFiles.{is_control_file}
-use Rattle.up_list.specs.declared.asking.Asked.{Asked}
-use Rattle.up_list.specs.declared.asking.Asked.TheVariants.{Lookup, WhichAccess, GroupText, Delete, Put, Glob, Watch}
+use Rattle.up_list.specs.declared.asking.ReadRequest.{ReadRequest}
+use Rattle.up_list.specs.declared.asking.ReadRequest.TheVariants.{Lookup, WhichAccess, GroupText, Delete, Put, Glob, Watch}
 use Rattle.up_answers.specs.Fetching.{location_eq}
 
 -- a list with a location at its end, where it does not have it yet
@@ -22,7 +22,7 @@ abbrev pub locations_for : Entry → List Location
 locations_for entry = if is_control_file entry.attr.kind entry.name then locations_of entry.blocks else []
 
 -- what has to be fetched for a request: nothing but for a Put
-abbrev pub locations_asked : Asked → List Location
+abbrev pub locations_asked : ReadRequest → List Location
 locations_asked (Put put) = locations_for put.entry
 locations_asked (Lookup path) = []
 locations_asked (WhichAccess path) = []

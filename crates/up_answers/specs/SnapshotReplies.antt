@@ -12,16 +12,16 @@ use Rattle.up_entry.specs.declared.records.Rec.TheVariants as rec
 use Rattle.up_entry.specs.declared.what.What.TheVariants as what
 use Rattle.up_wire.specs.declared.replies.Reply.{Reply}
 use Rattle.up_wire.specs.declared.replies.Reply.TheVariants as reply
-use Rattle.up_replay.specs.Trees.{node_at, is_file, tree_of}
-use Rattle.up_replay.specs.Fits.{root_of, snapshot_user}
-use Rattle.up_replay.specs.Snapshots.{snap_at}
-use Rattle.up_replay.specs.Logs.{Log}
+use Rattle.up_log_tree.specs.Trees.{node_at, is_file, tree_of}
+use Rattle.up_log_tree.specs.Fits.{root_of, snapshot_user}
+use Rattle.up_log_tree.specs.Snapshots.{snap_at}
+use Rattle.up_log_tree.specs.Logs.{Log}
 use Rattle.up_list.specs.Looks.{Look}
 use Rattle.up_list.specs.Checks.{check, ways, ways_before}
 use Rattle.up_list.specs.Reads.{lookup_reply, access_reply, group_text_reply}
 use Rattle.up_list.specs.Globs.{glob_reply}
-use Rattle.up_list.specs.declared.asking.Asked.{Asked}
-use Rattle.up_list.specs.declared.asking.Asked.TheVariants.{Lookup, WhichAccess, GroupText, Delete, Put, Glob, Watch}
+use Rattle.up_list.specs.declared.asking.ReadRequest.{ReadRequest}
+use Rattle.up_list.specs.declared.asking.ReadRequest.TheVariants.{Lookup, WhichAccess, GroupText, Delete, Put, Glob, Watch}
 use Rattle.up_list.specs.Changes.{◌>>=◌, unless, refuse, right_to_put}
 use Rattle.up_answers.specs.SnapshotTrees.{snapshot_look}
 
@@ -51,7 +51,7 @@ snapshot_delete look path = unwrap_or (check look (ways_before path) path None) 
 
 -- What a user's request on the snapshot tree leads to at a moment: a record that is to be added, or else a reply. A Watch has been
 -- refused before any tree is looked at.
-unfoldable pub snapshot_outcome : Log → UserName → Asked → ℕ → Result Rec Reply
+unfoldable pub snapshot_outcome : Log → UserName → ReadRequest → ℕ → Result Rec Reply
 snapshot_outcome log user (Lookup path) now = std.Err (lookup_reply (snapshot_look log user) path)
 snapshot_outcome log user (WhichAccess path) now = std.Err (access_reply (snapshot_look log user) path)
 snapshot_outcome log user (GroupText path) now = std.Err (group_text_reply (snapshot_look log user) path)

@@ -9,10 +9,10 @@ use Rattle.up_names.specs.PathOrder.{path_cmp}
 use Rattle.up_entry.specs.declared.entries.Kind.TheVariants.{Directory}
 use Rattle.up_entry.specs.declared.records.Rec.{Rec}
 use Rattle.up_entry.specs.declared.records.Rec.TheVariants.{Put, Delete, Snap}
-use Rattle.up_replay.specs.declared.node.Node.{Node}
-use Rattle.up_replay.specs.Trees.{Tree, node_at, tree_at}
-use Rattle.up_replay.specs.Fits.{snapshot_user, root_of}
-use Rattle.up_replay.specs.Logs.{Log}
+use Rattle.up_log_tree.specs.declared.node.Node.{Node}
+use Rattle.up_log_tree.specs.Trees.{Tree, node_at, tree_at}
+use Rattle.up_log_tree.specs.Fits.{snapshot_user, root_of}
+use Rattle.up_log_tree.specs.Logs.{Log}
 use Rattle.up_list.specs.Looks.{Look}
 use Rattle.up_answers.specs.Calendar.{moment_elements}
 

@@ -7,8 +7,8 @@ use Rattle.up_rights.specs.RightSets.{Rights}
 use Rattle.up_entry.specs.declared.entries.Entry.{Entry}
 use Rattle.up_entry.specs.ControlFiles.{is_control_file}
 use Rattle.up_entry.specs.Rules.{is_directory}
-use Rattle.up_replay.specs.declared.node.Node.{Node}
-use Rattle.up_replay.specs.Trees.{node_at, kind_of, is_parent, children, made_of}
+use Rattle.up_log_tree.specs.declared.node.Node.{Node}
+use Rattle.up_log_tree.specs.Trees.{node_at, kind_of, is_parent, children, made_of}
 use Rattle.up_list.specs.Looks.{Look, rights, has_some, shown}
 use Rattle.up_list.specs.Governing.{governing_file}
 

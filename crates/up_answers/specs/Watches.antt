@@ -11,8 +11,8 @@ use Rattle.up_wire.specs.declared.replies.WatchEvent.{WatchEvent}
 use Rattle.up_wire.specs.declared.replies.Reply.{Reply}
 use Rattle.up_wire.specs.declared.replies.Reply.TheVariants.{Ok, Invalid}
 use Rattle.up_wire.specs.declared.replies.Done.TheVariants as done
-use Rattle.up_replay.specs.Trees.{made_of}
-use Rattle.up_replay.specs.Logs.{Log}
+use Rattle.up_log_tree.specs.Trees.{made_of}
+use Rattle.up_log_tree.specs.Logs.{Log}
 use Rattle.up_list.specs.Looks.{Look, has_some, shown, look_now}
 use Rattle.up_list.specs.Checks.{check, ways}
 use Rattle.up_answers.specs.Events.{events}

@@ -11,7 +11,7 @@ use Rattle.std.specs.Prelude.{slice_get}
 use Rattle.up_names.specs.PathNames.{PathName}
 use Rattle.up_names.specs.PathOrder.{path_cmp, path_eq}
 use Rattle.up_names.specs.PathOrderLaws.{path_cmp_eq}
-use Rattle.up_replay.proofs.Paths.{path_eq_itself, path_same, some_none, some_same}
+use Rattle.up_log_tree.proofs.Paths.{path_eq_itself, path_same, some_none, some_same}
 
 module _ {X : Type 0} where
   -- an item of a list that passes a test

@@ -16,11 +16,11 @@ use Rattle.up_audit.specs.Marks.{gone_at, gone_by, is_position, last_snap, put_r
 use Rattle.up_entry.specs.declared.records.Rec.{Rec}
 use Rattle.up_entry.specs.declared.records.Rec.TheVariants.{Put, Delete, Snap}
 use Rattle.up_names.specs.PathNames.{PathName}
-use Rattle.up_replay.proofs.Paths.{some_none, some_same}
-use Rattle.up_replay.proofs.Trees.{tree_sorted}
-use Rattle.up_replay.specs.Changes.{change_before, last_change, path_of_change, positions_of, record_at}
-use Rattle.up_replay.specs.Trees.{Tree, node_at, tree_at, tree_of}
-use Rattle.up_replay.specs.declared.node.Node.{Node}
+use Rattle.up_log_tree.proofs.Paths.{some_none, some_same}
+use Rattle.up_log_tree.proofs.Trees.{tree_sorted}
+use Rattle.up_log_tree.specs.Changes.{change_before, last_change, path_of_change, positions_of, record_at}
+use Rattle.up_log_tree.specs.Trees.{Tree, node_at, tree_at, tree_of}
+use Rattle.up_log_tree.specs.declared.node.Node.{Node}
 
 -- ---- tests
 

@@ -19,7 +19,7 @@ use Rattle.up_blocks.specs.Records.{reference_cmp}
 use Rattle.up_blocks.specs.declared.record.BlockRecord.{BlockRecord}
 use Rattle.up_entry.specs.declared.entries.Block.{Block}
 use Rattle.up_entry.specs.declared.records.Rec.{Rec}
-use Rattle.up_replay.specs.Changes.{change_before, record_at}
+use Rattle.up_log_tree.specs.Changes.{change_before, record_at}
 
 or_none : (b : Bool) → b ≡ (b || false)
 or_none true = refl

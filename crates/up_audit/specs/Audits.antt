@@ -10,8 +10,8 @@ use Rattle.up_entry.specs.declared.entries.Block.{Block}
 use Rattle.up_entry.specs.declared.entries.Entry.{Entry}
 use Rattle.up_entry.specs.declared.records.Rec.{Rec}
 use Rattle.up_entry.specs.declared.records.Rec.TheVariants.{Put, Delete, Snap}
-use Rattle.up_replay.specs.Changes.{positions_of}
-use Rattle.up_replay.specs.Trees.{Tree, tree_at, tree_of}
+use Rattle.up_log_tree.specs.Changes.{positions_of}
+use Rattle.up_log_tree.specs.Trees.{Tree, tree_at, tree_of}
 
 -- a reference, as its bytes
 abbrev pub Ref : Type 0
@@ -23,11 +23,11 @@ Ref = List ℕ
 abbrev pub references_of : Entry → List Ref
 references_of entry = map (λ (block : Block). block.location.reference) entry.blocks
 
--- those of all entries of a tree
+-- the references of all entries of a tree
 unfoldable pub tree_references : Tree → List Ref
 tree_references tree = flat_map (λ item. references_of item.1.entry) tree
 
--- a record that takes a snapshot
+-- whether a record takes a snapshot
 abbrev pub is_snap : Rec → Bool
 is_snap (Put entry text) = false
 is_snap (Delete path) = false
@@ -43,7 +43,7 @@ used_in records = flat_map tree_references (shown_trees records)
 
 -- ---- what a store holds
 
--- a reference is one of these
+-- whether a reference is one of these
 abbrev pub is_among : List Ref → Ref → Bool
 is_among references reference = list_any (bytes_eq reference) references
 
@@ -51,7 +51,7 @@ is_among references reference = list_any (bytes_eq reference) references
 abbrev pub held_in : List BlockRecord → List Ref
 held_in store = keys_of (blocks_of store)
 
--- the loose ones: those that no tree's log uses, in order of bytes
+-- the loose references: those of blocks that the store holds and no tree's log uses, in order of bytes
 unfoldable pub loose_in : List (List Rec) → List BlockRecord → List Ref
 loose_in logs store = filter (λ reference. not (is_among (flat_map used_in logs) reference)) (held_in store)
 

@@ -15,10 +15,11 @@ use Rattle.up_tree.specs.States as tree
 abbrev pub held_line : ℕ → ℕ → Text
 held_line held loose = ended (codes "held " ++ decimal held ++ codes " loose " ++ decimal loose)
 
--- `loose REF`: one that is
+-- `loose REF`: the line of a loose reference
 abbrev pub loose_line : Ref → Text
 loose_line reference = ended (codes "loose " ++ text_of reference)
 
+-- what is printed of an audit: how many references are held and how many of these are loose, and a line for each loose one
 abbrev pub audit_text : Audit → Text
 audit_text audit = held_line audit.held (length audit.loose) ++ flat_map loose_line audit.loose
 

@@ -15,7 +15,7 @@ owners_named (word ∷ more) = do
   others ← owners_named more
   Some (owner ∷ others)
 
--- one of these users is this one
+-- whether one of these users is this one
 abbrev pub has_user : List UserName → UserName → Bool
 has_user users user = list_any (λ one. bytes_eq one user) users
 
@@ -24,6 +24,7 @@ abbrev pub are_different : List UserName → Bool
 are_different [] = true
 are_different (user ∷ more) = not (has_user more user) && are_different more
 
+-- these users, where no user stands twice
 abbrev pub if_different : List UserName → Option (List UserName)
 if_different users = if are_different users then Some users else None
 
@@ -42,9 +43,10 @@ trees_word (command ∷ folder ∷ trees ∷ more) = if bytes_eq command (codes 
 unfoldable pub audit_plan : List Text → Option (List UserName)
 audit_plan words = trees_word words >>= trees_named
 
--- and for so many disks: one for each tree, and one for the store
+-- these owners, where there is a disk for each of their trees and one for the store
 abbrev pub if_so_many : ℕ → List UserName → Option (List UserName)
 if_so_many disks owners = if length owners + 1 == disks then Some owners else None
 
+-- the owners whose trees the words name, where there is a disk for each of their trees and one for the store
 unfoldable pub owners_for : List Text → ℕ → Option (List UserName)
 owners_for words disks = audit_plan words >>= if_so_many disks

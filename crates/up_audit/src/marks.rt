@@ -3,13 +3,13 @@ ghost use Rattle.std.specs.Prelude.{◌≡◌, ◌+◌, ◌≤◌, ◌<◌, ◌-
 ghost use Rattle.std.specs.Option.{option_and_then, option_copied};
 ghost use Rattle.up_audit.specs.Audits.{used_in};
 ghost use Rattle.up_audit.specs.Marks.{Notes, gone_at, is_position, last_snap, snap_after, stands_at, standing_at, told_at};
-ghost use Rattle.up_replay.specs.Changes.{path_of_change};
+ghost use Rattle.up_log_tree.specs.Changes.{path_of_change};
 
 use crate::used::Used;
 use std::alloc::AllocError;
 use up_entry::Rec;
+use up_mem_tree::MemTree;
 use up_names::Path;
-use up_nodes::MemTree;
 
 /// Notes all references that a tree's log uses.
 pub(crate) fn note_log(used: &mut Used, tree: &MemTree) -> Result<(), AllocError>

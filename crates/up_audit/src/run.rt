@@ -8,7 +8,7 @@ ghost use Rattle.up_audit.specs.Words.{owners_for};
 ghost use Rattle.up_command.specs.Statuses.{IsOneOf, usage_line};
 ghost use Rattle.up_ends.specs.Writing.{WritesPart};
 ghost use Rattle.up_journal.specs.Journal.{AreLimits};
-ghost use Rattle.up_lists.specs.Counts.{Rose};
+ghost use Rattle.up_lists.specs.Counts.{Rose, StaysUnless};
 ghost use Rattle.up_policy.specs.Trees.{owns_snapshots};
 ghost use Rattle.up_reports.specs.Opens.{AreLogs, logs_of, report_limits};
 ghost use Rattle.up_reports.specs.Telling.{AnswersOne, Stays};
@@ -56,6 +56,7 @@ pub fn audit_run<D: Disk + Drop, K: Sink>(
         → Rose (sum_by D.faults disks.old.disks) (sum_by D.faults disks.new.disks) }
     ensures disk_counts { sum_by D.faults disks.old.disks ≤ sum_by D.faults disks.new.disks }
     ensures sink_counts { K.faults sink.old ≤ K.faults sink.new }
+    ensures sink_quiet { StaysUnless (K.faults sink.old) (K.faults sink.new) (result ≡ 3) }
     ensures spare { disks.new.spare ≡ disks.old.spare }
 
     // Where nothing is amiss all is printed, or memory was wanting.
@@ -91,6 +92,7 @@ pub fn audit_within<D: Disk + Drop, K: Sink>(
         → Rose (sum_by D.faults disks.old.disks) (sum_by D.faults disks.new.disks) }
     ensures disk_counts { sum_by D.faults disks.old.disks ≤ sum_by D.faults disks.new.disks }
     ensures sink_counts { K.faults sink.old ≤ K.faults sink.new }
+    ensures sink_quiet { StaysUnless (K.faults sink.old) (K.faults sink.new) (result ≡ 3) }
     ensures spare { disks.new.spare ≡ disks.old.spare }
     ensures complete { AreLogs D.Disk limits (logs_of owners) disks.old.disks
         → Stays (K.faults sink.old) (K.faults sink.new)
@@ -116,6 +118,7 @@ fn audit_logs<D: Disk + Drop, K: Sink>(
         (K.held sink.old) (K.held sink.new) result }
     ensures write_fault { result ≡ 3 → Rose (K.faults sink.old) (K.faults sink.new) }
     ensures sink_counts { K.faults sink.old ≤ K.faults sink.new }
+    ensures sink_quiet { StaysUnless (K.faults sink.old) (K.faults sink.new) (result ≡ 3) }
     ensures spare { disks.new.spare ≡ disks.old.spare }
 {
     match open_logs(alloc, disks, owners, limits) {
@@ -135,6 +138,7 @@ fn report<D: Disk, K: Sink>(alloc: Global, sink: &mut K, logs: &Logs<D>) -> u8
         (audit_answer logs.now.trees.items logs.now.store) result }
     ensures cause { result ≡ 3 → Rose (K.faults sink.old) (K.faults sink.new) }
     ensures later { K.faults sink.old ≤ K.faults sink.new }
+    ensures quiet { StaysUnless (K.faults sink.old) (K.faults sink.new) (result ≡ 3) }
 {
     let Ok(audit) = audit_of(alloc, &logs.trees, &logs.store) else {
         return Status::OutOfMemory.code();

@@ -4,7 +4,7 @@ ghost use Rattle.std.specs.Io.KnownBytes.{Appends};
 ghost use Rattle.std.specs.List.{flat_map};
 ghost use Rattle.up_audit.specs.Texts.{audit_text, held_line, loose_line};
 ghost use Rattle.up_ends.specs.Writing.{Going, WritesPart};
-ghost use Rattle.up_lists.specs.Counts.{Rose};
+ghost use Rattle.up_lists.specs.Counts.{Rose, StaysUnless};
 
 use crate::audit::Audit;
 use std::alloc::{AllocError, Global};
@@ -19,6 +19,8 @@ pub(crate) fn print_audit<K: Sink>(alloc: Global, sink: &mut K, audit: &Audit) -
     ensures part { WritesPart (K.held sink.old) (K.held sink.new) (audit_text audit.now) }
     ensures cause { IsErrOf result Stop.WriteFault → Rose (K.faults sink.old) (K.faults sink.new) }
     ensures later { K.faults sink.old ≤ K.faults sink.new }
+    ensures quiet { StaysUnless (K.faults sink.old) (K.faults sink.new)
+        (IsErrOf result Stop.WriteFault) }
 {
     let mut gathered = first_line(alloc, audit)?;
     print_lines(sink, &mut gathered, audit.loose.as_slice())?;
@@ -59,6 +61,8 @@ fn print_lines<K: Sink>(
         (gathered.old.items ++ flat_map loose_line loose.now) }
     ensures cause { IsErrOf result Stop.WriteFault → Rose (K.faults sink.old) (K.faults sink.new) }
     ensures later { K.faults sink.old ≤ K.faults sink.new }
+    ensures quiet { StaysUnless (K.faults sink.old) (K.faults sink.new)
+        (IsErrOf result Stop.WriteFault) }
 {
     for reference in loose {
         print_one(sink, gathered, reference)?;
@@ -80,6 +84,8 @@ fn print_one<K: Sink>(
         (gathered.old.items ++ loose_line reference.now) }
     ensures cause { IsErrOf result Stop.WriteFault → Rose (K.faults sink.old) (K.faults sink.new) }
     ensures later { K.faults sink.old ≤ K.faults sink.new }
+    ensures quiet { StaysUnless (K.faults sink.old) (K.faults sink.new)
+        (IsErrOf result Stop.WriteFault) }
 {
     let text = reference.text(*gathered.allocator())?;
     say(gathered, b"loose ", text.as_bytes())?;

@@ -33,10 +33,11 @@ Recalled old (Some block) (Some copy) new = IfOk copy (λ bytes. bytes ≡ block
 Recalled old None None new = new ≡ old
 Recalled old block copy new = ⊥
 
--- each block that is held is bytes and their reference
+-- a block is held beside its reference, the SHA-256 of its bytes
 abbrev pub IsBlock : Block → Type 0
 IsBlock block = sha256 block.1 ≡ block.0
 
+-- each of these blocks is held beside its reference
 abbrev pub AreBlocks : List Block → Type 0
 AreBlocks = AllByRecursion IsBlock
 

@@ -18,7 +18,7 @@ pub record Caching (S : Type 0) : Type 0 where
   pub asked : ℕ
   pub kept : ℕ
 
--- nothing was asked yet
+-- a cache with no block, over whoever is asked, of which nothing was asked yet
 abbrev pub caching : {S : Type 0} → S → ℕ → Caching S
 caching ask capacity = record { ask = ask; cache = record { blocks = []; capacity = capacity }; asked = 0; kept = 0 }
 
@@ -26,7 +26,7 @@ caching ask capacity = record { ask = ask; cache = record { blocks = []; capacit
 abbrev pub one_more : ℕ → ℕ
 one_more count = count_after count 1
 
--- a request for a block
+-- whether a request is for a block
 abbrev pub is_get : Request → Bool
 is_get (requests.Get text) = true
 is_get request = false
@@ -41,7 +41,7 @@ abbrev pub held_for : List Block → Option (List ℕ) → Option Block
 held_for blocks None = None
 held_for blocks (Some reference) = held blocks reference
 
--- bytes whose reference is the wanted one
+-- the block of these bytes, where their reference is the wanted one
 abbrev pub block_of : List ℕ → List ℕ → Option Block
 block_of reference bytes = if bytes_eq (sha256 bytes) reference then Some (reference, bytes) else None
 
@@ -75,13 +75,15 @@ RecalledReply None old None new = new ≡ old
 RecalledReply block old given new = ⊥
 
 -- Any other request is passed on once, and its reply is given.
-pub record PassedOn {S : Type 0} (answers : S → Request → Option Reply → S → Type 0) (old : Caching S) (request : Request) (given : Option Reply) (new : Caching S) : Type 0 where
+pub record PassedOn {S : Type 0} (answers : S → Request → Option Reply → S → Type 0)
+    (old : Caching S) (request : Request) (given : Option Reply) (new : Caching S) : Type 0 where
   pub answered : answers old.ask request given new.ask
   pub cache : Keeps old.cache (brought (wanted request) given) new.cache
   pub asked : new.asked ≡ (if is_get request then one_more old.asked else old.asked)
   pub kept : new.kept ≡ old.kept
 
 module _ {S : Type 0} (answers : S → Request → Option Reply → S → Type 0) where
+  -- a request is answered from here where its block is held, and else passed on
   abbrev pub AnsweredBy : Option Block → Caching S → Request → Option Reply → Caching S → Type 0
   AnsweredBy (Some block) old request given new = FromHere block old given new
   AnsweredBy None old request given new = PassedOn answers old request given new

@@ -48,10 +48,12 @@ pub data Did : Type 0 where
 abbrev pub lines_text : List Text → Text
 lines_text lines = flat_map ended lines
 
+-- what is printed of a word: that it names no path, or what came of getting the file
 abbrev pub said : Did → Text
 said Did.BadPath = ended (codes "invalid name")
 said (Did.Got result) = lines_text (got_lines result)
 
+-- what is printed of words that were done one after the other
 abbrev pub printed : List Did → Text
 printed dids = flat_map said dids
 
@@ -63,6 +65,7 @@ counts_line asked kept = ended ((codes "asked " ++ decimal asked ++ codes " kept
 abbrev pub Came : Type 0
 Came = Result Did Stop
 
+-- what came of getting a file; where no answer came, and for want of memory, the run ends
 abbrev pub got_came : Result (List ℕ) ClientFault → Came
 got_came (Err client.Failed) = Err stop.AskFault
 got_came (Err client.OutOfMemory) = Err stop.OutOfMemory
@@ -72,9 +75,11 @@ got_came result = Ok (Did.Got result)
 -- conversation to get the file. There may be no memory to read the word.
 pub data PathCame {S : Type 0} (answers : S → Request → Option Reply → S → Type 0) (a : S) (word : Text) : Came → S → Type 0 where
   bad_path : result_ok (path_of word) ≡ None → PathCame answers a word (Ok Did.BadPath) a
-  got : {path : PathName} {result : Result (List ℕ) ClientFault} {b : S} → result_ok (path_of word) ≡ Some path → Held answers (get_talk path) a result b → PathCame answers a word (got_came result) b
+  got : {path : PathName} {result : Result (List ℕ) ClientFault} {b : S} → result_ok (path_of word) ≡ Some path
+      → Held answers (get_talk path) a result b → PathCame answers a word (got_came result) b
   unread : PathCame answers a word (Err stop.OutOfMemory) a
 
+-- a word did this, so the run goes on
 abbrev pub PathDoes : {S : Type 0} → (S → Request → Option Reply → S → Type 0) → S → Text → Did → S → Type 0
 PathDoes answers a word did b = PathCame answers a word (Ok did) b
 
@@ -85,16 +90,20 @@ abbrev pub is_cut : ℕ → Bool
 is_cut status = (status == 3) || (status == 4)
 
 -- How a run ends behind the words that were done, by those that are left: its status, what is written last, and the state it leaves.
-pub data Ends {S : Type 0} (answers : S → Request → Option Reply → S → Type 0) (last : Caching S) (rest : List Text) : ℕ → Text → Caching S → Type 0 where
+pub data Ends {S : Type 0} (answers : S → Request → Option Reply → S → Type 0)
+    (last : Caching S) (rest : List Text) : ℕ → Text → Caching S → Type 0 where
   at_end : rest ≡ [] → Ends answers last rest 0 (counts_line last.asked last.kept) last
-  unanswered : {word : Text} {more : List Text} {b : Caching S} → rest ≡ word ∷ more → PathCame (CachedAnswers answers) last word (Err stop.AskFault) b → Ends answers last rest 11 [] b
-  wanting : {word : Text} {more : List Text} {b : Caching S} → rest ≡ word ∷ more → PathCame (CachedAnswers answers) last word (Err stop.OutOfMemory) b → Ends answers last rest 4 [] b
+  unanswered : {word : Text} {more : List Text} {b : Caching S} → rest ≡ word ∷ more
+      → PathCame (CachedAnswers answers) last word (Err stop.AskFault) b → Ends answers last rest 11 [] b
+  wanting : {word : Text} {more : List Text} {b : Caching S} → rest ≡ word ∷ more
+      → PathCame (CachedAnswers answers) last word (Err stop.OutOfMemory) b → Ends answers last rest 4 [] b
   cut : {status : ℕ} → is_cut status ≡ true → Ends answers last rest status [] last
   cut_at_end : {status : ℕ} → is_cut status ≡ true → rest ≡ [] → Ends answers last rest status (counts_line last.asked last.kept) last
 
 -- Of words the first ones were done over a cache, one after the other, and the run ended. What they print is written, and the last line
 -- behind it; but where a write fault or want of memory cut it short, a front of it is.
-pub record Copied {S : Type 0} (answers : S → Request → Option Reply → S → Type 0) (old new : Option Text) (a : Caching S) (words : List Text) (status : ℕ) (b : Caching S) : Type 0 where
+pub record Copied {S : Type 0} (answers : S → Request → Option Reply → S → Type 0) (old new : Option Text)
+    (a : Caching S) (words : List Text) (status : ℕ) (b : Caching S) : Type 0 where
   pub done : List Text
   pub rest : List Text
   pub cut : done ++ rest ≡ words
@@ -106,8 +115,9 @@ pub record Copied {S : Type 0} (answers : S → Request → Option Reply → S �
   pub whole : is_cut status ≡ false → Appends old new (printed dids ++ tail)
   pub part : WritesPart old new (printed dids ++ tail)
 
--- the same from a new cache on, by what it leaves of whoever is asked
-pub record CopiedOver {S : Type 0} (answers : S → Request → Option Reply → S → Type 0) (old new : Option Text) (a : S) (words : List Text) (status : ℕ) (b : S) : Type 0 where
+-- Words were copied over a new cache, and whoever is asked was left so.
+pub record CopiedOver {S : Type 0} (answers : S → Request → Option Reply → S → Type 0)
+    (old new : Option Text) (a : S) (words : List Text) (status : ℕ) (b : S) : Type 0 where
   pub end : Caching S
   pub copied : Copied answers old new (caching a copy_capacity) words status end
   pub left : end.ask ≡ b
@@ -117,7 +127,8 @@ pub record CopiedOver {S : Type 0} (answers : S → Request → Option Reply →
 -- what is done where each request has its reply of a table
 pub data PlainDid (rows : List (Request × Reply)) (word : Text) : Did → Type 0 where
   plain_none : result_ok (path_of word) ≡ None → PlainDid rows word Did.BadPath
-  plain_got : {path : PathName} {result : Result (List ℕ) ClientFault} → result_ok (path_of word) ≡ Some path → Plain rows (get_talk path) result → PlainDid rows word (Did.Got result)
+  plain_got : {path : PathName} {result : Result (List ℕ) ClientFault} → result_ok (path_of word) ≡ Some path
+      → Plain rows (get_talk path) result → PlainDid rows word (Did.Got result)
 
 -- each word was done so, and what they print was written, with the last line behind it
 pub record PlainlyCopied (rows : List (Request × Reply)) (old new : Option Text) (words : List Text) : Type 0 where

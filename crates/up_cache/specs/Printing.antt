@@ -34,13 +34,15 @@ ToldAs old new (Ok did) result = PrintedAs old new (said did) result
 ToldAs old new (Err why) result = (result ≡ Err why) × (new ≡ old)
 
 -- Something came of a word, and it was told.
-pub record WordCopied {S : Type 0} (answers : S → Request → Option Reply → S → Type 0) (old new : Option Text) (a : S) (word : Text) (result : Result (Unit {0}) Stop) (b : S) : Type 0 where
+pub record WordCopied {S : Type 0} (answers : S → Request → Option Reply → S → Type 0)
+    (old new : Option Text) (a : S) (word : Text) (result : Result (Unit {0}) Stop) (b : S) : Type 0 where
   pub came : Came
   pub path : PathCame answers a word came b
   pub told : ToldAs old new came result
 
 -- The file at a path was got, and what came of that was told.
-pub record FileCopied {S : Type 0} (answers : S → Request → Option Reply → S → Type 0) (old new : Option Text) (a : S) (path : PathName) (result : Result (Unit {0}) Stop) (b : S) : Type 0 where
+pub record FileCopied {S : Type 0} (answers : S → Request → Option Reply → S → Type 0) (old new : Option Text)
+    (a : S) (path : PathName) (result : Result (Unit {0}) Stop) (b : S) : Type 0 where
   pub got : Result (List ℕ) ClientFault
   pub talk : Held answers (get_talk path) a got b
   pub told : ToldAs old new (got_came got) result
@@ -48,8 +50,10 @@ pub record FileCopied {S : Type 0} (answers : S → Request → Option Reply →
 module _ {S : Type 0} (answers : S → Request → Option Reply → S → Type 0) where
   -- what comes of the next word by why a run ends there
   abbrev pub StopsBy : S → List Text → Stop → S → Type 0
-  StopsBy last rest stop.AskFault b = (word : Text) × ((more : List Text) × ((rest ≡ word ∷ more) × PathCame answers last word (Err stop.AskFault) b))
-  StopsBy last rest stop.OutOfMemory b = (b ≡ last) ⊎ ((word : Text) × ((more : List Text) × ((rest ≡ word ∷ more) × PathCame answers last word (Err stop.OutOfMemory) b)))
+  StopsBy last rest stop.AskFault b =
+      (word : Text) × ((more : List Text) × ((rest ≡ word ∷ more) × PathCame answers last word (Err stop.AskFault) b))
+  StopsBy last rest stop.OutOfMemory b =
+      (b ≡ last) ⊎ ((word : Text) × ((more : List Text) × ((rest ≡ word ∷ more) × PathCame answers last word (Err stop.OutOfMemory) b)))
   StopsBy last rest stop.WriteFault b = b ≡ last
 
   -- what was written by why a run ends
@@ -68,12 +72,13 @@ module _ {S : Type 0} (answers : S → Request → Option Reply → S → Type 0
     pub stops : StopsBy last rest why b
     pub written : WrittenBy old new (printed dids) why
 
-  -- all of them were
+  -- all words were done one after the other and printed
   pub record Running (old new : Option Text) (a : S) (words : List Text) (b : S) : Type 0 where
     pub dids : List Did
     pub run : Run (PathDoes answers) a words dids b
     pub written : Appends old new (printed dids)
 
+  -- all words were done and printed, or this is why the run stopped before one
   abbrev pub WordsCopied : Option Text → Option Text → S → List Text → Result (Unit {0}) Stop → S → Type 0
   WordsCopied old new a words (Ok done) b = Running old new a words b
   WordsCopied old new a words (Err why) b = Stopped old new a words why b

@@ -14,9 +14,11 @@ pub data Leads {S : Type 0} (answers : S → Request → Option Reply → S → 
 -- Somebody is steady with a table: from here on, whatever is asked, each reply is the table's, or want of memory.
 abbrev pub IsSteady : {S : Type 0} → (S → Request → Option Reply → S → Type 0) → List (Request × Reply) → S → Type 0
 IsSteady {S} answers rows a =
-    (b c : S) (request : Request) (reply : Reply) → Leads answers a b → answers b request (Some reply) c → reply ≢ replies.OutOfMemory → IsReplyIn rows request reply
+    (b c : S) (request : Request) (reply : Reply) → Leads answers a b
+    → answers b request (Some reply) c → reply ≢ replies.OutOfMemory → IsReplyIn rows request reply
 
 -- What comes of a conversation where each request has its reply of the table.
 pub data Plain (rows : List (Request × Reply)) {X : Type 0} : Talk X → X → Type 0 where
   ended : {x : X} → Plain rows (done x) x
-  asked : {request : Request} {hear : Reply → Talk X} {x : X} (reply : Reply) → IsReplyIn rows request reply → Plain rows (hear reply) x → Plain rows (asking request hear) x
+  asked : {request : Request} {hear : Reply → Talk X} {x : X} (reply : Reply)
+      → IsReplyIn rows request reply → Plain rows (hear reply) x → Plain rows (asking request hear) x

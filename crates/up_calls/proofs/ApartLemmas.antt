@@ -13,7 +13,7 @@ use Rattle.up_calls.specs.Views.{SeenTree, Views, log_after}
 use Rattle.up_calls.specs.declared.event.Event.{Event}
 use Rattle.up_names.specs.Texts.{UserName}
 use Rattle.up_peer.specs.declared.loader.Loader.{Ghosts}
-use Rattle.up_replay.specs.Logs.{Log}
+use Rattle.up_log_tree.specs.Logs.{Log}
 use Rattle.up_wire.specs.declared.replies.Reply.TheVariants as reply
 
 -- the answer over the log at the event's position is also that over a log that agrees with it

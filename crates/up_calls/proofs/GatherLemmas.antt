@@ -24,7 +24,7 @@ use Rattle.up_peer.specs.declared.loader.Loader.{Ghosts}
 use Rattle.up_policy.specs.Loadings.{Loading}
 use Rattle.up_policy.specs.declared.load_answer.LoadAnswer.{LoadAnswer}
 use Rattle.up_policy.specs.declared.load_answer.LoadAnswer.TheVariants as loads
-use Rattle.up_replay.specs.Logs.{Log}
+use Rattle.up_log_tree.specs.Logs.{Log}
 
 -- ---- what is seen later
 

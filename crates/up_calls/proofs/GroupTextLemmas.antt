@@ -15,13 +15,13 @@ use Rattle.up_list.specs.Asking.{asked_of}
 use Rattle.up_list.specs.Changes.{answer_of}
 use Rattle.up_list.specs.Looks.{look_now}
 use Rattle.up_list.specs.Reads.{group_text_reply}
-use Rattle.up_list.specs.declared.asking.Asked.{Asked}
-use Rattle.up_list.specs.declared.asking.Asked.TheVariants.{GroupText}
+use Rattle.up_list.specs.declared.asking.ReadRequest.{ReadRequest}
+use Rattle.up_list.specs.declared.asking.ReadRequest.TheVariants.{GroupText}
 use Rattle.up_names.specs.PathNames.{PathName, canonical, path_of}
 use Rattle.up_names.specs.Texts.{UserName}
 use Rattle.up_names.specs.declared.fault.NameFault.{NameFault}
-use Rattle.up_replay.specs.Logs.{Log}
-use Rattle.up_replay.specs.Rights.{is_group}
+use Rattle.up_log_tree.specs.Logs.{Log}
+use Rattle.up_log_tree.specs.Rights.{is_group}
 use Rattle.up_wire.specs.Bounds.{bounded}
 use Rattle.up_wire.specs.declared.replies.Reply.{Reply}
 use Rattle.up_wire.specs.declared.replies.Reply.TheVariants as reply
@@ -32,10 +32,10 @@ module _ (log : Log) (user : UserName) (path : PathName) (again : path_of (canon
   unfolding asked_of
   asked_is = ap (λ (found : Result PathName NameFault). (elim found as (λ _. Result PathName EntryFault) [ Ok p ↦ Ok p | Err fault ↦ Err (Invalid what.Name) ]) >>= λ p. (rule what.GroupName (is_group p) >>= λ group. Ok (GroupText p))) again
 
-  pub by_asked : (asked : Result Asked EntryFault) → asked_of user (request.GroupText (canonical path)) ≡ asked
+  pub by_asked : (asked : Result ReadRequest EntryFault) → asked_of user (request.GroupText (canonical path)) ≡ asked
       → group_text_answer log user path ≡ answer_of log (elim asked as (λ _. Result Rec Reply) [ Ok asked ↦ asked_outcome log [] [] user asked 0 | Err fault ↦ std.Err (fault_reply fault) ])
   unfolding answer outcome
-  by_asked asked h = ap (λ (r : Result Asked EntryFault). answer_of log (elim r as (λ _. Result Rec Reply) [ Ok asked ↦ asked_outcome log [] [] user asked 0 | Err fault ↦ std.Err (fault_reply fault) ])) h
+  by_asked asked h = ap (λ (r : Result ReadRequest EntryFault). answer_of log (elim r as (λ _. Result Rec Reply) [ Ok asked ↦ asked_outcome log [] [] user asked 0 | Err fault ↦ std.Err (fault_reply fault) ])) h
 
   pub no_group : is_group path ≡ false → group_text_answer log user path ≡ reply.Invalid what.GroupName
   unfolding answer_of

@@ -1,9 +1,9 @@
 -- What no log is looked at for stays so.
 use Rattle.std.proofs.Common.{◌≡◌, refl, ap, Option, Some, None}
 use Rattle.std.specs.Prelude.{if◌then◌else◌, is_some}
-use Rattle.up_changes.specs.Routes.{route_of}
-use Rattle.up_changes.specs.declared.routes.Route.{Route}
-use Rattle.up_changes.specs.declared.routes.Route.TheVariants as route
+use Rattle.up_edits.specs.Routes.{route_of}
+use Rattle.up_edits.specs.declared.routes.Route.{Route}
+use Rattle.up_edits.specs.declared.routes.Route.TheVariants as route
 use Rattle.up_calls.specs.Routes.{Question, refusal, refusal_by, route_refusal, service_of}
 use Rattle.up_calls.specs.Views.{Later, LaterTree, SeenTree, Views}
 use Rattle.up_calls.specs.declared.service.Service.{Service}

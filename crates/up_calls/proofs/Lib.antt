@@ -1,5 +1,6 @@
 pub mod AsksLemmas
 pub mod NeedLemmas
+pub mod ReadLemmas
 pub mod PlaceLemmas
 pub mod QuietLemmas
 pub mod LaterLemmas

@@ -10,7 +10,7 @@ use Rattle.up_access.specs.declared.Rule.{Rule}
 use Rattle.up_answers.specs.Needs.{Place, needed_at, needs, needs_asked, places_for}
 use Rattle.up_entry.specs.declared.fault.EntryFault.{EntryFault}
 use Rattle.up_list.specs.Asking.{asked_of}
-use Rattle.up_list.specs.declared.asking.Asked.{Asked}
+use Rattle.up_list.specs.declared.asking.ReadRequest.{ReadRequest}
 use Rattle.up_names.specs.PathNames.{PathName}
 use Rattle.up_names.specs.PathOrder.{path_eq}
 use Rattle.up_names.specs.Texts.{UserName}
@@ -25,9 +25,9 @@ use Rattle.up_policy.specs.Members.{groups_in, names_in, text_of}
 use Rattle.up_policy.specs.Reached.{groups_named, is_wanted, met_after, needed, needed_by, reached}
 use Rattle.up_policy.specs.Trees.{TreeFacts}
 use Rattle.up_policy.specs.declared.load_answer.LoadAnswer.{LoadAnswer}
-use Rattle.up_replay.proofs.Paths.{some_none}
-use Rattle.up_replay.specs.Logs.{Log}
-use Rattle.up_replay.specs.Rights.{facts_of, group_paths}
+use Rattle.up_log_tree.proofs.Paths.{some_none}
+use Rattle.up_log_tree.specs.Logs.{Log}
+use Rattle.up_log_tree.specs.Rights.{facts_of, group_paths}
 use Rattle.up_wire.specs.declared.requests.Request.{Request}
 
 -- ---- lists
@@ -183,8 +183,8 @@ module _ (tree : TreeFacts) (listed : List PathName) (lists : ListsGroups tree l
 
 -- ---- a request
 
-module _ (log : Log) (user : UserName) (request : Request) (lists : (asked : Asked) (place : Place) → Contains (places_for log user asked) place → ListsGroups (facts_of log.owner place.0) (group_paths place.0)) where
-  asked_more : (asked : Asked) (before more : Loading) (name : PathName) → Contains (needs_asked log before user asked) name → answer_for (before ++ more) name ≡ None → Contains (needs_asked log (before ++ more) user asked) name
+module _ (log : Log) (user : UserName) (request : Request) (lists : (asked : ReadRequest) (place : Place) → Contains (places_for log user asked) place → ListsGroups (facts_of log.owner place.0) (group_paths place.0)) where
+  asked_more : (asked : ReadRequest) (before more : Loading) (name : PathName) → Contains (needs_asked log before user asked) name → answer_for (before ++ more) name ≡ None → Contains (needs_asked log (before ++ more) user asked) name
   unfolding needs_asked
   asked_more asked before more name h none = elim (with_paths-cases [] (flat_map (needed_at log before) (places_for log user asked)) name h) [
     | inl none ↦ absurd (no_member name none)
@@ -195,7 +195,7 @@ module _ (log : Log) (user : UserName) (request : Request) (lists : (asked : Ask
         (needed_more (facts_of log.owner at.0.0) (group_paths at.0.0) (lists asked at.0 at.1) before more at.0.1 name at.2 none))
   ]
 
-  asked_new : (asked : Asked) (before : Loading) (name : PathName) → Contains (needs_asked log before user asked) name → answer_for before name ≡ None
+  asked_new : (asked : ReadRequest) (before : Loading) (name : PathName) → Contains (needs_asked log before user asked) name → answer_for before name ≡ None
   unfolding needs_asked
   asked_new asked before name h = elim (with_paths-cases [] (flat_map (needed_at log before) (places_for log user asked)) name h) [
     | inl none ↦ absurd (no_member name none)
@@ -208,7 +208,7 @@ module _ (log : Log) (user : UserName) (request : Request) (lists : (asked : Ask
   unfolding needs
   needs_more before more name h none = by (asked_of user request) h
     where
-      by : (asked : Result Asked EntryFault) → Contains (elim asked as (λ _. List PathName) [ Ok asked ↦ needs_asked log before user asked | Err fault ↦ [] ]) name
+      by : (asked : Result ReadRequest EntryFault) → Contains (elim asked as (λ _. List PathName) [ Ok asked ↦ needs_asked log before user asked | Err fault ↦ [] ]) name
           → Contains (elim asked as (λ _. List PathName) [ Ok asked ↦ needs_asked log (before ++ more) user asked | Err fault ↦ [] ]) name
       by (Ok asked) h = asked_more asked before more name h none
       by (Err fault) h = absurd (no_member name h)
@@ -217,6 +217,6 @@ module _ (log : Log) (user : UserName) (request : Request) (lists : (asked : Ask
   unfolding needs
   needs_new before name h = by (asked_of user request) h
     where
-      by : (asked : Result Asked EntryFault) → Contains (elim asked as (λ _. List PathName) [ Ok asked ↦ needs_asked log before user asked | Err fault ↦ [] ]) name → answer_for before name ≡ None
+      by : (asked : Result ReadRequest EntryFault) → Contains (elim asked as (λ _. List PathName) [ Ok asked ↦ needs_asked log before user asked | Err fault ↦ [] ]) name → answer_for before name ≡ None
       by (Ok asked) h = asked_new asked before name h
       by (Err fault) h = absurd (no_member name h)

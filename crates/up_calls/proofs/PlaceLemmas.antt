@@ -12,8 +12,8 @@ use Rattle.up_answers.specs.Needs.{Place, event_places, event_places_to, items_w
 use Rattle.up_entry.specs.ControlFiles.{is_ordinary}
 use Rattle.up_list.specs.Asking.{owner_asked}
 use Rattle.up_list.specs.Globs.{is_candidate, literal_path}
-use Rattle.up_list.specs.declared.asking.Asked.{Asked}
-use Rattle.up_list.specs.declared.asking.Asked.TheVariants.{Lookup, WhichAccess, GroupText, Delete, Put, Glob, Watch}
+use Rattle.up_list.specs.declared.asking.ReadRequest.{ReadRequest}
+use Rattle.up_list.specs.declared.asking.ReadRequest.TheVariants.{Lookup, WhichAccess, GroupText, Delete, Put, Glob, Watch}
 use Rattle.up_names.specs.PathNames.{PathName, control_of, is_under}
 use Rattle.up_names.specs.PathOrder.{path_cmp}
 use Rattle.up_names.specs.PathOrderLaws.{path_cmp_eq}
@@ -21,12 +21,12 @@ use Rattle.up_names.specs.Texts.{UserName}
 use Rattle.up_policy.proofs.PathLists.{Contains-cons, no_member}
 use Rattle.up_policy.proofs.VerdictLemmas.{at_any}
 use Rattle.up_policy.specs.Laws.{ListsGroups}
-use Rattle.up_replay.proofs.Paths.{path_same}
-use Rattle.up_replay.proofs.Trees.{find-made, tree_sorted}
-use Rattle.up_replay.specs.Logs.{Log}
-use Rattle.up_replay.specs.Rights.{facts_of, group_node, group_paths, is_group_file, items_of}
-use Rattle.up_replay.specs.Trees.{Tree, made_of, node_at, tree_at, tree_of}
-use Rattle.up_replay.specs.declared.node.Node.{Node}
+use Rattle.up_log_tree.proofs.Paths.{path_same}
+use Rattle.up_log_tree.proofs.Trees.{find-made, tree_sorted}
+use Rattle.up_log_tree.specs.Logs.{Log}
+use Rattle.up_log_tree.specs.Rights.{facts_of, group_node, group_paths, is_group_file, items_of}
+use Rattle.up_log_tree.specs.Trees.{Tree, made_of, node_at, tree_at, tree_of}
+use Rattle.up_log_tree.specs.declared.node.Node.{Node}
 
 -- ---- the path of each Group file of a sorted tree is listed
 
@@ -113,7 +113,7 @@ module _ (log : Log) where
     | inr there ↦ f place there
   ]
 
-  places_trees : (asked : Asked) (place : Place) → Contains (places log asked) place → IsTree place
+  places_trees : (asked : ReadRequest) (place : Place) → Contains (places log asked) place → IsTree place
   unfolding places
   places_trees (GroupText path) place h = absurd (no_member place h)
   places_trees (Lookup path) place h = one_tree (tree_of log.records) path now_sorted place h
@@ -130,7 +130,7 @@ module _ (log : Log) where
       by true h = one_tree (tree_of log.records) path now_sorted place h
       by false h = absurd (no_member place h)
 
-  owner_trees : (asked : Asked) (place : Place) → Contains (owner_places log asked) place → IsTree place
+  owner_trees : (asked : ReadRequest) (place : Place) → Contains (owner_places log asked) place → IsTree place
   unfolding owner_places
   owner_trees (Delete path) place h = ordinary_trees path place h
   owner_trees (Put put) place h = ordinary_trees put.entry.name place h
@@ -140,7 +140,7 @@ module _ (log : Log) where
   owner_trees (Glob pattern) place h = absurd (no_member place h)
   owner_trees (Watch path sequence) place h = absurd (no_member place h)
 
-  pub places_listed : (user : UserName) (asked : Asked) (place : Place) → Contains (places_for log user asked) place → ListsGroups (facts_of log.owner place.0) (group_paths place.0)
+  pub places_listed : (user : UserName) (asked : ReadRequest) (place : Place) → Contains (places_for log user asked) place → ListsGroups (facts_of log.owner place.0) (group_paths place.0)
   places_listed user asked place h = groups_listed log.owner place.0 (by (bytes_eq (owner_asked asked) log.owner) (bytes_eq user log.owner) h)
     where
       by : (here owner : Bool) → Contains (if not here then [] else if owner then owner_places log asked else places log asked) place → IsTree place

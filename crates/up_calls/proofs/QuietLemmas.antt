@@ -28,13 +28,13 @@ use Rattle.up_wire.specs.declared.replies.Done.{Done}
 use Rattle.up_wire.specs.declared.replies.Done.TheVariants as done
 use Rattle.up_wire.specs.declared.replies.Reply.{Reply}
 use Rattle.up_wire.specs.declared.replies.Reply.TheVariants as reply
-use Rattle.up_replay.specs.declared.node.Node.{Node}
-use Rattle.up_replay.specs.Trees.{children, is_file, kind_of, node_at, tree_of}
-use Rattle.up_replay.specs.Snapshots.{snap_at}
-use Rattle.up_replay.specs.Logs.{Log}
-use Rattle.up_replay.specs.Sizes.{size_of}
-use Rattle.up_list.specs.declared.asking.Asked.{Asked}
-use Rattle.up_list.specs.declared.asking.Asked.TheVariants.{Lookup, WhichAccess, GroupText, Delete, Put, Glob, Watch}
+use Rattle.up_log_tree.specs.declared.node.Node.{Node}
+use Rattle.up_log_tree.specs.Trees.{children, is_file, kind_of, node_at, tree_of}
+use Rattle.up_log_tree.specs.Snapshots.{snap_at}
+use Rattle.up_log_tree.specs.Logs.{Log}
+use Rattle.up_log_tree.specs.Sizes.{size_of}
+use Rattle.up_list.specs.declared.asking.ReadRequest.{ReadRequest}
+use Rattle.up_list.specs.declared.asking.ReadRequest.TheVariants.{Lookup, WhichAccess, GroupText, Delete, Put, Glob, Watch}
 use Rattle.up_list.specs.Asking.{owner_asked}
 use Rattle.up_list.specs.Changes.{◌>>=◌, refuse, right_to_put, unless}
 use Rattle.up_list.specs.Checks.{at_link, check, first_link, lacking, ways, ways_before}
@@ -47,7 +47,7 @@ use Rattle.up_entry.specs.declared.fault.EntryFault.{EntryFault}
 use Rattle.up_entry.specs.declared.fault.EntryFault.TheVariants as entry_fault
 use Rattle.up_entry.specs.declared.entries.Location.{Location}
 use Rattle.up_entry.specs.declared.fetch.Fetch.{Fetch}
-use Rattle.up_replay.specs.Fits.{root_of}
+use Rattle.up_log_tree.specs.Fits.{root_of}
 use Rattle.up_wire.specs.declared.requests.Request.{Request}
 use Rattle.std.specs.Map.{lookup}
 use Rattle.up_list.specs.Asking.{asked_of}
@@ -288,7 +288,7 @@ snapshot_put_quiet log look entry now =
     go true = snapshot_record_quiet log now
     go false = refl
 
-snapshot_quiet : (log : Log) (user : List ℕ) (asked : Asked) (now : ℕ) → leads_io (snapshot_outcome log user asked now) ≡ false
+snapshot_quiet : (log : Log) (user : List ℕ) (asked : ReadRequest) (now : ℕ) → leads_io (snapshot_outcome log user asked now) ≡ false
 unfolding snapshot_outcome snapshot_delete
 snapshot_quiet log user (Lookup path) now = lookup_quiet (snapshot_look log user) path
 snapshot_quiet log user (WhichAccess path) now = access_quiet (snapshot_look log user) path
@@ -301,7 +301,7 @@ snapshot_quiet log user (Put put) now = snapshot_put_quiet log (snapshot_look lo
 -- ---- all requests
 
 module _ (log : Log) (loaded : Loading) (fetched : Fetched) (user : List ℕ) (now : ℕ) where
-  tree_quiet : (asked : Asked) → (has_failed fetched ≡ false) → leads_io (tree_outcome log loaded fetched user asked) ≡ false
+  tree_quiet : (asked : ReadRequest) → (has_failed fetched ≡ false) → leads_io (tree_outcome log loaded fetched user asked) ≡ false
   unfolding tree_outcome
   tree_quiet (Lookup path) h = lookup_quiet (look_now log loaded user) path
   tree_quiet (WhichAccess path) h = access_quiet (look_now log loaded user) path
@@ -311,7 +311,7 @@ module _ (log : Log) (loaded : Loading) (fetched : Fetched) (user : List ℕ) (n
   tree_quiet (Delete path) h = delete_quiet (look_now log loaded user) path
   tree_quiet (Put put) h = put_quiet (look_now log loaded user) (length log.records) fetched put h
 
-  pub asked_quiet : (asked : Asked) → (has_failed fetched ≡ false) → leads_io (asked_outcome log loaded fetched user asked now) ≡ false
+  pub asked_quiet : (asked : ReadRequest) → (has_failed fetched ≡ false) → leads_io (asked_outcome log loaded fetched user asked now) ≡ false
   unfolding asked_outcome
   asked_quiet asked h = go (bytes_eq (owner_asked asked) log.owner) (bytes_eq (log_owner (owner_asked asked)) log.owner)
     where
@@ -363,6 +363,6 @@ pub quiet_answer : (log : Log) (loaded : Loading) (fetched : Fetched) (user : Li
 unfolding answer outcome
 quiet_answer log loaded fetched user request now h = answer_quiet log (outcome log loaded fetched user request now) (go (asked_of user request))
   where
-    go : (m : Result Asked EntryFault) → leads_io (elim m as (λ _. Result Rec Reply) [ Ok asked ↦ asked_outcome log loaded fetched user asked now | Err fault ↦ Err (fault_reply fault) ]) ≡ false
+    go : (m : Result ReadRequest EntryFault) → leads_io (elim m as (λ _. Result Rec Reply) [ Ok asked ↦ asked_outcome log loaded fetched user asked now | Err fault ↦ Err (fault_reply fault) ]) ≡ false
     go (Ok asked) = asked_quiet log loaded fetched user now asked h
     go (Err fault) = fault_quiet fault

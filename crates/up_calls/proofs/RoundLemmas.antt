@@ -17,7 +17,7 @@ use Rattle.up_names.specs.Texts.{UserName}
 use Rattle.up_policy.proofs.PathLists.{Contains-at}
 use Rattle.up_policy.specs.Loadings.{Loading, answer_for}
 use Rattle.up_policy.specs.declared.load_answer.LoadAnswer.{LoadAnswer}
-use Rattle.up_replay.specs.Logs.{Log}
+use Rattle.up_log_tree.specs.Logs.{Log}
 use Rattle.up_wire.specs.declared.requests.Request.{Request}
 
 -- ---- what is missing

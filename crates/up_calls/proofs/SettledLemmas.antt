@@ -1,7 +1,7 @@
 -- How a log stays settled.
 use Rattle.std.proofs.Common.{arith, ◌≡◌, ◌≢◌, ◌≤◌, ℕ, Bool, true, false, List, length, refl, sym, ap, subst, ◌∙◌, inl, inr, Option, Some, None, Result, Ok, Err, nat_lt, bytes_eq}
 use Rattle.std.specs.Prelude.{IfErr, IsErrOf, is_some}
-use Rattle.up_adding.specs.Steps.{Steps}
+use Rattle.up_commit.specs.Steps.{Steps}
 use Rattle.up_blocks.specs.Blocks.{AddsBlock, DeletesBlock, GivesBlock, PutsBlock}
 use Rattle.up_blocks.specs.Records.{holds, largest_block, put_record}
 use Rattle.up_blocks.specs.declared.fault.BlockWhy.{BlockWhy}

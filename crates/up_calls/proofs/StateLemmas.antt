@@ -3,7 +3,7 @@ use Rattle.std.proofs.Common.{◌≡◌, ◌≢◌, ℕ, List, length, refl, sym
 use Rattle.std.specs.Prelude.{IfOk, is_some}
 use Rattle.std.specs.List.{AllByRecursion}
 use Rattle.std.specs.Result.{result_ok}
-use Rattle.up_adding.specs.Steps.{Steps}
+use Rattle.up_commit.specs.Steps.{Steps}
 use Rattle.up_answers.specs.Answers.{added, answer}
 use Rattle.up_answers.specs.Fetching.{Fetched}
 use Rattle.up_answers.specs.Needs.{needs}
@@ -27,7 +27,7 @@ use Rattle.up_keys.specs.Answers as of_keys
 use Rattle.up_names.specs.Texts.{UserName}
 use Rattle.up_policy.specs.Loadings.{Loading}
 use Rattle.up_policy.specs.declared.load_answer.LoadAnswer.{LoadAnswer}
-use Rattle.up_replay.specs.Fits.{IsLog}
+use Rattle.up_log_tree.specs.Fits.{IsLog}
 use Rattle.up_store.specs.Answers as of_store
 use Rattle.up_tree.specs.States.{State, log_of}
 use Rattle.up_wire.specs.declared.replies.Reply.{Reply}

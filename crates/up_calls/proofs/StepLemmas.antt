@@ -2,7 +2,7 @@
 use Rattle.std.proofs.Common.{◌≡◌, ◌≢◌, ◌⊎◌, ◌≤◌, ◌+◌, ℕ, Bool, true, false, List, [], ◌∷◌, ◌++◌, length, take, refl, sym, ap, subst, ◌∙◌, inl, inr, arith, Option, Some, None, slice_get, length-append, append-nil, Result, Ok, Err, not, bytes_eq}
 use Rattle.std.specs.Prelude.{if◌then◌else◌}
 use Rattle.std.proofs.lemmas.List.{take_all}
-use Rattle.up_adding.specs.Steps.{is_changed}
+use Rattle.up_commit.specs.Steps.{is_changed}
 use Rattle.up_answers.specs.Answers.{added, answer}
 use Rattle.up_answers.specs.Fetching.{Fetched}
 use Rattle.up_answers.specs.Needs.{needs}
@@ -46,8 +46,8 @@ use Rattle.up_lists.specs.Counts.{Rose}
 use Rattle.up_names.specs.PathNames.{PathName}
 use Rattle.up_names.specs.Texts.{UserName}
 use Rattle.up_policy.specs.Loadings.{Loading}
-use Rattle.up_replay.specs.Fits.{IsLog}
-use Rattle.up_replay.specs.Logs.{Log}
+use Rattle.up_log_tree.specs.Fits.{IsLog}
+use Rattle.up_log_tree.specs.Logs.{Log}
 use Rattle.up_tree.specs.States.{State, entries_of, fixed_of, log_of}
 use Rattle.up_wire.specs.declared.keys.KeyRecord.{KeyRecord}
 use Rattle.up_wire.specs.declared.replies.Reply.{Reply}

@@ -7,7 +7,7 @@ use Rattle.up_calls.specs.Routes.{LogName, Question, log_asked, refusal}
 use Rattle.up_calls.specs.Views.{SeenTree, Views, log_after}
 use Rattle.up_calls.specs.declared.event.Event.{Event}
 use Rattle.up_names.specs.Texts.{UserName}
-use Rattle.up_replay.specs.Logs.{Log}
+use Rattle.up_log_tree.specs.Logs.{Log}
 use Rattle.up_wire.specs.declared.replies.Reply.TheVariants as reply
 
 -- Faults and want of memory aside, a tree's reply is also the answer of each other log that agrees, for the user and for what the request

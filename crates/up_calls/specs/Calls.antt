@@ -3,8 +3,8 @@ use Rattle.std.specs.Prelude.{◌≡◌, ◌≢◌, ◌≤◌, ◌⊎◌, ℕ, t
 use Rattle.up_answers.specs.Answers.{added, answer}
 use Rattle.up_answers.specs.Fetching.{is_failed}
 use Rattle.up_answers.specs.Needs.{IsLoading}
-use Rattle.up_changes.specs.Routes.{route_of}
-use Rattle.up_adding.specs.Steps.{is_changed}
+use Rattle.up_edits.specs.Routes.{route_of}
+use Rattle.up_commit.specs.Steps.{is_changed}
 use Rattle.up_entry.specs.declared.records.Rec.{Rec}
 use Rattle.up_calls.specs.Asks.{Asks, Tries}
 use Rattle.up_calls.specs.Blocks.{Got, OwnBlocks, block_answer, block_question}
@@ -16,7 +16,7 @@ use Rattle.up_calls.specs.Views.{Later, SeenKeys, SeenStore, SeenTree, Views, lo
 use Rattle.up_calls.specs.declared.event.Event.{Event}
 use Rattle.up_names.specs.Texts.{UserName}
 use Rattle.up_peer.specs.declared.loader.Loader.{Ghosts}
-use Rattle.up_replay.specs.Fits.{IsLog}
+use Rattle.up_log_tree.specs.Fits.{IsLog}
 use Rattle.up_wire.specs.declared.replies.Reply.{Reply}
 use Rattle.up_wire.specs.declared.replies.Reply.TheVariants as reply
 

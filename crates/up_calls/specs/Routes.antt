@@ -1,9 +1,9 @@
 -- Which log a request goes to. This project's own.
 use Rattle.std.specs.Prelude.{◌≡◌, ◌≢◌, is_some, if◌then◌else◌, List, Option, Some, None}
 use Rattle.std.specs.Option.{option_map}
-use Rattle.up_changes.specs.Routes.{route_of}
-use Rattle.up_changes.specs.declared.routes.Route.{Route}
-use Rattle.up_changes.specs.declared.routes.Route.TheVariants as route
+use Rattle.up_edits.specs.Routes.{route_of}
+use Rattle.up_edits.specs.declared.routes.Route.{Route}
+use Rattle.up_edits.specs.declared.routes.Route.TheVariants as route
 use Rattle.up_entry.specs.declared.entries.Location.{Location}
 use Rattle.up_calls.specs.Services.{key_fault, store_fault}
 use Rattle.up_calls.specs.Views.{Views, own_of}

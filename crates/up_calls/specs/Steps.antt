@@ -1,6 +1,6 @@
 -- What is done in one turn of one log, over its state. This project's own.
 use Rattle.std.specs.Prelude.{◌≡◌, ◌≢◌, ◌≤◌, ◌⊎◌, ◌+◌, ◌++◌, ◌∷◌, ℕ, List, [], length, Option, Some, None, Result, Ok, Err}
-use Rattle.up_adding.specs.Steps.{IsApplied, Steps}
+use Rattle.up_commit.specs.Steps.{IsApplied, Steps}
 use Rattle.up_answers.specs.Answers.{added, answer}
 use Rattle.up_answers.specs.Fetching.{Fetched}
 use Rattle.up_answers.specs.Needs.{needs}
@@ -24,7 +24,7 @@ use Rattle.up_lists.specs.Counts.{Rose}
 use Rattle.up_names.specs.PathNames.{PathName}
 use Rattle.up_names.specs.Texts.{UserName}
 use Rattle.up_policy.specs.Loadings.{Loading}
-use Rattle.up_replay.specs.Fits.{IsLog}
+use Rattle.up_log_tree.specs.Fits.{IsLog}
 use Rattle.up_tree.specs.States.{State, log_of}
 use Rattle.up_wire.specs.declared.keys.KeyRecord.{KeyRecord}
 use Rattle.up_wire.specs.declared.replies.Reply.{Reply}

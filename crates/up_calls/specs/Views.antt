@@ -6,7 +6,7 @@ use Rattle.up_entry.specs.declared.records.Rec.{Rec}
 use Rattle.up_journal.specs.declared.limits.Limits.{Limits}
 use Rattle.up_lists.specs.Begins.{Begins}
 use Rattle.up_names.specs.Texts.{UserName}
-use Rattle.up_replay.specs.Logs.{Log}
+use Rattle.up_log_tree.specs.Logs.{Log}
 use Rattle.up_wire.specs.declared.keys.KeyRecord.{KeyRecord}
 
 -- Of one log: the records that the caller has seen, the positions of those that it added, how often the log's disk failed it, and

@@ -1,12 +1,13 @@
 //! One request to a tree, whoever has the logs.
-ghost use Rattle.std.specs.Prelude.{◌≡◌, ◌<◌, None, Some, true, is_some, IfOk, OnErr};
+ghost use Rattle.std.specs.Prelude.{◌≡◌, ◌<◌, None, Some, Ok, true, is_some, IfOk, OnErr};
 ghost use Rattle.up_calls.specs.Answered.{Came, TreeAnswered, TreeServed};
 ghost use Rattle.up_calls.specs.Asks.{Tries};
 ghost use Rattle.up_calls.specs.Calls.{IsTried};
 ghost use Rattle.up_calls.specs.Routes.{LogName, OwnStays, log_asked, service_of};
 ghost use Rattle.up_calls.specs.declared.service.Service.TheVariants as service;
-ghost use Rattle.up_changes.specs.Routes.{route_of};
-ghost use Rattle.up_changes.specs.declared.routes.Route.TheVariants as route;
+ghost use Rattle.up_edits.specs.Routes.{route_of};
+ghost use Rattle.up_edits.specs.declared.routes.Route.TheVariants as route;
+ghost use Rattle.up_list.specs.Asking.{asked_of};
 
 use crate::event::Event;
 use crate::events::bare;
@@ -14,15 +15,16 @@ use crate::fetching::gather_blocks;
 use crate::gathering::gather_round;
 use crate::logs::{Logs, Turn};
 use std::alloc::{AllocError, Global};
-use up_dir::{Fetched, Route, route_of};
-use up_entry::Location;
+use up_dir::{Fetched, tree_asked};
+use up_entry::{EntryFault, Location};
+use up_list::{ReadRequest, asked_of};
 use up_lists::Items;
 use up_names::User;
 use up_peer::Loader;
 use up_policy::Loaded;
 use up_wire::{Reply, Request};
 
-/// A request to a tree.
+/// A request to a tree. Its texts are read here, once.
 pub(crate) fn ask_directory<B: Logs, L: Loader>(
     alloc: Global,
     logs: &mut B,
@@ -42,11 +44,45 @@ pub(crate) fn ask_directory<B: Logs, L: Loader>(
         logs.old logs.new }
     ensures moment { result.moment ≡ now }
 {
-    match route_of(alloc, user, request) {
-        Ok(Route::Tree(owner, locations)) => {
-            ask_owner(alloc, logs, loader, &owner, locations, user, request, now)
+    match asked_of(alloc, user, request) {
+        Ok(asked) => {
+            let event = ask_read(alloc, logs, loader, user, request, &asked, now);
+            drop(asked);
+            event
         }
-        Ok(Route::Refused(refusal)) => bare(alloc, logs.random(), refusal, 0, now),
+        Err(EntryFault::Invalid(what)) => bare(alloc, logs.random(), Reply::Invalid(what), 0, now),
+        Err(EntryFault::OutOfMemory) => bare(alloc, logs.random(), Reply::OutOfMemory, 0, now),
+    }
+}
+
+// The same, once its texts were read.
+fn ask_read<B: Logs, L: Loader>(
+    alloc: Global,
+    logs: &mut B,
+    loader: &mut L,
+    user: &User,
+    request: &Request,
+    asked: &ReadRequest,
+    now: u64,
+) -> Event
+    requires ready { B.ready logs.old }
+    requires directory { service_of request.now ≡ service.Directory }
+    requires read { asked_of user.now request.now ≡ Ok asked.now }
+    requires moment { now < 253402207200 }
+    ensures came { Came L.Loader (B.operator_of logs.old)
+        (λ log n. B.left log n logs.old logs.new) (λ log. B.rises log logs.old logs.new)
+        (B.views logs.old) (B.views logs.new)
+        (record { user = user.now; request = request.now }) loader.old loader.new result }
+    ensures tie { B.tied (log_asked (record { user = user.now; request = request.now }))
+        logs.old logs.new }
+    ensures moment { result.moment ≡ now }
+{
+    match tree_asked(alloc, asked) {
+        Ok((owner, locations)) => {
+            ask_owner(
+                alloc, logs, loader, &owner, locations, user, request, asked, now,
+            )
+        }
         Err(_) => bare(alloc, logs.random(), Reply::OutOfMemory, 0, now),
     }
 }
@@ -60,11 +96,13 @@ fn ask_owner<B: Logs, L: Loader>(
     locations: Items<Location>,
     user: &User,
     request: &Request,
+    asked: &ReadRequest,
     now: u64,
 ) -> Event
     requires ready { B.ready logs.old }
     requires directory { service_of request.now ≡ service.Directory }
     requires to { route_of user.now request.now ≡ route.Tree owner.now locations }
+    requires read { asked_of user.now request.now ≡ Ok asked.now }
     requires moment { now < 253402207200 }
     ensures came { Came L.Loader (B.operator_of logs.old)
         (λ log n. B.left log n logs.old logs.new) (λ log. B.rises log logs.old logs.new)
@@ -77,7 +115,9 @@ fn ask_owner<B: Logs, L: Loader>(
         drop(locations);
         return bare(alloc, logs.random(), Reply::WrongHost, 0, now);
     }
-    match ask_there(alloc, logs, loader, owner, locations, user, request, now) {
+    match ask_there(
+        alloc, logs, loader, owner, locations, user, request, asked, now,
+    ) {
         Ok(event) => event,
         Err(_) => bare(alloc, logs.random(), Reply::OutOfMemory, 0, now),
     }
@@ -92,10 +132,12 @@ fn ask_there<B: Logs, L: Loader>(
     locations: Items<Location>,
     user: &User,
     request: &Request,
+    asked: &ReadRequest,
     now: u64,
 ) -> Result<Event, AllocError>
     requires ready { B.ready logs.old }
     requires there { is_some ((B.views logs.old).tree owner.now) ≡ true }
+    requires read { asked_of user.now request.now ≡ Ok asked.now }
     requires moment { now < 253402207200 }
     ensures served { IfOk result (TreeServed L.Loader (B.operator_of logs.old)
         (λ log. B.rises log logs.old logs.new) (B.views logs.old) (B.views logs.new) owner.now
@@ -108,7 +150,9 @@ fn ask_there<B: Logs, L: Loader>(
     ensures tried { IsTried L.Loader loader.old loader.new }
 {
     let fetched = gather_blocks(alloc, logs, loader, locations)?;
-    ask_loaded(alloc, logs, loader, owner, user, request, fetched, now)
+    ask_loaded(
+        alloc, logs, loader, owner, user, request, asked, fetched, now,
+    )
 }
 
 // The same with what was fetched: a turn of the tree, and a round of loads for what it misses, until it answers.
@@ -119,11 +163,13 @@ fn ask_loaded<B: Logs, L: Loader>(
     owner: &User,
     user: &User,
     request: &Request,
+    asked: &ReadRequest,
     fetched: Fetched,
     now: u64,
 ) -> Result<Event, AllocError>
     requires ready { B.ready logs.old }
     requires there { is_some ((B.views logs.old).tree owner.now) ≡ true }
+    requires read { asked_of user.now request.now ≡ Ok asked.now }
     requires moment { now < 253402207200 }
     ensures answered { IfOk result (TreeAnswered L.Loader (B.operator_of logs.old)
         (B.rises (LogName.OfTree owner.now) logs.old logs.new)
@@ -138,7 +184,7 @@ fn ask_loaded<B: Logs, L: Loader>(
 {
     let mut loaded = Loaded::new(alloc, logs.random());
     loop {
-        match logs.ask_tree(alloc, owner, user, request, &loaded, &fetched, now) {
+        match logs.ask_tree(alloc, owner, user, request, asked, &loaded, &fetched, now) {
             Turn::Said(reply, position) => {
                 let _names = loaded.len();
                 return Ok(Event {

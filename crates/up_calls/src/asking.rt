@@ -17,9 +17,9 @@ use up_names::User;
 use up_peer::Loader;
 use up_wire::{Reply, Request};
 
-/// Answers the request of a user, at a moment in seconds since 1970, before the year 10000. Blocks are fetched first, outside every
-/// turn; then the tree takes a turn, in which it answers or says which groups are missing, and these are loaded outside of it, round
-/// by round. A malformed request takes no turn.
+/// Answers the request of a user, at a moment in seconds since 1970, before the year 10000. Its texts are read once, before any turn, and
+/// a malformed request takes none. Blocks are fetched first, outside every turn; then the tree takes a turn, in which it answers or says
+/// which groups are missing, and these are loaded outside of it, round by round.
 pub fn ask<B: Logs, L: Loader>(
     alloc: Global,
     logs: &mut B,

@@ -8,7 +8,7 @@ ghost use Rattle.up_policy.specs.Loadings.{answer_for};
 
 use crate::logs::Logs;
 use std::alloc::{AllocError, Global};
-use up_changes::log_owner;
+use up_edits::log_owner;
 use up_names::Path;
 use up_peer::Loader;
 use up_policy::{LoadAnswer, Loaded, Names};

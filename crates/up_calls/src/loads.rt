@@ -3,7 +3,7 @@ ghost use Rattle.std.specs.Prelude.{◌≡◌, ◌≢◌, IfOk};
 ghost use Rattle.up_calls.specs.Loads.{group_text_answer, load_of};
 ghost use Rattle.up_group.specs.GroupTexts.{group_of};
 ghost use Rattle.up_peer.specs.Loading.{text_answer};
-ghost use Rattle.up_replay.specs.Rights.{is_group};
+ghost use Rattle.up_log_tree.specs.Rights.{is_group};
 ghost use Rattle.up_tree.specs.States.{log_of};
 
 use std::alloc::{AllocError, Global};

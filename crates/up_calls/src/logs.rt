@@ -9,12 +9,14 @@ ghost use Rattle.up_calls.specs.Told.{LogTold, TreeTold, answered_at};
 ghost use Rattle.up_calls.specs.Views.{Later, Views};
 ghost use Rattle.up_calls.specs.declared.service.Service.TheVariants as service;
 ghost use Rattle.up_entry.specs.declared.fetch.Fetch.TheVariants as fetches;
+ghost use Rattle.up_list.specs.Asking.{asked_of};
 ghost use Rattle.up_names.specs.Texts.{UserName};
 
 use std::alloc::{AllocError, Global};
 use std::hash::RandomState;
 use up_dir::Fetched;
 use up_entry::Fetch;
+use up_list::ReadRequest;
 use up_names::{Path, User};
 use up_policy::{LoadAnswer, Loaded, Names};
 use up_refs::Reference;
@@ -79,19 +81,22 @@ pub trait Logs {
         ensures failed { result ≡ Ok fetches.Failed → rises LogName.OfStore self.old self.new }
         ensures tie { tied None self.old self.new };
 
-    /// One turn of the tree of an owner: which groups are missing for a request, or else the reply to it.
+    /// One turn of the tree of an owner: which groups are missing for a request, or else the reply to it. The request's texts were read
+    /// before, to `asked`.
     fn ask_tree(
         &mut self,
         alloc: Global,
         owner: &User,
         user: &User,
         request: &Request,
+        asked: &ReadRequest,
         loaded: &Loaded,
         fetched: &Fetched,
         now: u64,
     ) -> Turn
         requires ready { ready self.old }
         requires there { is_some ((views self.old).tree owner.now) ≡ true }
+        requires read { asked_of user.now request.now ≡ Ok asked.now }
         requires moment { now < 253402207200 }
         ensures told { TreeTold (rises (LogName.OfTree owner.now) self.old self.new)
             (views self.old) (views self.new) owner.now

@@ -1,5 +1,5 @@
 //! What is done in one turn of one log, over its state.
-ghost use Rattle.std.specs.Prelude.{◌≡◌, ◌==◌, ◌||◌, ◌<◌, None, IfOk, length};
+ghost use Rattle.std.specs.Prelude.{◌≡◌, ◌==◌, ◌||◌, ◌<◌, None, Ok, IfOk, length};
 ghost use Rattle.std.specs.Result.{result_ok};
 ghost use Rattle.up_blocks.specs.Blocks as of_blocks;
 ghost use Rattle.up_calls.specs.Loads.{group_text_answer, load_of};
@@ -10,6 +10,7 @@ ghost use Rattle.up_calls.specs.Steps.{BlockRead, FetchedAs, KeysTried, StoreRea
 ghost use Rattle.up_calls.specs.declared.service.Service.TheVariants as service;
 ghost use Rattle.up_ends.specs.Growing.{OnlyGrows};
 ghost use Rattle.up_keys.specs.Keys as of_keys;
+ghost use Rattle.up_list.specs.Asking.{asked_of};
 ghost use Rattle.up_tree.specs.States.{entries_of, fixed_of, log_of};
 
 use crate::gathering::BOUND;
@@ -19,10 +20,11 @@ use std::alloc::{AllocError, Global};
 use std::hash::RandomState;
 use up_blocks::{BlockWhy, Blocks};
 use up_bytes::Bytes;
-use up_dir::{Fetched, foreign, step};
+use up_dir::{Fetched, foreign_asked, step_asked};
 use up_disk::Disk;
 use up_entry::Fetch;
 use up_keys::{Keys, key_step};
+use up_list::ReadRequest;
 use up_names::{Path, User};
 use up_policy::{LoadAnswer, Loaded, Names};
 use up_refs::Reference;
@@ -30,23 +32,26 @@ use up_store::store_step;
 use up_tree::TreeState;
 use up_wire::{Reply, Request};
 
-/// One turn of a tree: which groups are missing for a request, or else the reply. A reply that tells of want of memory is none.
+/// One turn of a tree: which groups are missing for a request, or else the reply. A reply that tells of want of memory is none. The
+/// request's texts were read before, to `asked`.
 pub fn try_tree<D: Disk>(
     alloc: Global,
     state: &mut TreeState<D>,
     user: &User,
     request: &Request,
+    asked: &ReadRequest,
     loaded: &Loaded,
     fetched: &Fetched,
     now: u64,
 ) -> Turn
+    requires read { asked_of user.now request.now ≡ Ok asked.now }
     requires moment { now < 253402207200 }
     ensures tried { Tried D.Disk (record { user = user.now; request = request.now })
         loaded.now fetched.now now state.old state.new result }
     ensures grows { OnlyGrows entries_of
         (λ state. D.faults state.disk) fixed_of state.old state.new }
 {
-    let Ok(missing) = foreign(alloc, state, user, request, loaded) else {
+    let Ok(missing) = foreign_asked(alloc, state, user, asked, loaded) else {
         return Turn::Wanting;
     };
     if !is_enough(&missing, loaded) {
@@ -54,7 +59,7 @@ pub fn try_tree<D: Disk>(
     }
     drop(missing);
     let position = state.position();
-    let reply = step(alloc, state, user, request, loaded, fetched, now);
+    let reply = step_asked(alloc, state, user, asked, loaded, fetched, now);
     said_at(reply, position)
 }
 

@@ -14,7 +14,7 @@ answer_of run = record { text = run.text; status = run.status }
 abbrev pub is_can : List Text → Bool
 is_can words = pointwise bytes_eq words (codes "can" ∷ [])
 
--- what it prints and answers for its words and its input, where nothing fails and memory is there
+-- what `upspin can` prints and answers for its words and its input, where nothing fails and memory is there
 abbrev pub can_answer : List Text → Text → Answer
 can_answer words input =
     if not (is_can words) then record { text = usage_line; status = 64 }

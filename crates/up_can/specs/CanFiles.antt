@@ -18,15 +18,15 @@ use Rattle.up_can.specs.declared.can_files.CanFiles.{CanFiles}
 abbrev pub bare_tree : UserName → CanFiles
 bare_tree owner = record { tree = record { owner = owner; access = []; groups = [] }; loaded = [] }
 
--- with the Access text of a directory, which takes the place of the one before
+-- the files, with the Access text of a directory, which takes the place of the one before
 abbrev pub with_access : Files → PathName → List Rule → Files
 with_access files dir rules = record files { access = insert_entry path_eq files.access dir rules }
 
--- with the Group text at a path of the owner, which takes the place of the one before
+-- the files, with the Group text at a path of the owner, which takes the place of the one before
 abbrev pub with_group : Files → PathName → List Item → Files
 with_group files path items = record files { groups = insert_entry path_eq files.groups path items }
 
--- with the text of a group of any owner: another owner's is a loaded text
+-- the files, with the text of a group of any owner: another owner's is a loaded text
 abbrev pub with_text : CanFiles → PathName → List Item → CanFiles
 with_text files path items =
     if bytes_eq path.owner files.tree.owner then record files { tree = with_group files.tree path items }

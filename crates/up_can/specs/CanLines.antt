@@ -70,7 +70,7 @@ unfoldable pub access_dir : Files → PathName → Option PathName
 access_dir files path =
     if bytes_eq path.owner files.owner && is_access path then Some (cut (length path.elements - 1) path) else None
 
--- with the Access text of a directory that a word stands for
+-- the files, with the Access text of a directory that a word stands for
 abbrev pub access_set : CanFiles → PathName → Text → Option CanFiles
 access_set files dir text_word = do
   text ← decoded text_word
@@ -93,7 +93,7 @@ access_line files (a ∷ b ∷ c ∷ more) = None
 abbrev pub is_group : PathName → Bool
 is_group path = elim (control_of path) [ control.Ordinary ↦ false | control.Access ↦ false | control.Group ↦ true ]
 
--- with the text that a word stands for, at a Group path of any owner, whose short names are that owner's
+-- the files, with the text that a word stands for at a Group path of any owner, whose short names are that owner's
 abbrev pub group_set : CanFiles → PathName → Text → Option CanFiles
 group_set files path text_word = do
   text ← decoded text_word
@@ -143,7 +143,7 @@ files_effect kinds.Access files arguments = named (access_line files arguments)
 files_effect kinds.Group files arguments = named (group_line files arguments)
 files_effect kinds.Can files arguments = asked files (can_line files arguments)
 
--- and before it is named
+-- what a line of a kind does before the tree is named
 unfoldable pub first_effect : CanKind → List Text → Option Effect
 first_effect kinds.Tree arguments = named (tree_line arguments)
 first_effect kinds.Access arguments = None

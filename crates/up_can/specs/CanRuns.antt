@@ -5,6 +5,7 @@ use Rattle.up_text.specs.Lines.{script_lines}
 use Rattle.up_command.specs.Printed.{bad_line}
 use Rattle.up_can.specs.CanLines.{Tree, effect_of}
 
+-- what a run prints, its status, and the tree that it leaves
 pub record Run : Type 0 where
   pub text : Text
   pub status : ℕ

@@ -1,7 +1,7 @@
 //! `upspin can`: a script in, verdicts out.
 ghost use Rattle.std.specs.Prelude.{◌≡◌, None, ◌+◌, ◌-◌, ◌<◌, ◌≤◌, ◌^◌, ◌∷◌, [], ◌==◌, map, false, OnOk, IfSome, IfOk, IsErrOf, string_bytes};
 ghost use Rattle.std.specs.Io.KnownBytes.{Appends, IsAtEnd};
-ghost use Rattle.up_lists.specs.Counts.{Rose};
+ghost use Rattle.up_lists.specs.Counts.{Rose, StaysUnless};
 ghost use Rattle.up_ends.specs.Writing.{WritesPart};
 ghost use Rattle.up_can.specs.CanAnswers.{answer_of, can_answer, is_can};
 ghost use Rattle.up_can.specs.CanRuns.{run_of};
@@ -47,7 +47,9 @@ pub fn can_run<S: Source, K: Sink>(
     ensures unread { result ≡ 2 → K.held sink.new ≡ K.held sink.old }
     ensures unwritten { result ≡ 7 → K.held sink.new ≡ K.held sink.old }
     ensures source_counts { S.faults source.old ≤ S.faults source.new }
+    ensures source_quiet { StaysUnless (S.faults source.old) (S.faults source.new) (result ≡ 2) }
     ensures sink_counts { K.faults sink.old ≤ K.faults sink.new }
+    ensures sink_quiet { StaysUnless (K.faults sink.old) (K.faults sink.new) (result ≡ 3) }
 
     // And what is left of them, also where they tell nothing.
     ensures at_end { IsOneOf (0 ∷ 1 ∷ []) result → IsAtEnd (S.left source.new) }
@@ -80,6 +82,7 @@ fn run_script<K: Sink>(alloc: Global, random: RandomState, input: &[u8], sink: &
     ensures status { IsOneOf (0 ∷ 1 ∷ 3 ∷ 4 ∷ []) (code_of result) }
     ensures cause { code_of result ≡ 3 → Rose (K.faults sink.old) (K.faults sink.new) }
     ensures later { K.faults sink.old ≤ K.faults sink.new }
+    ensures quiet { StaysUnless (K.faults sink.old) (K.faults sink.new) (code_of result ≡ 3) }
 {
     match run_lines(alloc, random, input, sink) {
         Ok(status) => status,
@@ -102,6 +105,8 @@ fn run_lines<K: Sink>(
     ensures part { WritesPart (K.held sink.old) (K.held sink.new) (run_of lines.now).text }
     ensures cause { IsErrOf result Stop.WriteFault → Rose (K.faults sink.old) (K.faults sink.new) }
     ensures later { K.faults sink.old ≤ K.faults sink.new }
+    ensures quiet { StaysUnless (K.faults sink.old) (K.faults sink.new)
+        (IsErrOf result Stop.WriteFault) }
 {
     let mut script = CanScript::new(alloc, random);
     let result = run_each(alloc, &mut script, lines, sink);
@@ -125,6 +130,8 @@ fn run_each<K: Sink>(
     ensures part { WritesPart (K.held sink.old) (K.held sink.new) (run_of lines.now).text }
     ensures cause { IsErrOf result Stop.WriteFault → Rose (K.faults sink.old) (K.faults sink.new) }
     ensures later { K.faults sink.old ≤ K.faults sink.new }
+    ensures quiet { StaysUnless (K.faults sink.old) (K.faults sink.new)
+        (IsErrOf result Stop.WriteFault) }
 {
     let mut gathered = Vec::new(alloc);
     let mut number: u64 = 1;

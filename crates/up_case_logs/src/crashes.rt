@@ -1,10 +1,9 @@
-//! A disk in memory, and a journal, a ledger, a store or a key server's log on it: calls that fail, crashes, and what is then opened. A line is a case of
+//! A disk in memory, and a journal, a store or a key server's log on it: calls that fail, crashes, and what is then opened. A line is a case of
 //! its own: commands on an empty disk, parted by `; `, and so are their answers.
 mod images;
 mod on_disk;
 mod on_journal;
 mod on_keys;
-mod on_ledger;
 mod on_store;
 mod others;
 mod replies;

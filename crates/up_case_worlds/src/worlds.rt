@@ -183,7 +183,7 @@ impl Pair {
 }
 
 // Whether a user has a right on a path of a tree with nothing loaded, and with this.
-#[tactic(auto, unfolding(up_replay::specs::Rights::facts_of))]
+#[tactic(auto, unfolding(up_log_tree::specs::Rights::facts_of))]
 fn held(
     alloc: Global,
     random: RandomState,

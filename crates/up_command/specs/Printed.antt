@@ -16,7 +16,7 @@ ended text = text ++ codes "\n"
 abbrev pub numbered : ℕ → Text → Text
 numbered number text = decimal number ++ codes " " ++ ended text
 
--- lines about a session
+-- lines of output about a session, each with the session's number
 abbrev pub all_numbered : ℕ → List Text → Text
 all_numbered number texts = flat_map (numbered number) texts
 

@@ -28,6 +28,7 @@ code_of Usage = 64
 abbrev pub input_limit : ℕ
 input_limit = 67108864
 
+-- the line that says how the program is called
 abbrev pub usage_line : Text
 usage_line = codes "usage: upspin can | script HELPER | storm SEED SESSIONS REQUESTS [--full] | serve OPTIONS\n"
 

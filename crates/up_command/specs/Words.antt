@@ -20,10 +20,11 @@ user_named word = do
   text ← decoded word
   result_ok (user_of text)
 
--- the public key that a word stands for: 1 to 1,024 bytes
+-- a public key has 1 to 1,024 bytes
 abbrev pub is_key : Text → Bool
 is_key key = nat_le 1 (length key) && nat_le (length key) 1024
 
+-- the public key that a word stands for
 unfoldable pub key_named : Text → Option Text
 key_named word = do
   key ← decoded word

@@ -1,7 +1,7 @@
 //! A script, read whole before anything of it is done.
 ghost use Rattle.std.specs.Prelude.{◌≡◌, ◌+◌, ◌-◌, ◌^◌, ◌<◌, ◌≤◌, ◌↔◌, ◌∷◌, [], length, vec_len, Err, IfErr, IfOk, IfSome, OnOk};
 ghost use Rattle.std.specs.Io.KnownBytes.{IsAtEnd};
-ghost use Rattle.up_lists.specs.Counts.{Rose};
+ghost use Rattle.up_lists.specs.Counts.{Rose, StaysUnless};
 ghost use Rattle.up_command.specs.Statuses.{IsOneOf, input_limit};
 
 use crate::status::Status;
@@ -24,6 +24,7 @@ pub fn read_script<S: Source>(alloc: Global, source: &mut S) -> Result<Vec<u8>, 
     ensures long { S.given source.old + input_limit < 2 ^ 64 - 1
         → (result ≡ Err 7 ↔ (S.given source.old + input_limit < S.given source.new)) }
     ensures counts { S.faults source.old ≤ S.faults source.new }
+    ensures quiet { StaysUnless (S.faults source.old) (S.faults source.new) (result ≡ Err 2) }
 {
     match read_all(alloc, source, INPUT_LIMIT) {
         Ok(input) => Ok(input),

@@ -1,7 +1,7 @@
 //! Output that is gathered and written in large pieces.
 ghost use Rattle.std.specs.Prelude.{◌≤◌, ◌++◌, OnOk, IsErrOf};
 ghost use Rattle.std.specs.Io.KnownBytes.{Appends};
-ghost use Rattle.up_lists.specs.Counts.{Rose};
+ghost use Rattle.up_lists.specs.Counts.{Rose, StaysUnless};
 ghost use Rattle.up_ends.specs.Writing.{Going, WritesPart};
 
 use std::alloc::AllocError;
@@ -47,6 +47,8 @@ pub fn print<K: Sink>(sink: &mut K, gathered: &mut Vec<u8>, text: &[u8]) -> Resu
     ensures part { WritesPart (K.held sink.old) (K.held sink.new) (gathered.old.items ++ text.now) }
     ensures cause { IsErrOf result Stop.WriteFault → Rose (K.faults sink.old) (K.faults sink.new) }
     ensures later { K.faults sink.old ≤ K.faults sink.new }
+    ensures quiet { StaysUnless (K.faults sink.old) (K.faults sink.new)
+        (IsErrOf result Stop.WriteFault) }
 {
     gathered.extend_from_slice(text)?;
     flush(sink, gathered)
@@ -59,6 +61,8 @@ pub fn flush<K: Sink>(sink: &mut K, gathered: &mut Vec<u8>) -> Result<(), Stop>
     ensures part { WritesPart (K.held sink.old) (K.held sink.new) gathered.old.items }
     ensures cause { IsErrOf result Stop.WriteFault → Rose (K.faults sink.old) (K.faults sink.new) }
     ensures later { K.faults sink.old ≤ K.faults sink.new }
+    ensures quiet { StaysUnless (K.faults sink.old) (K.faults sink.new)
+        (IsErrOf result Stop.WriteFault) }
 {
     if gathered.len() >= PIECE_SIZE {
         write_all(sink, gathered)?;
@@ -74,6 +78,8 @@ pub fn finish<K: Sink>(sink: &mut K, gathered: &mut Vec<u8>, last: &[u8]) -> Res
     ensures part { WritesPart (K.held sink.old) (K.held sink.new) (gathered.old.items ++ last.now) }
     ensures cause { IsErrOf result Stop.WriteFault → Rose (K.faults sink.old) (K.faults sink.new) }
     ensures later { K.faults sink.old ≤ K.faults sink.new }
+    ensures quiet { StaysUnless (K.faults sink.old) (K.faults sink.new)
+        (IsErrOf result Stop.WriteFault) }
 {
     gathered.extend_from_slice(last)?;
     write_all(sink, gathered)?;

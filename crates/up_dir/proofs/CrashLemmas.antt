@@ -9,7 +9,7 @@ use Rattle.up_journal.specs.Logs.{MayHaveLog, StandsForLog}
 use Rattle.up_journal.specs.declared.fault.AppendWhy.{AppendWhy}
 use Rattle.up_tree.specs.States.{Applies, State, records_in}
 use Rattle.up_wire.specs.declared.replies.Reply.{Reply}
-use Rattle.up_adding.specs.Steps.{IsApplied, Steps}
+use Rattle.up_commit.specs.Steps.{IsApplied, Steps}
 use Rattle.up_dir.specs.Crashes.{MayHave, Survives, image_log}
 
 -- no list is one longer than itself

@@ -6,16 +6,16 @@ use Rattle.up_entry.proofs.CheckedLemmas.{checked_kept}
 use Rattle.up_entry.specs.Checking.{checked_as, path_or, rule}
 use Rattle.up_entry.specs.declared.what.What.TheVariants as what
 use Rattle.up_policy.specs.Trees.{owns_snapshots}
-use Rattle.up_replay.specs.Rights.{is_group}
+use Rattle.up_log_tree.specs.Rights.{is_group}
 use Rattle.up_wire.specs.declared.requests.Request.{Request}
 use Rattle.up_wire.specs.declared.requests.Request.TheVariants as request
-use Rattle.up_list.specs.declared.asking.Asked.{Asked}
-use Rattle.up_list.specs.declared.asking.Asked.TheVariants.{Lookup, WhichAccess, GroupText, Delete, Put, Glob, Watch}
+use Rattle.up_list.specs.declared.asking.ReadRequest.{ReadRequest}
+use Rattle.up_list.specs.declared.asking.ReadRequest.TheVariants.{Lookup, WhichAccess, GroupText, Delete, Put, Glob, Watch}
 use Rattle.up_list.specs.Asking.{asked_of, pattern_or_fault}
 use Rattle.up_answers.proofs.AnswerLemmas.{asked_same, not_asked, step_ok}
 use Rattle.up_dir.specs.Forms.{IsFormed}
 
-pub formed : (user : List ℕ) (request' : Request) (asked : Asked) → asked_of user request' ≡ std.Ok asked → IsFormed asked
+pub formed : (user : List ℕ) (request' : Request) (asked : ReadRequest) → asked_of user request' ≡ std.Ok asked → IsFormed asked
 unfolding asked_of
 formed user (request.Lookup text) asked h = let a = step_ok (path_or what.Name text) _ asked h in subst IsFormed (asked_same (Lookup a.0) asked a.2) tt
 formed user (request.WhichAccess text) asked h = let a = step_ok (path_or what.Name text) _ asked h in subst IsFormed (asked_same (WhichAccess a.0) asked a.2) tt

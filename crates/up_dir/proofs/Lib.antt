@@ -1,4 +1,3 @@
 pub mod AskLemmas
 pub mod CrashLemmas
 pub mod FormLemmas
-pub mod ReadLemmas

@@ -25,6 +25,7 @@ abbrev pub EndsAtFirst : List ℕ → Run → Type 0
 EndsAtFirst [] run = run.status ≡ 0
 EndsAtFirst (number ∷ more) run = (run.status ≡ 1) × EndsWith run.text (bad_line number)
 
+-- the law of `upspin can`: each run ends with 1 at the first malformed line of its input, and with 0 where there is none
 abbrev pub CanEndsAtTheFirst : Type 0
 CanEndsAtTheFirst = (input : Text) → EndsAtFirst (bad_in_can input) (run_of input)
 

@@ -25,7 +25,8 @@ number_if number (Some next) = []
 -- or none where the line is malformed.
 unfoldable pub bad_from : {S : Type 0} → (S → Text → Option S) → ℕ → S → List Text → List ℕ
 bad_from step number here [] = []
-bad_from step number here (line ∷ lines) = number_if number (step here line) ++ bad_from step (number + 1) (stands here (step here line)) lines
+bad_from step number here (line ∷ lines) =
+    number_if number (step here line) ++ bad_from step (number + 1) (stands here (step here line)) lines
 
 -- ---- what is printed
 
@@ -40,7 +41,8 @@ explained number why = codes "line " ++ decimal number ++ codes ": " ++ ended wh
 -- A text explains the lines with these numbers, in order, and no others: for each it has its number and one line of words, which are free.
 pub data Explains : List ℕ → Text → Type 0 where
   nothing : Explains [] []
-  further : {number : ℕ} {numbers : List ℕ} {later : Text} (why : Text) → IsOneLine why → Explains numbers later → Explains (number ∷ numbers) (explained number why ++ later)
+  further : {number : ℕ} {numbers : List ℕ} {later : Text} (why : Text) → IsOneLine why
+      → Explains numbers later → Explains (number ∷ numbers) (explained number why ++ later)
 
 -- the status where lines with these numbers are malformed
 abbrev pub status_for : List ℕ → ℕ
@@ -54,11 +56,12 @@ pub record Explanation (numbers : List ℕ) (old new : Option Text) (status : �
   pub explains : Explains numbers text
   pub answers : AnswersWith old new (record { text = text; status = status_for numbers }) status
 
--- the same of an input, by whether it is too long: then it is not read
+-- what the explanation of an input means, by whether the input is too long, and then is not read
 abbrev pub InputMeans : {S : Type 0} → Bool → (S → Text → Option S) → S → Text → Option Text → Option Text → ℕ → Type 0
 InputMeans true step first input old new status = AnswersWith old new (record { text = []; status = 7 }) status
 InputMeans false step first input old new status = Explanation (bad_from step 1 first (script_lines input)) old new status
 
+-- what the explanation of an input means: it is too long above the limit of inputs
 abbrev pub ExplainsInput : {S : Type 0} → (S → Text → Option S) → S → Text → Option Text → Option Text → ℕ → Type 0
 ExplainsInput step first input old new status = InputMeans (nat_lt input_limit (length input)) step first input old new status
 

@@ -1,7 +1,7 @@
 //! A script is read whole, and each of its malformed lines is explained.
 ghost use Rattle.std.specs.Prelude.{◌≡◌, ◌+◌, ◌-◌, ◌<◌, ◌≤◌, ◌^◌, ◌∷◌, [], IfOk, IfSome, IsErrOf, OnOk};
 ghost use Rattle.std.specs.Io.KnownBytes.{IsAtEnd};
-ghost use Rattle.up_lists.specs.Counts.{Rose};
+ghost use Rattle.up_lists.specs.Counts.{Rose, StaysUnless};
 ghost use Rattle.up_command.specs.Statuses.{IsOneOf, code_of, input_limit};
 ghost use Rattle.up_explain_can.specs.Explaining.{Explanation, ExplainsInput, TellsWhy, Told, bad_from, code_behind, code_by};
 ghost use Rattle.up_text.specs.Lines.{script_lines};
@@ -35,7 +35,9 @@ pub fn explain_with<J: Judge, S: Source, K: Sink>(
     ensures too_long_always { S.given source.old + input_limit < 2 ^ 64 - 1
         → S.given source.old + input_limit < S.given source.new → result ≡ 7 }
     ensures source_counts { S.faults source.old ≤ S.faults source.new }
+    ensures source_quiet { StaysUnless (S.faults source.old) (S.faults source.new) (result ≡ 2) }
     ensures sink_counts { K.faults sink.old ≤ K.faults sink.new }
+    ensures sink_quiet { StaysUnless (K.faults sink.old) (K.faults sink.new) (result ≡ 3) }
     ensures at_end { IsOneOf (0 ∷ 1 ∷ []) result → IsAtEnd (S.left source.new) }
     ensures untouched { IsOneOf (2 ∷ 7 ∷ []) result → sink.new ≡ sink.old }
 {
@@ -57,6 +59,7 @@ fn explain_input<J: Judge, K: Sink>(
     ensures status { IsOneOf (0 ∷ 1 ∷ 3 ∷ 4 ∷ []) (code_of result) }
     ensures cause { code_of result ≡ 3 → Rose (K.faults sink.old) (K.faults sink.new) }
     ensures later { K.faults sink.old ≤ K.faults sink.new }
+    ensures quiet { StaysUnless (K.faults sink.old) (K.faults sink.new) (code_of result ≡ 3) }
 {
     match explain_lines(alloc, judge, input, sink) {
         Ok(status) => status,
@@ -77,6 +80,8 @@ fn explain_lines<J: Judge, K: Sink>(
     ensures status { IfOk result (λ status. IsOneOf (0 ∷ 1 ∷ []) (code_of status)) }
     ensures cause { IsErrOf result Stop.WriteFault → Rose (K.faults sink.old) (K.faults sink.new) }
     ensures later { K.faults sink.old ≤ K.faults sink.new }
+    ensures quiet { StaysUnless (K.faults sink.old) (K.faults sink.new)
+        (IsErrOf result Stop.WriteFault) }
 {
     let mut gathered = Vec::new(alloc);
     let mut status = Status::Done;

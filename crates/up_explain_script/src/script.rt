@@ -1,7 +1,7 @@
 //! The malformed lines of a script of `upspin script`.
 ghost use Rattle.std.specs.Prelude.{◌≡◌, ◌+◌, ◌-◌, ◌<◌, ◌≤◌, ◌^◌, ◌∷◌, [], IfSome};
 ghost use Rattle.std.specs.Io.KnownBytes.{IsAtEnd};
-ghost use Rattle.up_lists.specs.Counts.{Rose};
+ghost use Rattle.up_lists.specs.Counts.{Rose, StaysUnless};
 ghost use Rattle.up_command.specs.Statuses.{IsOneOf, input_limit};
 ghost use Rattle.up_explain_can.specs.Explaining.{ExplainsInput};
 ghost use Rattle.up_explain_script.specs.ScriptNumbers.{line_behind};
@@ -24,7 +24,9 @@ pub fn explain_script<S: Source, K: Sink>(alloc: Global, source: &mut S, sink: &
     ensures too_long_always { S.given source.old + input_limit < 2 ^ 64 - 1
         → S.given source.old + input_limit < S.given source.new → result ≡ 7 }
     ensures source_counts { S.faults source.old ≤ S.faults source.new }
+    ensures source_quiet { StaysUnless (S.faults source.old) (S.faults source.new) (result ≡ 2) }
     ensures sink_counts { K.faults sink.old ≤ K.faults sink.new }
+    ensures sink_quiet { StaysUnless (K.faults sink.old) (K.faults sink.new) (result ≡ 3) }
     ensures at_end { IsOneOf (0 ∷ 1 ∷ []) result → IsAtEnd (S.left source.new) }
     ensures untouched { IsOneOf (2 ∷ 7 ∷ []) result → sink.new ≡ sink.old }
 {

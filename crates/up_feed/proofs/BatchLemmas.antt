@@ -5,7 +5,7 @@ use Rattle.std.proofs.lemmas.List.{length-drop, take_min}
 use Rattle.up_entry.specs.Spelling as spelling
 use Rattle.up_entry.specs.declared.records.Rec.{Rec}
 use Rattle.up_feed.specs.Feeding.{batch_in, texts_of}
-use Rattle.up_replay.specs.Changes.{record_at}
+use Rattle.up_log_tree.specs.Changes.{record_at}
 use Rattle.up_shared.proofs.Pairs.{length_map, some_none, some_same}
 
 -- the next item is the next of those that are taken

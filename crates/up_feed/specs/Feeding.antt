@@ -38,7 +38,7 @@ pub record ReadsBatch {D : Type 0} (from : ℕ) (old new : State D) (given : Opt
   pub stays : new ≡ old
   pub batch : IfSome given (λ batch. batch ≡ batch_in from old.log)
 
--- the owner that is there; where none is, no owner's text
+-- the name of an owner that is there; where none is, the empty text
 abbrev pub owner_by : Option UserName → UserName
 owner_by (Some owner) = owner
 owner_by None = []
@@ -74,6 +74,7 @@ module _ {D : Type 0} where
 abbrev pub Leader : Type 0 → Type 0
 Leader D = HostTogether D (Unit {0})
 
+-- this shared host, with these seats
 abbrev pub leader_with : {D : Type 0} → Shared D → Seats D → Leader D
 leader_with shared seats = host_together shared seats tt
 
@@ -114,5 +115,7 @@ leader_among verifiers drawn = record {
   challenges = drawn.coming;
 }
 
+-- this shared host with these seats, and what a connection has around it: no clock
 abbrev pub leader_at : {D V N : Type 0} → Shared D → Seats D → V → N → Around (Leader D) V Timeless N
-leader_at shared seats verifier nonces = record { answerer = leader_with shared seats; verifier = verifier; clock = record {}; nonces = nonces }
+leader_at shared seats verifier nonces =
+    record { answerer = leader_with shared seats; verifier = verifier; clock = record {}; nonces = nonces }

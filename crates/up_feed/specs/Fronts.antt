@@ -25,20 +25,22 @@ IsOver log ask replies.OutOfMemory = ⊤
 -- Each reply is over the first so many records of a log; these numbers never fall, and the first is at least this one.
 abbrev pub AreOver : List Rec → ℕ → List FeedAsk → List FeedReply → Type 0
 AreOver log least [] [] = ⊤
-AreOver log least (ask ∷ asks) (reply ∷ replies) = (n : ℕ) × ((least ≤ n) × (n ≤ length log) × IsOver (take n log) ask reply × AreOver log n asks replies)
+AreOver log least (ask ∷ asks) (reply ∷ replies) =
+    (n : ℕ) × ((least ≤ n) × (n ≤ length log) × IsOver (take n log) ask reply × AreOver log n asks replies)
 AreOver log least [] (reply ∷ replies) = ⊥
 AreOver log least (ask ∷ asks) [] = ⊥
 
--- By the seats of a user's tree before and after: the replies are over what was seen after, and none over less than what had been seen before.
--- Where there is no such tree, each reply says so.
+-- By the seats of a user's tree before and after: the replies are over what was seen after, and none over less than what had been seen
+-- before. Where there is no such tree, each reply says so.
 abbrev pub AreFed : {D : Type 0} → Option (TreeSeat D) → Option (TreeSeat D) → List FeedAsk → List FeedReply → Type 0
 AreFed (Some v) (Some w) asks answers = AreOver w.seat.seen (length v.seat.seen) asks answers
 AreFed None None asks answers = AllByRecursion (λ reply. reply ≡ replies.NoTree) answers
 AreFed (Some v) None asks answers = ⊥
 AreFed None (Some w) asks answers = ⊥
 
--- So it is with all that a user is answered on one connection, one question after the other.
+-- the law of a feed: all that a user is answered on one connection, one question after the other, is over a log that never gets shorter
 abbrev pub FeedsNeverFall : (D : Type 0) → {V N : Type 0} → verifier.Ghosts V → nonces.Ghosts N → Type 0
 FeedsNeverFall D {V} {N} verifiers drawn =
-    (user : UserName) (a b : Around (Leader D) V Timeless N) (asks : List FeedAsk) (answers : List FeedReply) → Run (Answered (leader_among verifiers drawn) user) a asks answers b
+    (user : UserName) (a b : Around (Leader D) V Timeless N) (asks : List FeedAsk) (answers : List FeedReply)
+    → Run (Answered (leader_among verifiers drawn) user) a asks answers b
     → AreFed (seat_for a.answerer.seats.trees.items user) (seat_for b.answerer.seats.trees.items user) asks answers

@@ -22,7 +22,7 @@ use Rattle.up_journal.specs.Records.{records_of}
 use Rattle.up_lists.proofs.BeginsLemmas.{Begins-nil}
 use Rattle.up_lists.specs.Begins.{Begins}
 use Rattle.up_names.specs.Texts.{UserName}
-use Rattle.up_replay.specs.Fits.{fits}
+use Rattle.up_log_tree.specs.Fits.{fits}
 use Rattle.up_tree.specs.States.{State, record_in}
 
 module _ {D : Type 0} (disks : Ghosts D) where

@@ -1,7 +1,7 @@
 -- A reply of what only looks is no position.
 use Rattle.std.proofs.Common.{◌≡◌, ℕ, Bool, true, false, not, List, [], length, refl, Option, Some, None, unwrap_or}
 use Rattle.std.specs.Prelude.{if◌then◌else◌, ℤ, pos, negsuc, zero, suc, int_le, nat_lt, filter}
-use Rattle.up_adding.specs.Steps.{is_changed}
+use Rattle.up_commit.specs.Steps.{is_changed}
 use Rattle.up_answers.specs.Events.{events}
 use Rattle.up_answers.specs.Watches.{batch, is_watched, watch_reply, watched}
 use Rattle.up_entry.specs.declared.entries.Entry.{Entry}
@@ -14,8 +14,8 @@ use Rattle.up_list.specs.Reads.{access_reply, entry_reply, file_text, group_text
 use Rattle.up_names.specs.PathNames.{PathName}
 use Rattle.up_pattern.specs.Patterns.{PatternName}
 use Rattle.up_policy.specs.Loadings.{Loading}
-use Rattle.up_replay.specs.Logs.{Log}
-use Rattle.up_replay.specs.Trees.{is_file, node_at}
+use Rattle.up_log_tree.specs.Logs.{Log}
+use Rattle.up_log_tree.specs.Trees.{is_file, node_at}
 use Rattle.up_rights.specs.RightSets.{has_right}
 use Rattle.up_rights.specs.declared.Right.{Right}
 use Rattle.up_rights.specs.declared.Right.TheVariants as right

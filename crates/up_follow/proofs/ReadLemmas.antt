@@ -4,7 +4,7 @@ use Rattle.std.specs.Prelude.{if◌then◌else◌, nat_lt, int_le, negsuc}
 use Rattle.std.specs.Prelude as std
 use Rattle.std.specs.Str.{bytes_eq}
 use Rattle.std.proofs.lemmas.Bool.{false≢true}
-use Rattle.up_adding.specs.Steps.{IsApplied, IsTold, Steps, is_changed}
+use Rattle.up_commit.specs.Steps.{IsApplied, IsTold, Steps, is_changed}
 use Rattle.up_answers.proofs.AnswerLemmas.{asked_same, not_asked, step_ok}
 use Rattle.up_answers.specs.Answers.{added, answer, asked_outcome, fault_reply, log_owner, outcome, tree_outcome}
 use Rattle.up_answers.specs.Fetching.{Fetched}
@@ -21,12 +21,12 @@ use Rattle.up_list.specs.Changes.{added_by, answer_of}
 use Rattle.up_list.specs.Looks.{look_now}
 use Rattle.up_answers.specs.SnapshotTrees.{snapshot_look}
 use Rattle.up_follow.proofs.QuietLemmas.{access_quiet, glob_quiet, lookup_quiet, tells_position, text_quiet, watch_quiet}
-use Rattle.up_list.specs.declared.asking.Asked.{Asked}
-use Rattle.up_list.specs.declared.asking.Asked.TheVariants.{Lookup, WhichAccess, GroupText, Delete, Put, Glob, Watch}
+use Rattle.up_list.specs.declared.asking.ReadRequest.{ReadRequest}
+use Rattle.up_list.specs.declared.asking.ReadRequest.TheVariants.{Lookup, WhichAccess, GroupText, Delete, Put, Glob, Watch}
 use Rattle.up_policy.specs.Loadings.{Loading}
 use Rattle.up_policy.specs.Trees.{owns_snapshots}
-use Rattle.up_replay.specs.Logs.{Log}
-use Rattle.up_replay.specs.Rights.{is_group}
+use Rattle.up_log_tree.specs.Logs.{Log}
+use Rattle.up_log_tree.specs.Rights.{is_group}
 use Rattle.up_tree.specs.States.{State, log_of}
 use Rattle.up_wire.specs.Bounds.{bounded, reply_size}
 use Rattle.up_wire.specs.declared.replies.Done.TheVariants as done
@@ -37,7 +37,7 @@ use Rattle.up_wire.specs.declared.requests.Request.TheVariants as request
 
 -- ---- what only looks
 
-abbrev is_look : Asked → Bool
+abbrev is_look : ReadRequest → Bool
 is_look (Lookup path) = true
 is_look (WhichAccess path) = true
 is_look (GroupText path) = true
@@ -46,10 +46,10 @@ is_look (Watch path sequence) = true
 is_look (Delete path) = false
 is_look (Put put) = false
 
-abbrev Looks : Asked → Type 0
+abbrev Looks : ReadRequest → Type 0
 Looks asked = is_look asked ≡ true
 
-look_read : (user : List ℕ) (request' : Request) (asked : Asked) → is_read request' ≡ true → asked_of user request' ≡ std.Ok asked → Looks asked
+look_read : (user : List ℕ) (request' : Request) (asked : ReadRequest) → is_read request' ≡ true → asked_of user request' ≡ std.Ok asked → Looks asked
 unfolding asked_of
 look_read user (request.Lookup text) asked read h = let a = step_ok (path_or what.Name text) _ asked h in subst Looks (asked_same (Lookup a.0) asked a.2) refl
 look_read user (request.WhichAccess text) asked read h = let a = step_ok (path_or what.Name text) _ asked h in subst Looks (asked_same (WhichAccess a.0) asked a.2) refl
@@ -79,7 +79,7 @@ IsQuiet (Ok rec) = ⊥
 IsQuiet (Err given) = tells_position given ≡ false
 
 module _ (log : Log) (loaded : Loading) (fetched : Fetched) (user : List ℕ) (now : ℕ) where
-  look_tree : (asked : Asked) → Looks asked → IsQuiet (tree_outcome log loaded fetched user asked)
+  look_tree : (asked : ReadRequest) → Looks asked → IsQuiet (tree_outcome log loaded fetched user asked)
   unfolding tree_outcome
   look_tree (Lookup path) looks = lookup_quiet (look_now log loaded user) path
   look_tree (WhichAccess path) looks = access_quiet (look_now log loaded user) path
@@ -89,7 +89,7 @@ module _ (log : Log) (loaded : Loading) (fetched : Fetched) (user : List ℕ) (n
   look_tree (Delete path) looks = absurd (false≢true looks)
   look_tree (Put put) looks = absurd (false≢true looks)
 
-  look_snapshots : (asked : Asked) → Looks asked → IsQuiet (snapshot_outcome log user asked now)
+  look_snapshots : (asked : ReadRequest) → Looks asked → IsQuiet (snapshot_outcome log user asked now)
   unfolding snapshot_outcome
   look_snapshots (Lookup path) looks = lookup_quiet (snapshot_look log user) path
   look_snapshots (WhichAccess path) looks = access_quiet (snapshot_look log user) path
@@ -99,7 +99,7 @@ module _ (log : Log) (loaded : Loading) (fetched : Fetched) (user : List ℕ) (n
   look_snapshots (Delete path) looks = absurd (false≢true looks)
   look_snapshots (Put put) looks = absurd (false≢true looks)
 
-  look_asked : (asked : Asked) → Looks asked → IsQuiet (asked_outcome log loaded fetched user asked now)
+  look_asked : (asked : ReadRequest) → Looks asked → IsQuiet (asked_outcome log loaded fetched user asked now)
   unfolding asked_outcome
   look_asked asked looks = go (bytes_eq (owner_asked asked) log.owner) (bytes_eq (log_owner (owner_asked asked)) log.owner)
     where
@@ -108,7 +108,7 @@ module _ (log : Log) (loaded : Loading) (fetched : Fetched) (user : List ℕ) (n
       go false true = look_snapshots asked looks
       go false false = refl
 
-  abbrev led : Result Asked EntryFault → Result Rec Reply
+  abbrev led : Result ReadRequest EntryFault → Result Rec Reply
   led (Ok asked) = asked_outcome log loaded fetched user asked now
   led (Err fault) = Err (fault_reply fault)
 
@@ -120,7 +120,7 @@ module _ (log : Log) (loaded : Loading) (fetched : Fetched) (user : List ℕ) (n
   unfolding outcome
   look_outcome request' read = go (asked_of user request') refl
     where
-      go : (r : Result Asked EntryFault) → asked_of user request' ≡ r → IsQuiet (led r)
+      go : (r : Result ReadRequest EntryFault) → asked_of user request' ≡ r → IsQuiet (led r)
       go (Ok asked) is = look_asked asked (look_read user request' asked read is)
       go (Err fault) is = fault_quiet fault
 

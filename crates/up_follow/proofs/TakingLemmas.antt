@@ -22,8 +22,8 @@ use Rattle.up_journal.specs.Records.{records_of}
 use Rattle.up_journal.specs.declared.fault.AppendWhy.{AppendWhy}
 use Rattle.up_journal.specs.declared.fault.AppendWhy.TheVariants as append
 use Rattle.up_journal.specs.declared.limits.Limits.{Limits}
-use Rattle.up_replay.specs.Fits.{fits}
-use Rattle.up_replay.specs.Sizes.{size_of, sizes_of}
+use Rattle.up_log_tree.specs.Fits.{fits}
+use Rattle.up_log_tree.specs.Sizes.{size_of, sizes_of}
 use Rattle.up_follow.specs.Whys.{why_of_append}
 use Rattle.up_ends.specs.Growing.{OnlyGrows}
 use Rattle.up_lists.proofs.BeginsLemmas.{Begins-self, Begins-trans}

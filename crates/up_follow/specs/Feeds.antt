@@ -5,7 +5,7 @@ use Rattle.up_journal.specs.Logs.{EachFits}
 use Rattle.up_journal.specs.Records.{records_of}
 use Rattle.up_lists.specs.Begins.{Begins}
 use Rattle.up_names.specs.Texts.{UserName}
-use Rattle.up_replay.specs.Fits.{fits}
+use Rattle.up_log_tree.specs.Fits.{fits}
 use Rattle.up_tree.specs.States.{record_in}
 
 -- how many records a feed gives at once, at most

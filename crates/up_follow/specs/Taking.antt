@@ -8,8 +8,8 @@ use Rattle.up_journal.specs.Journal.{is_full}
 use Rattle.up_journal.specs.declared.fault.AppendWhy.TheVariants as append
 use Rattle.up_journal.specs.declared.limits.Limits.{Limits}
 use Rattle.up_names.specs.Texts.{UserName}
-use Rattle.up_replay.specs.Fits.{fits}
-use Rattle.up_replay.specs.Sizes.{size_of, sizes_of}
+use Rattle.up_log_tree.specs.Fits.{fits}
+use Rattle.up_log_tree.specs.Sizes.{size_of, sizes_of}
 use Rattle.up_tree.specs.States.{Applies, State, record_in}
 
 -- the record, where it fits behind a log

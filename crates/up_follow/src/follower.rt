@@ -1,6 +1,6 @@
 //! A follower.
 ghost use Rattle.std.specs.Prelude.{◌≡◌, ◌≢◌, ◌↔◌, [], ℕ, Err, IfErr, IfOk, IfSome, false, true, is_some};
-ghost use Rattle.up_adding.specs.Steps.{IsTold};
+ghost use Rattle.up_commit.specs.Steps.{IsTold};
 ghost use Rattle.up_answers.specs.Answers.{answer};
 ghost use Rattle.up_dir.specs.Crashes.{image_log};
 ghost use Rattle.up_disk.specs.Leaving.{LeavesNow};

@@ -9,7 +9,7 @@ ghost use Rattle.up_follow.specs.Taking.{TakesRecord, TakesText};
 ghost use Rattle.up_follow.specs.declared.fault.FollowWhy.TheVariants as why;
 ghost use Rattle.up_journal.specs.Logs.{StandsForLog};
 ghost use Rattle.up_lists.specs.Counts.{HasCause, StaysUnless};
-ghost use Rattle.up_replay.specs.Fits.{Fits, fits};
+ghost use Rattle.up_log_tree.specs.Fits.{Fits, fits};
 ghost use Rattle.up_tree.specs.States.{entries_of, fixed_of, record_in, told};
 
 use crate::fault::FollowWhy;

@@ -2,16 +2,30 @@
 ghost use Rattle.std.specs.Prelude.{◌≡◌, length, IfOk};
 
 use std::alloc::{AllocError, Global};
-use up_disk::Disks;
-use up_net::{LogDisk, open_logs};
+use up_disk::{Ahead, Disks};
+use up_net::{FileDisk, LogDisk, open_logs};
 
-/// The log at a path, as the one disk of a follower: made where it is missing, locked, and synced into its folder. A file that cannot be had
-/// is a disk whose every call fails, and a line on standard error says why.
-pub(crate) fn log_at(
-    alloc: Global,
-    rt: &HostRuntime,
-    path: &str,
-) -> Result<Disks<LogDisk>, AllocError>
+/// The log in the file that the words of `upspin follow` name last, as the one disk of a follower: made where it is missing, locked, and
+/// synced into its folder. A file that cannot be had is a disk whose every call fails, and a line on standard error says why.
+pub fn log_of(rt: &HostRuntime, words: &[String]) -> Result<Disks<LogDisk>, AllocError>
+    ensures { IfOk result (λ disks. length disks.disks ≡ 1) }
+{
+    match words.last() {
+        Some(path) => log_at(rt.alloc(), rt, path.as_str()),
+        None => no_log(rt.alloc()),
+    }
+}
+
+/// One disk whose every call fails, for words that name no file.
+pub fn no_log(alloc: Global) -> Result<Disks<LogDisk>, AllocError>
+    ensures { IfOk result (λ disks. length disks.disks ≡ 1) }
+{
+    let mut disks = Disks::new(alloc);
+    disks.push(Ahead::new(alloc, FileDisk::missing()))?;
+    Ok(disks)
+}
+
+fn log_at(alloc: Global, rt: &HostRuntime, path: &str) -> Result<Disks<LogDisk>, AllocError>
     ensures { IfOk result (λ disks. length disks.disks ≡ 1) }
 {
     let (folder, name) = folder_and_name(path);

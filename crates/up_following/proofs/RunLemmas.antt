@@ -2,6 +2,8 @@
 use Rattle.std.proofs.Common.{◌≡◌, ◌+◌, ℕ, true, false, List, [], ◌∷◌, ◌++◌, length, inl, inr, IfOk, OnOk, Option, Result, Ok, Err, refl, sym, ap, subst, ◌∙◌, append_assoc, append-nil, length-append, arith}
 use Rattle.std.proofs.lemmas.Grind.{flat_map-append}
 use Rattle.std.specs.Io.KnownBytes.{Appends}
+use Rattle.std.specs.Prelude.{IsErrOf}
+use Rattle.up_lists.specs.Counts.{StaysUnless}
 use Rattle.up_command.specs.Statuses.{code_of}
 use Rattle.up_command.specs.declared.output.Stop.{Stop}
 use Rattle.up_command.specs.declared.output.Stop.TheVariants as out
@@ -18,6 +20,13 @@ use Rattle.up_following.specs.FollowRuns.{Ends, Followed, LineDoes, Stays, code_
 use Rattle.up_following.specs.FollowTurns.{Came, Did, LineCame, Turned, World, said}
 use Rattle.up_following.specs.declared.stop.LineStop.{LineStop}
 use Rattle.up_following.specs.declared.stop.LineStop.TheVariants as stop
+
+-- a write that did not fail left the count as it was
+not_both : {X : Type 0} {x : X} {e : Stop} → ◌≡◌ {A = Result X Stop} (Ok x) (Err e) → ⊥
+not_both both = absurd (cc)
+
+pub still_written : {X : Type 0} {x : X} (before mid now : ℕ) (result : Result X Stop) → result ≡ Ok x → StaysUnless mid now (IsErrOf result out.WriteFault) → mid ≡ before → now ≡ before
+still_written before mid now result was quiet same = quiet.stays (λ bad. not_both (sym was ∙ bad)) ∙ same
 
 module _ {D F : Type 0} (disks : disk.Ghosts D) (feeds : feed.Ghosts F) where
   -- Some first lines were done, and what they print was written, but for what is gathered.

@@ -21,9 +21,10 @@ use Rattle.up_following.specs.FollowTurns.{world}
 abbrev pub follow_limits : Limits
 follow_limits = record { records = 1048576; device = 1073741824; largest = 131072 }
 
-module _ {D F : Type 0} (disks : disk.Ghosts D) (feeds : feed.Ghosts F) (limits : Limits) (owner : UserName) (input : Text) (old new : Option Text) (given back : List D) (before after : F) (status : ℕ) where
-  -- The disk was opened as the owner's log, and the lines were done. The disk is back, and a crash now leaves on it the log, or the log with
-  -- its doubtful record.
+module _ {D F : Type 0} (disks : disk.Ghosts D) (feeds : feed.Ghosts F) (limits : Limits) (owner : UserName)
+    (input : Text) (old new : Option Text) (given back : List D) (before after : F) (status : ℕ) where
+  -- The disk was opened as the owner's log, and the lines were done. The disk is back, and a crash now leaves on it the log, or the log
+  -- with its doubtful record.
   pub record RunsLines : Type 0 where
     pub disk : D
     pub opened : State D
@@ -48,12 +49,13 @@ module _ {D F : Type 0} (disks : disk.Ghosts D) (feeds : feed.Ghosts F) (limits 
     pub back_is : back ≡ fault.disk ∷ []
     pub feed_is : after ≡ before
 
-  -- of an input that was read whole one of these came
+  -- of an input that was read whole the lines were done, or the disk was refused
   abbrev pub FollowsInput : Type 0
   FollowsInput = RunsLines ⊎ RefusesDisk
 
--- Of the input, which is what the source had left where it tells that; or there was no memory to read it.
-pub record FollowsSource {D F : Type 0} (disks : disk.Ghosts D) (feeds : feed.Ghosts F) (limits : Limits) (owner : UserName) (left old new : Option Text) (given back : List D) (before after : F) (status : ℕ) : Type 0 where
+-- An input was followed, which is what the source had left where it tells that.
+pub record FollowsSource {D F : Type 0} (disks : disk.Ghosts D) (feeds : feed.Ghosts F) (limits : Limits)
+    (owner : UserName) (left old new : Option Text) (given back : List D) (before after : F) (status : ℕ) : Type 0 where
   pub input : Text
   pub told : IfSome left (λ bytes. input ≡ bytes)
   pub follows : FollowsInput disks feeds limits owner input old new given back before after status
@@ -65,6 +67,9 @@ pub record FollowsNothing {D F : Type 0} (old new : Option Text) (given back : L
   pub disks : back ≡ given
   pub feed : after ≡ before
 
-abbrev pub Means : {D F : Type 0} → disk.Ghosts D → feed.Ghosts F → Limits → UserName → Option Text → Option Text → Option Text → List D → List D → F → F → ℕ → Type 0
+-- what a run means: the lines of its source were followed, or nothing was done for want of memory
+abbrev pub Means : {D F : Type 0} → disk.Ghosts D → feed.Ghosts F → Limits → UserName
+    → Option Text → Option Text → Option Text → List D → List D → F → F → ℕ → Type 0
 Means disks feeds limits owner left old new given back before after status =
-    FollowsSource disks feeds limits owner left old new given back before after status ⊎ FollowsNothing old new given back before after status
+    FollowsSource disks feeds limits owner left old new given back before after status
+    ⊎ FollowsNothing old new given back before after status

@@ -19,7 +19,7 @@ use Rattle.up_following.specs.FollowTurns.{Did, LineCame, World, said}
 use Rattle.up_following.specs.declared.stop.LineStop.{LineStop}
 use Rattle.up_following.specs.declared.stop.LineStop.TheVariants as stop
 
--- all that is printed
+-- what is printed of all that lines did, in order
 abbrev pub printed : List Did → Text
 printed dids = flat_map said dids
 
@@ -28,7 +28,7 @@ abbrev pub stop_code : LineStop → ℕ
 stop_code stop.Malformed = 1
 stop_code stop.OutOfMemory = 4
 
--- and the text that it writes last: a malformed line, whose number this is, is named
+-- the text that a run writes last, where a line was not done: a malformed line is named by its number, and of all else nothing is said
 abbrev pub stop_text : ℕ → LineStop → Text
 stop_text number stop.Malformed = bad_line number
 stop_text number stop.OutOfMemory = []
@@ -44,7 +44,7 @@ code_by (Err out.WriteFault) = 3
 code_by (Err out.OutOfMemory) = 4
 
 module _ {D F : Type 0} (disks : disk.Ghosts D) (feeds : feed.Ghosts F) where
-  -- a line did something
+  -- a line did something, and did not end the run
   abbrev pub LineDoes : World D F → Text → Did → World D F → Type 0
   LineDoes a line did b = LineCame disks feeds a line (Ok did) b
 
@@ -59,7 +59,8 @@ module _ {D F : Type 0} (disks : disk.Ghosts D) (feeds : feed.Ghosts F) where
   -- last, and the status: there is no line left; or the next one was not done; or no more could be written.
   pub data Ends (last : World D F) (number : ℕ) : List Text → Text → ℕ → World D F → Type 0 where
     at_end : Ends last number [] [] 0 last
-    stopped : {line : Text} {more : List Text} {b : World D F} (why : LineStop) → LineCame disks feeds last line (Err why) b → Ends last number (line ∷ more) (stop_text number why) (stop_code why) b
+    stopped : {line : Text} {more : List Text} {b : World D F} (why : LineStop) → LineCame disks feeds last line (Err why) b
+        → Ends last number (line ∷ more) (stop_text number why) (stop_code why) b
     unwritten : {left : List Text} → Ends last number left [] 3 last
 
   -- From one state to another: the lines that were done, each with what it did, how that ended, and what was written. The text is written

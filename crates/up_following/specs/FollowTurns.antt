@@ -1,7 +1,7 @@
 -- What comes of each line over a follower and its feed, and what it prints. This project's own.
 use Rattle.std.specs.Prelude.{◌≡◌, ◌⊎◌, ℕ, [], ◌++◌, codes, decimal, Option, Some, None, is_some, IfSome, Result, Ok, Err}
 use Rattle.std.specs.List.{flat_map}
-use Rattle.up_adding.specs.Steps.{IsTold}
+use Rattle.up_commit.specs.Steps.{IsTold}
 use Rattle.up_answers.specs.Answers.{answer}
 use Rattle.up_command.specs.Printed.{ended}
 use Rattle.up_disk.specs.declared.disk.Disk as disk
@@ -27,6 +27,7 @@ use Rattle.up_following.specs.declared.stop.LineStop.TheVariants as stop
 
 -- ---- what a line did, and the text that it prints
 
+-- what a line did: of a pull, how many records it took or why it took none; of a request, its reply, or that it does not only look
 pub data Did : Type 0 where
   Nothing : Did
   Pulled : ℕ → Did
@@ -37,7 +38,7 @@ pub data Did : Type 0 where
   ReadOnly : Did
   Replied : Reply → Did
 
--- the text that is printed
+-- the text that is printed of what a line did
 abbrev pub said : Did → Text
 said Did.Nothing = []
 said (Did.Pulled count) = ended (codes "pulled " ++ decimal count)
@@ -66,7 +67,7 @@ abbrev pub reply_said : Reply → Came
 reply_said reply.OutOfMemory = Err stop.OutOfMemory
 reply_said given = Ok (Did.Replied given)
 
--- and of an answer, which is none where the request does not only look
+-- what is said of an answer, which is none where the request does not only look
 abbrev pub answer_said : Option Reply → Came
 answer_said None = Ok Did.ReadOnly
 answer_said (Some given) = reply_said given
@@ -78,6 +79,7 @@ pub record World (D F : Type 0) : Type 0 where
   pub state : State D
   pub feed : F
 
+-- this follower, and this feed
 abbrev pub world : {D F : Type 0} → State D → F → World D F
 world state feed = record { state = state; feed = feed }
 

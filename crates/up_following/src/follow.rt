@@ -8,7 +8,7 @@ ghost use Rattle.up_follow.specs.declared.feed.Feed as feeds;
 ghost use Rattle.up_following.specs.FollowAnswers.{FollowsInput, Means, follow_limits};
 ghost use Rattle.up_following.specs.FollowLines.{follow_owner};
 ghost use Rattle.up_journal.specs.Journal.{AreLimits};
-ghost use Rattle.up_lists.specs.Counts.{Rose};
+ghost use Rattle.up_lists.specs.Counts.{Rose, StaysUnless};
 ghost use Rattle.up_policy.specs.Trees.{owns_snapshots};
 
 use crate::owner::follow_owner;
@@ -61,7 +61,9 @@ pub fn follow_run<D: Disk + Drop, F: Feed, S: Source, K: Sink>(
         → (result ≡ 7 ↔ (S.given source.old + input_limit < S.given source.new)) }
     ensures told_long { result ≡ 7 → IfSome (S.left source.old) (λ bytes. input_limit < length bytes) }
     ensures source_counts { S.faults source.old ≤ S.faults source.new }
+    ensures source_quiet { StaysUnless (S.faults source.old) (S.faults source.new) (result ≡ 2) }
     ensures sink_counts { K.faults sink.old ≤ K.faults sink.new }
+    ensures sink_quiet { StaysUnless (K.faults sink.old) (K.faults sink.new) (result ≡ 3) }
     ensures disk_back { length disks.new.disks ≡ 1 }
     ensures tie { F.tied feed.old feed.new }
 
@@ -116,7 +118,9 @@ pub fn follow_within<D: Disk + Drop, F: Feed, S: Source, K: Sink>(
     ensures untouched { IsOneOf (2 ∷ 7 ∷ []) result
         → (sink.new ≡ sink.old) × (disks.new ≡ disks.old) × (feed.new ≡ feed.old) }
     ensures source_counts { S.faults source.old ≤ S.faults source.new }
+    ensures source_quiet { StaysUnless (S.faults source.old) (S.faults source.new) (result ≡ 2) }
     ensures sink_counts { K.faults sink.old ≤ K.faults sink.new }
+    ensures sink_quiet { StaysUnless (K.faults sink.old) (K.faults sink.new) (result ≡ 3) }
     ensures disk_back { length disks.new.disks ≡ 1 }
     ensures tie { F.tied feed.old feed.new }
 {
@@ -148,6 +152,7 @@ fn run_input<D: Disk + Drop, F: Feed, K: Sink>(
     ensures status { IsOneOf (0 ∷ 1 ∷ 3 ∷ 4 ∷ 6 ∷ 8 ∷ []) result }
     ensures cause { result ≡ 3 → Rose (K.faults sink.old) (K.faults sink.new) }
     ensures later { K.faults sink.old ≤ K.faults sink.new }
+    ensures quiet { StaysUnless (K.faults sink.old) (K.faults sink.new) (result ≡ 3) }
     ensures tie { F.tied feed.old feed.new }
 {
     let Some(disk) = disks.take() else {

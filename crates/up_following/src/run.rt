@@ -6,7 +6,7 @@ ghost use Rattle.up_ends.specs.Writing.{WritesPart};
 ghost use Rattle.up_follow.specs.declared.feed.Feed as feeds;
 ghost use Rattle.up_following.specs.FollowRuns.{Followed, code_by, stop_code, stop_text};
 ghost use Rattle.up_following.specs.FollowTurns.{world};
-ghost use Rattle.up_lists.specs.Counts.{Rose};
+ghost use Rattle.up_lists.specs.Counts.{Rose, StaysUnless};
 ghost use Rattle.up_text.specs.Lines.{script_lines};
 
 use crate::stop::LineStop;
@@ -31,6 +31,7 @@ pub(crate) fn run_lines<D: Disk, F: Feed, K: Sink>(
     ensures status { IsOneOf (0 ∷ 1 ∷ 3 ∷ 4 ∷ []) result }
     ensures cause { result ≡ 3 → Rose (K.faults sink.old) (K.faults sink.new) }
     ensures later { K.faults sink.old ≤ K.faults sink.new }
+    ensures quiet { StaysUnless (K.faults sink.old) (K.faults sink.new) (result ≡ 3) }
     ensures tie { F.tied feed.old feed.new }
 {
     match run_each(alloc, follower, feed, lines, sink) {
@@ -53,6 +54,8 @@ fn run_each<D: Disk, F: Feed, K: Sink>(
     ensures status { IfOk result (λ status. IsOneOf (0 ∷ 1 ∷ []) (code_of status)) }
     ensures cause { IsErrOf result Stop.WriteFault → Rose (K.faults sink.old) (K.faults sink.new) }
     ensures later { K.faults sink.old ≤ K.faults sink.new }
+    ensures quiet { StaysUnless (K.faults sink.old) (K.faults sink.new)
+        (IsErrOf result Stop.WriteFault) }
     ensures tie { F.tied feed.old feed.new }
 {
     let mut gathered = Vec::new(alloc);
@@ -88,6 +91,8 @@ fn end<K: Sink>(
     ensures unwritten { why ≡ LineStop.OutOfMemory → sink.new ≡ sink.old }
     ensures cause { IsErrOf result Stop.WriteFault → Rose (K.faults sink.old) (K.faults sink.new) }
     ensures later { K.faults sink.old ≤ K.faults sink.new }
+    ensures quiet { StaysUnless (K.faults sink.old) (K.faults sink.new)
+        (IsErrOf result Stop.WriteFault) }
 {
     let (last, status) = ending(alloc, number, why)?;
     finish(sink, gathered, &last)?;

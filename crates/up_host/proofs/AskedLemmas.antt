@@ -13,16 +13,16 @@ use Rattle.up_calls.specs.Views.{SeenTree, Views, log_after, log_seen}
 use Rattle.up_calls.specs.declared.event.Event.{Event}
 use Rattle.up_calls.specs.declared.service.Service.{Service}
 use Rattle.up_calls.specs.declared.service.Service.TheVariants as service
-use Rattle.up_changes.specs.Routes.{route_of}
-use Rattle.up_changes.specs.declared.routes.Route.{Route}
-use Rattle.up_changes.specs.declared.routes.Route.TheVariants as route
+use Rattle.up_edits.specs.Routes.{route_of}
+use Rattle.up_edits.specs.declared.routes.Route.{Route}
+use Rattle.up_edits.specs.declared.routes.Route.TheVariants as route
 use Rattle.up_disk.specs.declared.disk.Disk as disk
 use Rattle.up_host.specs.Alone.{Counts, HostState, IsAlone, disk_faults, ends_at, io_of, views}
 use Rattle.up_host.specs.Tied.{DiskRose, IsTied}
 use Rattle.up_lists.specs.Counts.{Rose}
 use Rattle.up_names.specs.Texts.{UserName}
 use Rattle.up_peer.specs.declared.loader.Loader.{Ghosts}
-use Rattle.up_replay.specs.Logs.{Log}
+use Rattle.up_log_tree.specs.Logs.{Log}
 use Rattle.up_wire.specs.declared.replies.Reply.{Reply}
 use Rattle.up_wire.specs.declared.replies.Reply.TheVariants as reply
 

@@ -12,11 +12,11 @@ use Rattle.up_calls.proofs.GroupTextLemmas.{asked_is, by_asked}
 use Rattle.up_calls.specs.Loads.{group_text_answer}
 use Rattle.up_list.specs.Changes.{answer_of}
 use Rattle.up_list.specs.Reads.{group_text_reply}
-use Rattle.up_list.specs.declared.asking.Asked.TheVariants.{GroupText}
+use Rattle.up_list.specs.declared.asking.ReadRequest.TheVariants.{GroupText}
 use Rattle.up_names.specs.PathNames.{PathName, canonical, path_of}
 use Rattle.up_names.specs.Texts.{UserName}
-use Rattle.up_replay.specs.Logs.{Log}
-use Rattle.up_replay.specs.Rights.{is_group}
+use Rattle.up_log_tree.specs.Logs.{Log}
+use Rattle.up_log_tree.specs.Rights.{is_group}
 use Rattle.up_snap.specs.Looked.{look_at}
 use Rattle.up_snap.specs.Outcomes.{IsOfSnapshots}
 use Rattle.up_wire.specs.Bounds.{bounded}

@@ -17,7 +17,7 @@ use Rattle.up_peer.specs.InMemory.{faults_after}
 use Rattle.up_peer.specs.declared.answers.PeerAnswer.{PeerAnswer}
 use Rattle.up_peer.specs.declared.answers.PeerAnswer.TheVariants as peer
 use Rattle.up_peer.specs.declared.answers.PeerCall.{PeerCall}
-use Rattle.up_replay.specs.Rights.{is_group}
+use Rattle.up_log_tree.specs.Rights.{is_group}
 use Rattle.up_tree.specs.States as tree
 use Rattle.up_wire.specs.declared.replies.Done.{Done}
 use Rattle.up_wire.specs.declared.replies.Done.TheVariants as done

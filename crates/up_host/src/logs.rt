@@ -7,6 +7,7 @@ use up_calls::{Logs, Turn, read_block, read_text, try_keys, try_store, try_tree}
 use up_dir::Fetched;
 use up_disk::Disk;
 use up_entry::Fetch;
+use up_list::ReadRequest;
 use up_names::{Path, User};
 use up_policy::{LoadAnswer, Loaded};
 use up_refs::Reference;
@@ -61,6 +62,7 @@ impl<D: Disk> Logs for Host<D> {
         owner: &User,
         user: &User,
         request: &Request,
+        asked: &ReadRequest,
         loaded: &Loaded,
         fetched: &Fetched,
         now: u64,
@@ -69,7 +71,16 @@ impl<D: Disk> Logs for Host<D> {
             unreachable!();
         };
         let held = &mut self.trees[place];
-        try_tree(alloc, &mut held.state, user, request, loaded, fetched, now)
+        try_tree(
+            alloc,
+            &mut held.state,
+            user,
+            request,
+            asked,
+            loaded,
+            fetched,
+            now,
+        )
     }
 
     fn ask_store(&mut self, user: &User, request: &Request) -> (Reply, u64) {

@@ -13,12 +13,12 @@ use crate::trees::tree_of;
 use std::alloc::{AllocError, Global};
 use std::hash::RandomState;
 use up_calls::{group_text_of, is_group};
-use up_changes::log_owner;
 use up_disk::Disk;
+use up_edits::log_owner;
 use up_entry::What;
 use up_list::group_text;
+use up_mem_tree::MemTree;
 use up_names::{Path, User};
-use up_nodes::MemTree;
 use up_snap::SnapLook;
 use up_tree::TreeState;
 use up_wire::{Reply, bounded};
@@ -75,15 +75,15 @@ fn text_in<D: Disk>(
 }
 
 // The text of a group in the snapshot tree.
-#[tactic(auto, using(up_snap::proofs::ShowerLemmas::is_shower))]
+#[tactic(auto, using(up_snap::proofs::SnapUserLemmas::is_snap_user))]
 fn old_text(alloc: Global, tree: &MemTree, asker: &User, path: &Path) -> Result<Reply, AllocError>
     requires { IsOfSnapshots tree.now.owner path.now.owner }
     ensures { IfOk result (λ reply. reply ≡ group_text_reply
         (look_at tree.now.owner tree.now.log asker.now) path.now) }
 {
-    let shower = path.owner();
-    let _text = shower.text();
-    group_text(alloc, &SnapLook::new(tree, shower, asker), path)
+    let snap_user = path.owner();
+    let _text = snap_user.text();
+    group_text(alloc, &SnapLook::new(tree, snap_user, asker), path)
 }
 
 // The answer where the host does not have the tree.

@@ -3,7 +3,7 @@ use Rattle.std.proofs.Common.{◌≡◌, ◌≢◌, ℕ, List, [], ◌∷◌, �
 use Rattle.std.proofs.lemmas.List.{append-nil}
 use Rattle.up_entry.specs.declared.records.Rec.{Rec}
 use Rattle.up_policy.specs.Loadings.{Loading}
-use Rattle.up_replay.specs.Logs.{Log}
+use Rattle.up_log_tree.specs.Logs.{Log}
 use Rattle.up_answers.specs.Agreement.{Agree}
 use Rattle.up_answers.specs.Laws.{IsWhole, Turn, after_request, after_turn}
 use Rattle.up_answers.proofs.ApartLemmas.{apart_changes_keep_agreement}

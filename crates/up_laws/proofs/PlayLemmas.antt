@@ -15,7 +15,7 @@ use Rattle.up_lists.proofs.RunLemmas.{Run-taken, length-Run}
 use Rattle.up_policy.specs.Loadings.{Loading}
 use Rattle.up_policy.proofs.PathLists.{Contains-cons, no_member}
 use Rattle.up_wire.specs.declared.replies.Reply.{Reply}
-use Rattle.up_replay.specs.Logs.{Log}
+use Rattle.up_log_tree.specs.Logs.{Log}
 use Rattle.up_tree.specs.States.{State, log_of}
 use Rattle.up_answers.specs.Agreement.{Agree, used}
 use Rattle.up_answers.specs.Laws.{AreInCalendar, InStep, Turn, after_request, after_turn}
@@ -155,12 +155,6 @@ module _ {D E : Type 0} (one : Ghosts D) (two : Ghosts E) (user : List ℕ) (tur
       count = length-Run (AreMade one two) old now (take n turns) going.made going.run ∙ ap length whole
 
 -- ---- a turn of each list
-
-pub takes_turns : {D E F : Type 0} (one : Ghosts D) (two : Ghosts E) (user : List ℕ) (x y : Turn) (a a' : State D) (b b' : State E) (before after : List (Reply × Reply)) (first second : Reply) (result : Result Bool F) →
-    IsMade one x a a' first → IsMade two y b b' second →
-    IfOk result (λ stopped. after ≡ (if are_of user (x, y) then before ++ (first, second) ∷ [] else before)) → IfOk result (λ stopped. stopped ≡ one_stops (x, y) (first, second)) →
-    TakesTurns {F = F} one two user (x, y) (a, b) (a', b') before after result
-takes_turns one two user x y a a' b b' before after first second result made made' kept stopped = record { replies = (first, second); made = (made, made'); kept = kept; stopped = stopped }
 
 -- ---- the turns at a place
 

@@ -29,14 +29,14 @@ use Rattle.up_policy.specs.Loadings.{Loading}
 use Rattle.up_wire.specs.declared.replies.Done.TheVariants as done
 use Rattle.up_wire.specs.declared.replies.Reply.{Reply}
 use Rattle.up_wire.specs.declared.replies.Reply.TheVariants as reply
-use Rattle.up_replay.specs.declared.node.Node.{Node}
-use Rattle.up_replay.specs.Trees.{children, is_file, kind_of, node_at, tree_of}
-use Rattle.up_replay.specs.Fits.{root_of, snapshot_user}
-use Rattle.up_replay.specs.Snapshots.{snap_at}
-use Rattle.up_replay.specs.Logs.{Log}
-use Rattle.up_replay.proofs.Paths.{path_same}
-use Rattle.up_list.specs.declared.asking.Asked.{Asked}
-use Rattle.up_list.specs.declared.asking.Asked.TheVariants.{Lookup, WhichAccess, GroupText, Delete, Put, Glob, Watch}
+use Rattle.up_log_tree.specs.declared.node.Node.{Node}
+use Rattle.up_log_tree.specs.Trees.{children, is_file, kind_of, node_at, tree_of}
+use Rattle.up_log_tree.specs.Fits.{root_of, snapshot_user}
+use Rattle.up_log_tree.specs.Snapshots.{snap_at}
+use Rattle.up_log_tree.specs.Logs.{Log}
+use Rattle.up_log_tree.proofs.Paths.{path_same}
+use Rattle.up_list.specs.declared.asking.ReadRequest.{ReadRequest}
+use Rattle.up_list.specs.declared.asking.ReadRequest.TheVariants.{Lookup, WhichAccess, GroupText, Delete, Put, Glob, Watch}
 use Rattle.up_list.specs.Asking.{owner_asked}
 use Rattle.up_list.specs.Changes.{◌>>=◌, refuse, right_to_put, unless}
 use Rattle.up_list.specs.Checks.{at_link, check, first_link, lacking, ways, ways_before}
@@ -55,7 +55,7 @@ use Rattle.up_answers.specs.SnapshotReplies.{snapshot_delete, snapshot_outcome, 
 use Rattle.up_answers.specs.SnapshotTrees.{snapshot_look}
 use Rattle.up_answers.specs.Watches.{batch, is_watched, watch_reply, watched}
 use Rattle.up_answers.proofs.FitLemmas.{bind_ok, err_ok}
-use Rattle.up_adding.specs.Steps.{is_position}
+use Rattle.up_commit.specs.Steps.{is_position}
 use Rattle.up_laws.specs.Turns.{any_failed}
 use Rattle.up_laws.proofs.FetchLemmas.{failed_same}
 
@@ -276,7 +276,7 @@ module _ (io : Bool) where
       go true = snapshot_record_quiet log now
       go false = refl
 
-  snapshot_quiet : (log : Log) (user : List ℕ) (asked : Asked) (now : ℕ) → leads_odd io (snapshot_outcome log user asked now) ≡ false
+  snapshot_quiet : (log : Log) (user : List ℕ) (asked : ReadRequest) (now : ℕ) → leads_odd io (snapshot_outcome log user asked now) ≡ false
   unfolding snapshot_outcome snapshot_delete
   snapshot_quiet log user (Lookup path) now = lookup_quiet (snapshot_look log user) path
   snapshot_quiet log user (WhichAccess path) now = access_quiet (snapshot_look log user) path
@@ -289,7 +289,7 @@ module _ (io : Bool) where
   -- ---- all requests
 
   module _ (log : Log) (loaded : Loading) (fetched : Fetched) (user : List ℕ) (now : ℕ) where
-    tree_quiet : (asked : Asked) → (io ≡ true → any_failed fetched (locations_asked asked) ≡ false) → leads_odd io (tree_outcome log loaded fetched user asked) ≡ false
+    tree_quiet : (asked : ReadRequest) → (io ≡ true → any_failed fetched (locations_asked asked) ≡ false) → leads_odd io (tree_outcome log loaded fetched user asked) ≡ false
     unfolding tree_outcome
     tree_quiet (Lookup path) h = lookup_quiet (look_now log loaded user) path
     tree_quiet (WhichAccess path) h = access_quiet (look_now log loaded user) path
@@ -299,7 +299,7 @@ module _ (io : Bool) where
     tree_quiet (Delete path) h = delete_quiet (look_now log loaded user) path
     tree_quiet (Put put) h = put_quiet (look_now log loaded user) (length log.records) fetched put h
 
-    pub asked_quiet : (asked : Asked) → (io ≡ true → any_failed fetched (locations_asked asked) ≡ false) → leads_odd io (asked_outcome log loaded fetched user asked now) ≡ false
+    pub asked_quiet : (asked : ReadRequest) → (io ≡ true → any_failed fetched (locations_asked asked) ≡ false) → leads_odd io (asked_outcome log loaded fetched user asked now) ≡ false
     unfolding asked_outcome
     asked_quiet asked h = go (bytes_eq (owner_asked asked) log.owner) (bytes_eq (log_owner (owner_asked asked)) log.owner)
       where
@@ -361,7 +361,7 @@ module _ (log : Log) (loaded : Loading) (fetched : Fetched) (user : List ℕ) (n
       go true e k = false≢true (sym (taking_fetches_none entry e) ∙ h)
       go false e k = err_ok (reply.Permission (right_to_put (node_at look.tree entry.name))) record' k
 
-  failed_in_tree : (asked : Asked) (record' : Rec) → any_failed fetched (locations_asked asked) ≡ true → tree_outcome log loaded fetched user asked ≡ Ok record' → ⊥
+  failed_in_tree : (asked : ReadRequest) (record' : Rec) → any_failed fetched (locations_asked asked) ≡ true → tree_outcome log loaded fetched user asked ≡ Ok record' → ⊥
   unfolding tree_outcome
   failed_in_tree (Put put) record' h k = failed_put (look_now log loaded user) (length log.records) put record' h k
   failed_in_tree (Lookup path) record' h k = false≢true h
@@ -371,7 +371,7 @@ module _ (log : Log) (loaded : Loading) (fetched : Fetched) (user : List ℕ) (n
   failed_in_tree (Glob pattern) record' h k = false≢true h
   failed_in_tree (Watch path sequence) record' h k = false≢true h
 
-  failed_in_snapshots : (asked : Asked) (record' : Rec) → any_failed fetched (locations_asked asked) ≡ true → snapshot_outcome log user asked now ≡ Ok record' → ⊥
+  failed_in_snapshots : (asked : ReadRequest) (record' : Rec) → any_failed fetched (locations_asked asked) ≡ true → snapshot_outcome log user asked now ≡ Ok record' → ⊥
   unfolding snapshot_outcome
   failed_in_snapshots (Put put) record' h k = failed_snapshot (snapshot_look log user) put.entry record' h k
   failed_in_snapshots (Lookup path) record' h k = false≢true h
@@ -381,7 +381,7 @@ module _ (log : Log) (loaded : Loading) (fetched : Fetched) (user : List ℕ) (n
   failed_in_snapshots (Glob pattern) record' h k = false≢true h
   failed_in_snapshots (Watch path sequence) record' h k = false≢true h
 
-  pub failed_adds_none : (asked : Asked) (record' : Rec) → any_failed fetched (locations_asked asked) ≡ true → asked_outcome log loaded fetched user asked now ≡ Ok record' → ⊥
+  pub failed_adds_none : (asked : ReadRequest) (record' : Rec) → any_failed fetched (locations_asked asked) ≡ true → asked_outcome log loaded fetched user asked now ≡ Ok record' → ⊥
   unfolding asked_outcome
   failed_adds_none asked record' h = go (bytes_eq (owner_asked asked) log.owner) (bytes_eq (log_owner (owner_asked asked)) log.owner)
     where

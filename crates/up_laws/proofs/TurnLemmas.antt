@@ -14,30 +14,30 @@ use Rattle.up_wire.specs.Bounds.{bounded, reply_size}
 use Rattle.up_wire.specs.declared.replies.Done.TheVariants as done
 use Rattle.up_wire.specs.declared.replies.Reply.{Reply}
 use Rattle.up_wire.specs.declared.replies.Reply.TheVariants as reply
-use Rattle.up_replay.specs.Logs.{Log}
-use Rattle.up_replay.specs.Sizes.{size_of}
-use Rattle.up_list.specs.declared.asking.Asked.{Asked}
+use Rattle.up_log_tree.specs.Logs.{Log}
+use Rattle.up_log_tree.specs.Sizes.{size_of}
+use Rattle.up_list.specs.declared.asking.ReadRequest.{ReadRequest}
 use Rattle.up_list.specs.Asking.{asked_of, owner_asked}
 use Rattle.up_list.specs.Changes.{added_by, answer_of, is_full}
 use Rattle.up_tree.specs.States.{State, entries_of, fixed_of, log_of}
 use Rattle.up_answers.specs.Answers.{added, answer, asked_outcome, fault_reply, log_owner, outcome}
 use Rattle.up_answers.specs.Laws.{IsWhole, Turn, after_turn}
 use Rattle.up_answers.specs.Routes.{locations_asked}
-use Rattle.up_changes.specs.Routes.{route_of}
-use Rattle.up_changes.specs.declared.routes.Route.{Route}
-use Rattle.up_changes.specs.declared.routes.Route.TheVariants.{Refused, Tree}
-use Rattle.up_adding.specs.Steps.{Steps, is_changed}
+use Rattle.up_edits.specs.Routes.{route_of}
+use Rattle.up_edits.specs.declared.routes.Route.{Route}
+use Rattle.up_edits.specs.declared.routes.Route.TheVariants.{Refused, Tree}
+use Rattle.up_commit.specs.Steps.{Steps, is_changed}
 use Rattle.up_laws.specs.Turns.{IsMade, added_in, answer_in, any_failed, fetch_failed, is_hindered, stops}
 use Rattle.up_laws.proofs.QuietLemmas.{asked_quiet, failed_adds_none, is_odd, leads_odd}
 
 -- ---- where the blocks of a request have to be fetched
 
 module _ (turn : Turn) where
-  abbrev routed : Result Asked EntryFault → Route
+  abbrev routed : Result ReadRequest EntryFault → Route
   routed (Ok asked) = Tree (log_owner (owner_asked asked)) (locations_asked asked)
   routed (Err fault) = Refused (fault_reply fault)
 
-  abbrev fetches : Result Asked EntryFault → Bool
+  abbrev fetches : Result ReadRequest EntryFault → Bool
   fetches (Ok asked) = any_failed turn.fetched (locations_asked asked)
   fetches (Err fault) = false
 
@@ -45,7 +45,7 @@ module _ (turn : Turn) where
   unfolding route_of fetch_failed
   refused_fetches given h = go (asked_of turn.user turn.request) h
     where
-      go : (r : Result Asked EntryFault) → Refused given ≡ routed r → false ≡ fetches r
+      go : (r : Result ReadRequest EntryFault) → Refused given ≡ routed r → false ≡ fetches r
       go (Ok asked) h = absurd (cc)
       go (Err fault) h = refl
 
@@ -53,7 +53,7 @@ module _ (turn : Turn) where
   unfolding route_of fetch_failed
   tree_fetches owner locations h = go (asked_of turn.user turn.request) h
     where
-      go : (r : Result Asked EntryFault) → Tree owner locations ≡ routed r → any_failed turn.fetched locations ≡ fetches r
+      go : (r : Result ReadRequest EntryFault) → Tree owner locations ≡ routed r → any_failed turn.fetched locations ≡ fetches r
       go (Ok asked) h = let same : locations ≡ locations_asked asked = cc in ap (any_failed turn.fetched) same
       go (Err fault) h = absurd (cc)
 
@@ -134,7 +134,7 @@ led_adds log (Ok rec) h = go (nat_lt log.limits.largest (size_of rec)) (is_full 
     go false false = refl
 
 module _ (log : Log) (turn : Turn) where
-  abbrev led : Result Asked EntryFault → Result Rec Reply
+  abbrev led : Result ReadRequest EntryFault → Result Rec Reply
   led (Ok asked) = asked_outcome log turn.loaded turn.fetched turn.user asked turn.now
   led (Err fault) = Err (fault_reply fault)
 
@@ -146,7 +146,7 @@ module _ (log : Log) (turn : Turn) where
   unfolding fetch_failed outcome
   led_quiet io h = go (asked_of turn.user turn.request) h
     where
-      go : (r : Result Asked EntryFault) → (io ≡ true → fetches turn r ≡ false) → leads_odd io (led r) ≡ false
+      go : (r : Result ReadRequest EntryFault) → (io ≡ true → fetches turn r ≡ false) → leads_odd io (led r) ≡ false
       go (Ok asked) h = asked_quiet io log turn.loaded turn.fetched turn.user turn.now asked h
       go (Err fault) h = fault_quiet io fault
 
@@ -160,7 +160,7 @@ module _ (log : Log) (turn : Turn) where
   unfolding fetch_failed outcome
   no_record h rec e = by (asked_of turn.user turn.request) h e
     where
-      by : (r : Result Asked EntryFault) → fetches turn r ≡ true → led r ≡ Ok rec → ⊥
+      by : (r : Result ReadRequest EntryFault) → fetches turn r ≡ true → led r ≡ Ok rec → ⊥
       by (Ok asked) h e = failed_adds_none log turn.loaded turn.fetched turn.user turn.now asked rec h e
       by (Err fault) h e = false≢true h
 

@@ -3,7 +3,7 @@ use Rattle.std.proofs.Common.{◌≡◌, Bool, true, false, ◌||◌, ◌<◌, r
 use Rattle.std.proofs.lemmas.Bool.{false≢true}
 use Rattle.up_disk.specs.declared.disk.Disk.{Ghosts}
 use Rattle.up_wire.specs.declared.replies.Reply.{Reply}
-use Rattle.up_replay.specs.Logs.{Log}
+use Rattle.up_log_tree.specs.Logs.{Log}
 use Rattle.up_tree.specs.States.{State, log_of}
 use Rattle.up_answers.specs.Agreement.{Agree}
 use Rattle.up_answers.specs.Laws.{Turn, after_turn}

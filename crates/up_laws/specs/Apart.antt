@@ -5,8 +5,8 @@ use Rattle.up_names.specs.PathNames.{PathName, control_of}
 use Rattle.up_names.specs.declared.paths.Control.TheVariants as control
 use Rattle.up_entry.specs.declared.records.Rec.{Rec}
 use Rattle.up_policy.specs.Loadings.{Loading}
-use Rattle.up_replay.specs.Logs.{Log}
-use Rattle.up_replay.specs.Sizes.{size_of}
+use Rattle.up_log_tree.specs.Logs.{Log}
+use Rattle.up_log_tree.specs.Sizes.{size_of}
 use Rattle.up_answers.specs.Agreement.{Agree, used}
 use Rattle.up_answers.specs.Laws.{AreInCalendar, InStep, IsApart, IsWhole, Turn, after_turn, touched}
 use Rattle.up_laws.specs.Turns.{added_in}
@@ -41,5 +41,7 @@ AreApart user loadings one two (a ∷ as') (b ∷ bs) =
 
 -- Under such turns two logs that agree for a user other than the owner at the start are in step: they agree after each of them.
 abbrev pub ApartTurnsAreInStep : Type 0
-ApartTurnsAreInStep = (user : UserName) (loadings : List Loading) (one two : Log) (as' bs : List Turn) → user ≢ one.owner → IsWhole one → IsWhole two →
-    AreInCalendar as' → AreInCalendar bs → Agree user loadings one two → AreApart user loadings one two as' bs → InStep user loadings one two as' bs
+ApartTurnsAreInStep =
+    (user : UserName) (loadings : List Loading) (one two : Log) (as' bs : List Turn) → user ≢ one.owner → IsWhole one → IsWhole two →
+    AreInCalendar as' → AreInCalendar bs → Agree user loadings one two
+    → AreApart user loadings one two as' bs → InStep user loadings one two as' bs

@@ -7,7 +7,7 @@ use Rattle.up_disk.specs.declared.disk.Disk.{Ghosts}
 use Rattle.up_lists.specs.Runs.{Run}
 use Rattle.up_policy.specs.Loadings.{Loading}
 use Rattle.up_wire.specs.declared.replies.Reply.{Reply}
-use Rattle.up_replay.specs.Logs.{Log}
+use Rattle.up_log_tree.specs.Logs.{Log}
 use Rattle.up_tree.specs.States.{State}
 use Rattle.up_answers.specs.Agreement.{Agree}
 use Rattle.up_answers.specs.Laws.{InStep, Turn, after_turn}
@@ -36,14 +36,16 @@ first_stop (turns ∷ more) (replies ∷ rest) = if one_stops turns replies then
 
 -- A turn of each list was made. Its pair of replies was kept behind the others where both turns are the user's, and it is told whether
 -- it stops the run.
-pub record TakesTurns {D E F : Type 0} (one : Ghosts D) (two : Ghosts E) (user : UserName) (turns : Turn × Turn) (old new : State D × State E) (before after : List (Reply × Reply)) (result : Result Bool F) : Type 0 where
+pub record TakesTurns {D E F : Type 0} (one : Ghosts D) (two : Ghosts E) (user : UserName) (turns : Turn × Turn)
+    (old new : State D × State E) (before after : List (Reply × Reply)) (result : Result Bool F) : Type 0 where
   pub replies : Reply × Reply
   pub made : AreMade one two old turns replies new
   pub kept : IfOk result (λ stopped. after ≡ (if are_of user turns then before ++ replies ∷ [] else before))
   pub stopped : IfOk result (λ stopped. stopped ≡ one_stops turns replies)
 
 -- The first n turns of two lists were made, and none stopped the run.
-pub record IsGoing {D E : Type 0} (one : Ghosts D) (two : Ghosts E) (user : UserName) (turns : List (Turn × Turn)) (old now : State D × State E) (replies : List (Reply × Reply)) (n : ℕ) : Type 0 where
+pub record IsGoing {D E : Type 0} (one : Ghosts D) (two : Ghosts E) (user : UserName) (turns : List (Turn × Turn))
+    (old now : State D × State E) (replies : List (Reply × Reply)) (n : ℕ) : Type 0 where
   pub made : List (Reply × Reply)
   pub run : Run (AreMade one two) old (take n turns) made now
   pub told : replies ≡ kept user turns made
@@ -51,7 +53,8 @@ pub record IsGoing {D E : Type 0} (one : Ghosts D) (two : Ghosts E) (user : User
 
 -- Turns of two lists were made, one after the other. The pairs are the replies to the user, in order, of those that were made; and
 -- these are all, or those up to the first that stops the run. Where memory is wanted, some first turns were made all the same.
-pub record IsPlayed {D E F : Type 0} (one : Ghosts D) (two : Ghosts E) (user : UserName) (turns : List (Turn × Turn)) (old new : State D × State E) (result : Result Pairs F) : Type 0 where
+pub record IsPlayed {D E F : Type 0} (one : Ghosts D) (two : Ghosts E) (user : UserName)
+    (turns : List (Turn × Turn)) (old new : State D × State E) (result : Result Pairs F) : Type 0 where
   pub made : List (Reply × Reply)
   pub run : Run (AreMade one two) old (take (length made) turns) made new
   pub replies : IfOk result (λ pairs. pairs.replies ≡ kept user turns made)
@@ -68,5 +71,7 @@ after_turns log turns = fold after_turn log turns
 pub record ArePlayedAlike (user : UserName) (first second : List Turn) (one two one' two' : Log) (pairs : Pairs) : Type 0 where
   pub first_log : pairs.stopped ≡ None → one' ≡ after_turns one first
   pub second_log : pairs.stopped ≡ None → two' ≡ after_turns two second
-  pub same : pairs.stopped ≡ None → (loadings : List Loading) → Agree user loadings one two → InStep user loadings one two first second → All (λ pair. pair.0 ≡ pair.1) pairs.replies
-  pub kept : pairs.stopped ≡ None → (loadings : List Loading) → Agree user loadings one two → InStep user loadings one two first second → Agree user loadings one' two'
+  pub same : pairs.stopped ≡ None → (loadings : List Loading) → Agree user loadings one two
+      → InStep user loadings one two first second → All (λ pair. pair.0 ≡ pair.1) pairs.replies
+  pub kept : pairs.stopped ≡ None → (loadings : List Loading) → Agree user loadings one two
+      → InStep user loadings one two first second → Agree user loadings one' two'

@@ -14,30 +14,32 @@ use Rattle.up_wire.specs.declared.requests.Request.{Request}
 use Rattle.up_wire.specs.declared.replies.Reply.{Reply}
 use Rattle.up_wire.specs.declared.replies.Reply.TheVariants as reply
 use Rattle.up_list.specs.Asking.{asked_of}
-use Rattle.up_replay.specs.Logs.{Log}
+use Rattle.up_log_tree.specs.Logs.{Log}
 use Rattle.up_tree.specs.States.{State, entries_of, fixed_of, log_of}
 use Rattle.up_answers.specs.Answers.{added, answer}
 use Rattle.up_answers.specs.Fetching.{Fetched, is_failed, location_eq}
 use Rattle.up_answers.specs.Laws.{IsWhole, Turn}
 use Rattle.up_answers.specs.Routes.{locations_asked}
-use Rattle.up_adding.specs.Steps.{Steps}
+use Rattle.up_commit.specs.Steps.{Steps}
 use Rattle.up_laws.specs.declared.turns.Turn as given
 
 -- a user's request at a moment, with what was loaded and fetched for it
 abbrev pub turn_by : UserName → Request → Loading → Fetched → ℕ → Turn
 turn_by user request loaded fetched now = record { user = user; request = request; loaded = loaded; fetched = fetched; now = now }
 
--- the turns that were handed in
+-- a turn that was handed in
 abbrev pub turn_of : given.Turn → Turn
 turn_of turn = turn_by turn.user turn.request turn.loaded turn.fetched turn.now
 
+-- the turns that were handed in
 abbrev pub turns_of : List given.Turn → List Turn
 turns_of turns = map turn_of turns
 
--- what is answered in a turn over a log, and the records that it adds
+-- what is answered in a turn over a log
 abbrev pub answer_in : Log → Turn → Reply
 answer_in log turn = answer log turn.loaded turn.fetched turn.user turn.request turn.now
 
+-- the records that a turn adds to a log
 abbrev pub added_in : Log → Turn → List Rec
 added_in log turn = added log turn.loaded turn.fetched turn.user turn.request turn.now
 

@@ -2,7 +2,7 @@
 use Rattle.std.specs.Prelude.{◌≡◌, false, List, [], ◌∷◌, Contains}
 use Rattle.up_policy.specs.Loadings.{Loading}
 use Rattle.up_wire.specs.declared.replies.Reply.{Reply}
-use Rattle.up_replay.specs.Logs.{Log}
+use Rattle.up_log_tree.specs.Logs.{Log}
 use Rattle.up_answers.specs.Agreement.{Agree, used}
 use Rattle.up_answers.specs.Laws.{Turn}
 use Rattle.up_laws.specs.Turns.{one_stops}

@@ -3,7 +3,7 @@ ghost use Rattle.std.specs.Prelude.{◌≡◌, ◌<◌, IfOk};
 ghost use Rattle.std.specs.Map.{lookup};
 ghost use Rattle.std.specs.Option.{option_copied};
 ghost use Rattle.up_answers.specs.Fetching.{endpoint_eq, is_failed, location_eq};
-ghost use Rattle.up_changes.specs.Routes.{route_of};
+ghost use Rattle.up_edits.specs.Routes.{route_of};
 ghost use Rattle.up_laws.specs.Turns.{IsMade, any_failed, fetch_failed, stops, turn_by, turn_of};
 
 use std::alloc::{AllocError, Global};

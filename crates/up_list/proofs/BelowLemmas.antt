@@ -9,9 +9,9 @@ use Rattle.up_entry.specs.declared.entries.Entry.{Entry}
 use Rattle.up_entry.specs.declared.entries.Kind.TheVariants.{Directory}
 use Rattle.up_policy.specs.Governors.{first_text, governor, prefixes, prefixes_to}
 use Rattle.up_policy.specs.Trees.{owns_snapshots}
-use Rattle.up_replay.specs.declared.node.Node.{Node}
-use Rattle.up_replay.specs.Rights.{access_node, access_path, facts_of, rules_of}
-use Rattle.up_replay.specs.Fits.{HasDirectory}
+use Rattle.up_log_tree.specs.declared.node.Node.{Node}
+use Rattle.up_log_tree.specs.Rights.{access_node, access_path, facts_of, rules_of}
+use Rattle.up_log_tree.specs.Fits.{HasDirectory}
 use Rattle.up_list.specs.Entries.{entry_of, entry_at}
 use Rattle.up_list.specs.Looks.{Look, rights}
 use Rattle.up_rights.specs.RightSets.{Rights}

@@ -9,9 +9,9 @@ use Rattle.std.proofs.lemmas.Bool.{false≢true}
 use Rattle.up_names.specs.PathNames.{PathName, parent_of}
 use Rattle.up_names.specs.PathOrder.{path_eq, path_cmp}
 use Rattle.up_entry.specs.declared.entries.Entry.{Entry}
-use Rattle.up_replay.specs.declared.node.Node.{Node}
-use Rattle.up_replay.specs.Trees.{Tree, node_at, is_parent}
-use Rattle.up_replay.proofs.Trees.{find-made, made_sorted}
+use Rattle.up_log_tree.specs.declared.node.Node.{Node}
+use Rattle.up_log_tree.specs.Trees.{Tree, node_at, is_parent}
+use Rattle.up_log_tree.proofs.Trees.{find-made, made_sorted}
 use Rattle.up_list.specs.Entries.{entry_of, entry_at, entries_in, nodes_in}
 use Rattle.up_list.specs.Looks.{Look}
 use Rattle.up_list.specs.Places.{IsIn, IsOwned}
@@ -42,13 +42,6 @@ parent_known dir path h = go (parent_of path) refl h
     go : (o : Option PathName) → parent_of path ≡ o → elim o as (λ _. Bool) [ None ↦ false | Some parent ↦ path_eq parent dir ] ≡ true → parent_of path ≡ Some dir
     go None e k = absurd (false≢true k)
     go (Some parent) e k = e ∙ ap Some (eq_same parent dir k)
-
-pub parent_tested : (dir path : PathName) → parent_of path ≡ Some dir → is_parent dir path ≡ true
-unfolding is_parent
-parent_tested dir path h = ap (λ o. elim o as (λ _. Bool) [ None ↦ false | Some parent ↦ path_eq parent dir ]) h ∙ eq_itself dir
-
-if_parent : PathName → PathName → Node → Option Node
-if_parent dir path node = if is_parent dir path then Some node else None
 
 module _ (owner : List ℕ) (tree : Tree) (rooted : IsRooted owner tree) (dir : PathName) where
   record IsChild (item : PathName × Node) : Type 0 where

@@ -11,7 +11,7 @@ use Rattle.up_policy.specs.Trees.{TreeFacts, owns_snapshots}
 use Rattle.up_policy.specs.Governors.{governor}
 use Rattle.up_policy.specs.Loadings.{Loading}
 use Rattle.up_policy.specs.Verdicts.{is_control, only_looks, without_text, text_decides, right_test, rights_held}
-use Rattle.up_replay.specs.Rights.{facts_of, group_paths}
+use Rattle.up_log_tree.specs.Rights.{facts_of, group_paths}
 use Rattle.up_list.specs.Looks.{Look, rights}
 use Rattle.up_list.specs.Deciding.{AreGovernedAlike, decided_for, with_decided, IsDecided}
 use Rattle.up_list.specs.declared.decided.Decided.{Decided}

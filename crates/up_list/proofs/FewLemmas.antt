@@ -10,7 +10,7 @@ use Rattle.up_names.specs.PathNames.{PathName}
 use Rattle.up_names.specs.PathOrder.{path_cmp, path_eq}
 use Rattle.up_entry.specs.declared.records.Rec.{Rec}
 use Rattle.up_entry.specs.declared.records.Rec.TheVariants.{Put, Delete, Snap}
-use Rattle.up_replay.specs.Trees.{Tree, after_record, children, is_parent, tree_of}
+use Rattle.up_log_tree.specs.Trees.{Tree, after_record, children, is_parent, tree_of}
 
 filtered : {X : Type 0} (p : X → Bool) (xs : List X) → length (filter p xs) ≤ length xs
 filtered p xs = omega (arith, length-filter p xs, count_by-le-length p xs)

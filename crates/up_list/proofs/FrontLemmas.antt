@@ -14,10 +14,10 @@ use Rattle.up_pattern.specs.Elements.{literal_of}
 use Rattle.up_pattern.specs.Patterns.{PatternName}
 use Rattle.up_rights.specs.RightSets.{has_any}
 use Rattle.up_wire.specs.declared.replies.Row.{Row}
-use Rattle.up_replay.specs.declared.node.Node.{Node}
-use Rattle.up_replay.specs.Fits.{HasDirectory}
-use Rattle.up_replay.specs.Trees.{Tree, is_link, kind_of, node_at}
-use Rattle.up_replay.proofs.Paths.{length_cut, parent_is, parent_none, path_same, path_other}
+use Rattle.up_log_tree.specs.declared.node.Node.{Node}
+use Rattle.up_log_tree.specs.Fits.{HasDirectory}
+use Rattle.up_log_tree.specs.Trees.{Tree, is_link, kind_of, node_at}
+use Rattle.up_log_tree.proofs.Paths.{length_cut, parent_is, parent_none, path_same, path_other}
 use Rattle.up_list.specs.Entries.{entry_of}
 use Rattle.up_list.specs.Globs.{ends_literal, is_candidate, is_listed, is_literal, is_met, literal_path, literals, matches_front, matches_name, row_of}
 use Rattle.up_list.specs.Looks.{Look, has_some, rights, shown}

@@ -8,7 +8,7 @@ use Rattle.up_names.specs.declared.fault.NameFault.TheVariants.{Element, TooLong
 use Rattle.up_pattern.specs.declared.terms.Term.{Term}
 use Rattle.up_pattern.specs.Elements.{literal_of}
 use Rattle.up_pattern.specs.Patterns.{PatternName, literal_at}
-use Rattle.up_replay.proofs.Paths.{some_none}
+use Rattle.up_log_tree.proofs.Paths.{some_none}
 use Rattle.up_list.specs.Globs.{literal_path, literals}
 use Rattle.up_list.proofs.FrontLemmas.{literals_first, same_path}
 

@@ -8,9 +8,9 @@ use Rattle.up_wire.specs.declared.replies.Reply.TheVariants.{Ok, NotExist}
 use Rattle.up_wire.specs.declared.replies.Done.TheVariants as done
 use Rattle.up_policy.specs.Governors.{prefixes_to}
 use Rattle.up_policy.specs.Trees.{owns_snapshots}
-use Rattle.up_replay.specs.declared.node.Node.{Node}
-use Rattle.up_replay.specs.Trees.{Tree, node_at}
-use Rattle.up_replay.specs.Rights.{access_node, access_path, governing_prefix}
+use Rattle.up_log_tree.specs.declared.node.Node.{Node}
+use Rattle.up_log_tree.specs.Trees.{Tree, node_at}
+use Rattle.up_log_tree.specs.Rights.{access_node, access_path, governing_prefix}
 use Rattle.up_list.specs.Entries.{entry_of, entry_at}
 use Rattle.up_list.specs.Governing.{governing_file}
 use Rattle.up_list.specs.Globs.{one_row}

@@ -6,9 +6,9 @@ use Rattle.std.specs.Option.{option_map, option_and_then, option_or}
 use Rattle.up_names.specs.PathNames.{PathName, cut, parent_of}
 use Rattle.up_entry.specs.declared.entries.Entry.{Entry}
 use Rattle.up_policy.specs.Governors.{prefixes_to}
-use Rattle.up_replay.specs.declared.node.Node.{Node}
-use Rattle.up_replay.specs.Trees.{Tree, node_at, is_link, standing_prefix}
-use Rattle.up_replay.specs.Fits.{HasPlace, HasDirectory}
+use Rattle.up_log_tree.specs.declared.node.Node.{Node}
+use Rattle.up_log_tree.specs.Trees.{Tree, node_at, is_link, standing_prefix}
+use Rattle.up_log_tree.specs.Fits.{HasPlace, HasDirectory}
 use Rattle.up_list.specs.Entries.{entry_of, entry_at, entry_on_way, if_link}
 use Rattle.up_list.specs.Rooted.{IsRooted}
 use Rattle.up_list.specs.Checks.{first_link, link_at, tested, ways, ways_to, ways_before}
@@ -60,10 +60,6 @@ parent_of_cut n path h =
     ∙ ap Some (ap (λ k. cut (k - 1) (cut (suc n) path)) size ∙ (ap (λ k. cut k (cut (suc n) path)) (let e : suc n - 1 ≡ n = omega arith in e) ∙ cut_cut n (suc n) path (omega arith)))
 
 -- ---- what stands at the prefixes
-
-link_of_directory : (tree : Tree) (path : PathName) → HasDirectory tree path → link_at tree path ≡ None
-link_of_directory tree path dir =
-    ap (λ o. option_and_then if_link (option_map entry_of o)) dir.1 ∙ ap (λ kind. if is_link kind then Some dir.0.entry else None) dir.2
 
 module _ (owner : List ℕ) (tree : Tree) (rooted : IsRooted owner tree) (path : PathName) where
   -- above an item stands a directory

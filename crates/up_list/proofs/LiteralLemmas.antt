@@ -5,8 +5,8 @@ use Rattle.std.specs.List.{AllByRecursion}
 use Rattle.std.specs.Option.{option_and_then, option_to_list}
 use Rattle.up_names.specs.PathNames.{PathName, cut, extended, parent_of}
 use Rattle.std.specs.Option.{option_map}
-use Rattle.up_replay.specs.declared.node.Node.{Node}
-use Rattle.up_replay.specs.Trees.{node_at}
+use Rattle.up_log_tree.specs.declared.node.Node.{Node}
+use Rattle.up_log_tree.specs.Trees.{node_at}
 use Rattle.up_names.specs.PathOrder.{path_eq}
 use Rattle.up_entry.specs.declared.entries.Entry.{Entry}
 use Rattle.std.specs.Str.{chars}
@@ -25,8 +25,8 @@ use Rattle.up_list.proofs.PatternLemmas.{here, literal_here}
 use Rattle.std.specs.Prelude.{is_some, ◌||◌}
 use Rattle.up_list.proofs.BelowLemmas.{parent_is}
 use Rattle.std.proofs.lemmas.Slice.Eq.{bytes_eq-Decides}
-use Rattle.up_replay.specs.Trees.{last_element}
-use Rattle.up_replay.proofs.Paths.{last_extended, parent_extended, parent_passes, path_other, path_same}
+use Rattle.up_log_tree.specs.Trees.{last_element}
+use Rattle.up_log_tree.proofs.Paths.{last_extended, parent_extended, parent_passes, path_other, path_same}
 use Rattle.up_list.proofs.MeetLemmas.{size_in}
 use Rattle.up_list.proofs.ChildLemmas.{all_in, all_weaker, one_entry}
 use Rattle.up_list.proofs.PickLemmas.{filter_alike}

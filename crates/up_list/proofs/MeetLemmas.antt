@@ -14,7 +14,7 @@ use Rattle.up_entry.specs.declared.entries.Kind.{Kind}
 use Rattle.up_entry.specs.declared.entries.Kind.TheVariants.{File, Directory, Link}
 use Rattle.up_entry.specs.Rules.{is_directory}
 use Rattle.up_pattern.specs.Patterns.{PatternName}
-use Rattle.up_replay.specs.Trees.{is_link}
+use Rattle.up_log_tree.specs.Trees.{is_link}
 use Rattle.up_list.specs.Deciding.{IsDecided}
 use Rattle.up_list.specs.Looks.{Look, rights}
 use Rattle.up_list.specs.Places.{ArePlaces, IsIn, IsNextLevel, IsPlace, Meets, path_in}
@@ -209,7 +209,3 @@ size_in look at dir entry stands =
     let whole = length_take (length entry.name.elements - 1) entry.name.elements (omega arith) in
     let size = stands.size in
     omega arith
-
--- its name has the owner
-pub owned_in : (look : Look) (at : ℕ) (dir : PathName) (entry : Entry) → IsIn look at dir entry → dir.owner ≡ look.owner → entry.name.owner ≡ look.owner
-owned_in look at dir entry stands owned = ap (λ (p : PathName). p.owner) (parent_is entry.name dir stands.parent).1 ∙ owned

@@ -14,8 +14,8 @@ use Rattle.std.proofs.lemmas.List.Sorted.{sorted_far}
 use Rattle.up_names.specs.PathNames.{PathName}
 use Rattle.up_names.specs.PathOrder.{path_cmp, path_eq}
 use Rattle.up_names.specs.PathOrderLaws.{path_cmp_eq, path_cmp_total}
-use Rattle.up_replay.proofs.Paths.{path_eq_itself, path_same}
-use Rattle.up_replay.proofs.Rising.{greater_below, not_below_itself, not_both_below}
+use Rattle.up_log_tree.proofs.Paths.{path_eq_itself, path_same}
+use Rattle.up_log_tree.proofs.Rising.{greater_below, not_below_itself, not_both_below}
 
 all_from : {X : Type 0} (P : X → Type 0) (xs : List X) → ((j : ℕ) (d : X) → j < length xs → P (slice_index_or xs j d)) → AllByRecursion P xs
 all_from P [] h = tt

@@ -11,10 +11,10 @@ use Rattle.up_wire.specs.declared.replies.Done.TheVariants as done
 use Rattle.up_entry.specs.declared.entries.Entry.{Entry}
 use Rattle.up_entry.specs.declared.entries.Kind.{Kind}
 use Rattle.up_entry.specs.declared.entries.Kind.TheVariants.{File, Directory, Link}
-use Rattle.up_replay.specs.declared.node.Node.{Node}
-use Rattle.up_replay.specs.Fits.{HasDirectory}
-use Rattle.up_replay.specs.Trees.{Tree, is_file, is_link, node_at}
-use Rattle.up_replay.proofs.Paths.{cut_whole, some_none, some_same}
+use Rattle.up_log_tree.specs.declared.node.Node.{Node}
+use Rattle.up_log_tree.specs.Fits.{HasDirectory}
+use Rattle.up_log_tree.specs.Trees.{Tree, is_file, is_link, node_at}
+use Rattle.up_log_tree.proofs.Paths.{cut_whole, some_none, some_same}
 use Rattle.up_list.specs.Checks.{at_link, check, first_link, lacking, link_at, tested, ways, ways_to}
 use Rattle.up_list.specs.Entries.{entry_at, entry_of, if_link}
 use Rattle.up_list.specs.Globs.{kind_refusal, rows, rows_reply}

@@ -15,11 +15,11 @@ use Rattle.up_pattern.specs.Patterns.{PatternName}
 use Rattle.up_entry.specs.Showing.{shown_as}
 use Rattle.up_rights.specs.RightSets.{has_any}
 use Rattle.up_wire.specs.declared.replies.Row.{Row}
-use Rattle.up_replay.specs.declared.node.Node.{Node}
-use Rattle.up_replay.specs.Trees.{node_at, is_parent}
-use Rattle.up_replay.specs.Fits.{HasDirectory}
-use Rattle.up_replay.specs.Trees.{last_element}
-use Rattle.up_replay.proofs.Paths.{extended_last, is_parent-none, is_parent-some, length_cut, parent_is, parent_none, parent_passes, some_none, some_same}
+use Rattle.up_log_tree.specs.declared.node.Node.{Node}
+use Rattle.up_log_tree.specs.Trees.{node_at, is_parent}
+use Rattle.up_log_tree.specs.Fits.{HasDirectory}
+use Rattle.up_log_tree.specs.Trees.{last_element}
+use Rattle.up_log_tree.proofs.Paths.{extended_last, is_parent-none, is_parent-some, length_cut, parent_is, parent_none, parent_passes, some_none, some_same}
 use Rattle.up_list.specs.Entries.{entry_of, entry_at, entries_in}
 use Rattle.up_list.specs.Globs.{is_literal, is_listed, matches_front, matches_name}
 use Rattle.up_list.specs.Looks.{Look, rights}

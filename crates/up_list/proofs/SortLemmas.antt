@@ -17,11 +17,11 @@ use Rattle.up_entry.specs.Rules.{is_directory}
 use Rattle.up_entry.specs.Showing.{shown_as}
 use Rattle.up_pattern.specs.Patterns.{PatternName}
 use Rattle.up_wire.specs.declared.replies.Row.{Row}
-use Rattle.up_replay.specs.declared.node.Node.{Node}
-use Rattle.up_replay.specs.Fits.{HasDirectory}
-use Rattle.up_replay.specs.Trees.{Tree, is_link, kind_of, made_of, node_at}
-use Rattle.up_replay.proofs.Paths.{some_none, some_same}
-use Rattle.up_replay.proofs.Trees.{find-made, made_sorted}
+use Rattle.up_log_tree.specs.declared.node.Node.{Node}
+use Rattle.up_log_tree.specs.Fits.{HasDirectory}
+use Rattle.up_log_tree.specs.Trees.{Tree, is_link, kind_of, made_of, node_at}
+use Rattle.up_log_tree.proofs.Paths.{some_none, some_same}
+use Rattle.up_log_tree.proofs.Trees.{find-made, made_sorted}
 use Rattle.up_list.specs.Entries.{entry_of}
 use Rattle.up_list.specs.Globs.{ends_literal, is_listed, literal_path, literals, matches_front, row_of, rows}
 use Rattle.up_list.specs.Looks.{Look, has_some, rights, shown}

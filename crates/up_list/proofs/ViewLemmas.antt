@@ -12,14 +12,14 @@ use Rattle.up_names.specs.PathOrder.{path_cmp, path_eq}
 use Rattle.up_entry.specs.declared.entries.Entry.{Entry}
 use Rattle.up_entry.specs.declared.records.Rec.{Rec}
 use Rattle.up_policy.specs.Governors.{prefixes_to}
-use Rattle.up_replay.specs.declared.node.Node.{Node}
-use Rattle.up_replay.specs.Fits.{IsLog}
-use Rattle.up_replay.specs.Rights.{access_node, access_path, facts_of, governing_prefix, rules_of}
-use Rattle.up_replay.specs.Trees.{Tree, children, is_parent, made_of, node_at, standing_prefix, tree_of}
-use Rattle.up_replay.proofs.Fronts.{take_next}
-use Rattle.up_replay.proofs.Paths.{cut_cut, cut_whole, length_cut, parent_extended, parent_passes, some_none, some_same}
-use Rattle.up_replay.proofs.Rooted.{rooted}
-use Rattle.up_replay.proofs.Trees.{find-made, made_sorted, tree_sorted}
+use Rattle.up_log_tree.specs.declared.node.Node.{Node}
+use Rattle.up_log_tree.specs.Fits.{IsLog}
+use Rattle.up_log_tree.specs.Rights.{access_node, access_path, facts_of, governing_prefix, rules_of}
+use Rattle.up_log_tree.specs.Trees.{Tree, children, is_parent, made_of, node_at, standing_prefix, tree_of}
+use Rattle.up_log_tree.proofs.Fronts.{take_next}
+use Rattle.up_log_tree.proofs.Paths.{cut_cut, cut_whole, length_cut, parent_extended, parent_passes, some_none, some_same}
+use Rattle.up_log_tree.proofs.Rooted.{rooted}
+use Rattle.up_log_tree.proofs.Trees.{find-made, made_sorted, tree_sorted}
 use Rattle.up_list.specs.Entries.{entries_in, entry_at, entry_of, entry_on_way, nodes_in}
 use Rattle.up_list.specs.Places.{IsIn}
 use Rattle.up_policy.specs.Loadings.{Loading}

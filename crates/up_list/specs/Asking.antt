@@ -10,11 +10,11 @@ use Rattle.up_pattern.specs.declared.fault.PatternFault.{PatternFault}
 use Rattle.up_pattern.specs.declared.fault.PatternFault.TheVariants as fault
 use Rattle.up_pattern.specs.Patterns.{PatternName, pattern_of}
 use Rattle.up_policy.specs.Trees.{owns_snapshots}
-use Rattle.up_replay.specs.Rights.{is_group}
+use Rattle.up_log_tree.specs.Rights.{is_group}
 use Rattle.up_wire.specs.declared.requests.Request.{Request}
 use Rattle.up_wire.specs.declared.requests.Request.TheVariants as request
-use Rattle.up_list.specs.declared.asking.Asked.{Asked}
-use Rattle.up_list.specs.declared.asking.Asked.TheVariants.{Lookup, WhichAccess, GroupText, Delete, Put, Glob, Watch}
+use Rattle.up_list.specs.declared.asking.ReadRequest.{ReadRequest}
+use Rattle.up_list.specs.declared.asking.ReadRequest.TheVariants.{Lookup, WhichAccess, GroupText, Delete, Put, Glob, Watch}
 
 -- what is malformed of a pattern: its name, or the element with this number
 abbrev pub pattern_fault : PatternFault → EntryFault
@@ -32,7 +32,7 @@ pattern_or_fault text = elim (pattern_of text) [
 -- What a user's request asks, or the first rule that it breaks. A path has to be a path text, a pattern a pattern, an entry one
 -- that may be put; GroupText asks of a Group path; a Watch has a sequence of at least -2, and is of no snapshot tree. A
 -- request to the store or the keys names no path.
-unfoldable pub asked_of : UserName → Request → Result Asked EntryFault
+unfoldable pub asked_of : UserName → Request → Result ReadRequest EntryFault
 asked_of user (request.Lookup text) = path_or what.Name text >>= λ path. Ok (Lookup path)
 asked_of user (request.WhichAccess text) = path_or what.Name text >>= λ path. Ok (WhichAccess path)
 asked_of user (request.GroupText text) = do
@@ -54,7 +54,7 @@ asked_of user (request.KeyLookup text) = Err (Invalid what.Name)
 asked_of user (request.KeyPut card) = Err (Invalid what.Name)
 
 -- the owner of the path, or of the pattern, that is asked of
-abbrev pub owner_asked : Asked → UserName
+abbrev pub owner_asked : ReadRequest → UserName
 owner_asked (Lookup path) = path.owner
 owner_asked (WhichAccess path) = path.owner
 owner_asked (GroupText path) = path.owner

@@ -8,9 +8,9 @@ use Rattle.up_wire.specs.declared.replies.Reply.{Reply}
 use Rattle.up_wire.specs.declared.replies.Reply.TheVariants as reply
 use Rattle.up_wire.specs.declared.replies.Done.TheVariants as done
 use Rattle.up_wire.specs.Bounds.{bounded}
-use Rattle.up_replay.specs.declared.node.Node.{Node}
-use Rattle.up_replay.specs.Sizes.{size_of}
-use Rattle.up_replay.specs.Logs.{Log, bytes_of}
+use Rattle.up_log_tree.specs.declared.node.Node.{Node}
+use Rattle.up_log_tree.specs.Sizes.{size_of}
+use Rattle.up_log_tree.specs.Logs.{Log, bytes_of}
 
 -- ---- one test after another, up to the first refusal
 

@@ -7,7 +7,7 @@ use Rattle.up_rights.specs.RightSets.{Rights, has_right, has_any}
 use Rattle.up_entry.specs.declared.entries.Entry.{Entry}
 use Rattle.up_wire.specs.declared.replies.Reply.{Reply}
 use Rattle.up_wire.specs.declared.replies.Reply.TheVariants.{FollowLink, Private, Permission}
-use Rattle.up_replay.specs.Trees.{Tree}
+use Rattle.up_log_tree.specs.Trees.{Tree}
 use Rattle.up_list.specs.Entries.{entry_at, if_link}
 use Rattle.up_list.specs.Looks.{Look, rights, has_some, shown}
 

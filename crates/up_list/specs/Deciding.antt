@@ -5,7 +5,7 @@ use Rattle.up_names.specs.PathNames.{PathName}
 use Rattle.up_rights.specs.RightSets.{Rights}
 use Rattle.up_policy.specs.Governors.{governor}
 use Rattle.up_policy.specs.Verdicts.{is_control}
-use Rattle.up_replay.specs.Rights.{facts_of}
+use Rattle.up_log_tree.specs.Rights.{facts_of}
 use Rattle.up_list.specs.Looks.{Look, rights}
 use Rattle.up_list.specs.declared.decided.Decided.{Decided}
 

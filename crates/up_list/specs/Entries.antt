@@ -7,8 +7,8 @@ use Rattle.up_names.specs.PathNames.{PathName}
 use Rattle.up_names.specs.declared.fault.NameFault.{NameFault}
 use Rattle.up_names.specs.declared.fault.NameFault.TheVariants.{OutOfMemory}
 use Rattle.up_entry.specs.declared.entries.Entry.{Entry}
-use Rattle.up_replay.specs.declared.node.Node.{Node}
-use Rattle.up_replay.specs.Trees.{Tree, node_at, is_parent, is_link, made_of, standing_prefix}
+use Rattle.up_log_tree.specs.declared.node.Node.{Node}
+use Rattle.up_log_tree.specs.Trees.{Tree, node_at, is_parent, is_link, made_of, standing_prefix}
 
 abbrev pub entry_of : Node → Entry
 entry_of node = node.entry

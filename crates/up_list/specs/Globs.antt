@@ -17,8 +17,8 @@ use Rattle.up_wire.specs.declared.replies.Row.{Row}
 use Rattle.up_wire.specs.declared.replies.Reply.{Reply}
 use Rattle.up_wire.specs.declared.replies.Reply.TheVariants.{Ok, NotExist, NotDir}
 use Rattle.up_wire.specs.declared.replies.Done.TheVariants as done
-use Rattle.up_replay.specs.declared.node.Node.{Node}
-use Rattle.up_replay.specs.Trees.{kind_of, is_file, is_link, made_of}
+use Rattle.up_log_tree.specs.declared.node.Node.{Node}
+use Rattle.up_log_tree.specs.Trees.{kind_of, is_file, is_link, made_of}
 use Rattle.up_list.specs.Entries.{entry_at}
 use Rattle.up_list.specs.Looks.{Look, rights, has_some, shown}
 use Rattle.up_list.specs.Checks.{check, ways}

@@ -4,7 +4,7 @@ use Rattle.std.specs.Option.{option_and_then}
 use Rattle.up_names.specs.PathNames.{PathName}
 use Rattle.up_entry.specs.declared.entries.Entry.{Entry}
 use Rattle.up_policy.specs.Trees.{owns_snapshots}
-use Rattle.up_replay.specs.Rights.{access_path, governing_prefix}
+use Rattle.up_log_tree.specs.Rights.{access_path, governing_prefix}
 use Rattle.up_list.specs.Entries.{entry_at}
 use Rattle.up_list.specs.Looks.{Look}
 

@@ -8,9 +8,9 @@ use Rattle.up_entry.specs.declared.entries.Entry.{Entry}
 use Rattle.up_entry.specs.Showing.{shown_as}
 use Rattle.up_policy.specs.Loadings.{Loading}
 use Rattle.up_policy.specs.Verdicts.{rights_held}
-use Rattle.up_replay.specs.Trees.{Tree, tree_at, tree_of}
-use Rattle.up_replay.specs.Rights.{facts_of, group_paths}
-use Rattle.up_replay.specs.Logs.{Log}
+use Rattle.up_log_tree.specs.Trees.{Tree, tree_at, tree_of}
+use Rattle.up_log_tree.specs.Rights.{facts_of, group_paths}
+use Rattle.up_log_tree.specs.Logs.{Log}
 
 -- a tree with its owner, a user, and what was loaded of the groups of other owners in the user's request
 pub record Look : Type 0 where

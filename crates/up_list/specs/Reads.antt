@@ -8,8 +8,8 @@ use Rattle.up_rights.specs.declared.Right.TheVariants as right
 use Rattle.up_wire.specs.declared.replies.Reply.{Reply}
 use Rattle.up_wire.specs.declared.replies.Reply.TheVariants.{Ok, NotExist}
 use Rattle.up_wire.specs.declared.replies.Done.TheVariants as done
-use Rattle.up_replay.specs.declared.node.Node.{Node}
-use Rattle.up_replay.specs.Trees.{node_at, kind_of, is_file}
+use Rattle.up_log_tree.specs.declared.node.Node.{Node}
+use Rattle.up_log_tree.specs.Trees.{node_at, kind_of, is_file}
 use Rattle.up_list.specs.Entries.{entry_at}
 use Rattle.up_list.specs.Looks.{Look, shown}
 use Rattle.up_list.specs.Governing.{governing_file}

@@ -4,9 +4,9 @@ use Rattle.std.specs.FinMap.Entries.{is_sorted}
 use Rattle.up_names.specs.Texts.{UserName}
 use Rattle.up_names.specs.PathNames.{PathName}
 use Rattle.up_names.specs.PathOrder.{path_cmp}
-use Rattle.up_replay.specs.declared.node.Node.{Node}
-use Rattle.up_replay.specs.Trees.{Tree, node_at}
-use Rattle.up_replay.specs.Fits.{HasPlace}
+use Rattle.up_log_tree.specs.declared.node.Node.{Node}
+use Rattle.up_log_tree.specs.Trees.{Tree, node_at}
+use Rattle.up_log_tree.specs.Fits.{HasPlace}
 
 -- The items of an owner's tree stand in order of paths, each at its name; and each is the root or stands in a directory.
 pub record IsRooted (owner : UserName) (tree : Tree) : Type 0 where

@@ -15,11 +15,11 @@ use Rattle.up_entry.specs.declared.entries.Entry.{Entry}
 use Rattle.up_entry.specs.declared.records.Rec.{Rec}
 use Rattle.up_policy.proofs.VerdictLemmas.{at_any}
 use Rattle.up_policy.specs.Loadings.{Loading}
-use Rattle.up_replay.specs.declared.node.Node.{Node}
-use Rattle.up_replay.specs.Rights.{facts_of, group_node, group_paths, is_group_file, items_of}
-use Rattle.up_replay.specs.Trees.{Tree, made_of, node_at, standing_prefix, tree_of}
-use Rattle.up_replay.proofs.Paths.{path_same}
-use Rattle.up_replay.proofs.Trees.{find-made, tree_sorted}
+use Rattle.up_log_tree.specs.declared.node.Node.{Node}
+use Rattle.up_log_tree.specs.Rights.{facts_of, group_node, group_paths, is_group_file, items_of}
+use Rattle.up_log_tree.specs.Trees.{Tree, made_of, node_at, standing_prefix, tree_of}
+use Rattle.up_log_tree.proofs.Paths.{path_same}
+use Rattle.up_log_tree.proofs.Trees.{find-made, tree_sorted}
 use Rattle.up_list.specs.Looks.{Look}
 
 -- a tree's owner, and the records after which it is seen

@@ -10,7 +10,7 @@ use Rattle.up_pattern.specs.Patterns.{PatternName}
 use Rattle.up_entry.specs.Showing.{shown_as}
 use Rattle.up_rights.specs.RightSets.{Rights, has_any}
 use Rattle.up_wire.specs.declared.replies.Row.{Row}
-use Rattle.up_replay.specs.Trees.{is_link}
+use Rattle.up_log_tree.specs.Trees.{is_link}
 use Rattle.up_list.specs.Entries.{entries_in}
 use Rattle.up_list.specs.Globs.{is_literal, matches_name}
 use Rattle.up_list.specs.Looks.{Look, rights}

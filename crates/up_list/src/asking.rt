@@ -4,7 +4,7 @@ ghost use Rattle.up_entry.specs.Checking.{Gives, path_or};
 ghost use Rattle.up_entry.specs.declared.what.What.TheVariants as what;
 ghost use Rattle.up_names.specs.Texts.{UserName};
 ghost use Rattle.up_names.specs.declared.fault.NameFault.TheVariants as name;
-ghost use Rattle.up_replay.specs.Rights.{is_group};
+ghost use Rattle.up_log_tree.specs.Rights.{is_group};
 ghost use Rattle.up_policy.specs.Trees.{owns_snapshots};
 ghost use Rattle.up_wire.specs.declared.requests.Request.TheVariants as request;
 ghost use Rattle.up_list.specs.Asking.{asked_of, owner_asked, pattern_or_fault};
@@ -17,7 +17,7 @@ use up_wire::Request;
 
 /// A request to a directory whose texts were read.
 #[derive(Debug, Drop)]
-pub enum Asked {
+pub enum ReadRequest {
     Lookup(Path),
     WhichAccess(Path),
     /// Of a Group path.
@@ -30,19 +30,19 @@ pub enum Asked {
     Watch(Path, i64),
 }
 
-impl Asked {
+impl ReadRequest {
     /// The owner of the path, or of the pattern, that is asked of.
     pub fn owner(&self) -> &User
         ensures { result.now ≡ owner_asked self.now }
     {
         match self {
-            Asked::Lookup(path)
-            | Asked::WhichAccess(path)
-            | Asked::GroupText(path)
-            | Asked::Delete(path)
-            | Asked::Watch(path, _) => path.owner(),
-            Asked::Put(put) => put.entry.name.owner(),
-            Asked::Glob(pattern) => pattern.owner(),
+            ReadRequest::Lookup(path)
+            | ReadRequest::WhichAccess(path)
+            | ReadRequest::GroupText(path)
+            | ReadRequest::Delete(path)
+            | ReadRequest::Watch(path, _) => path.owner(),
+            ReadRequest::Put(put) => put.entry.name.owner(),
+            ReadRequest::Glob(pattern) => pattern.owner(),
         }
     }
 }
@@ -51,16 +51,19 @@ impl Asked {
 /// may not be put; GroupText does not ask of a Group path; a Watch has a sequence below -2, or is of a snapshot tree. A request
 /// to the store or the keys names no path.
 #[tactic(auto, unfolding(crate::specs::Asking::asked_of))]
-pub fn asked_of(alloc: Global, user: &User, request: &Request) -> Result<Asked, EntryFault>
+pub fn asked_of(alloc: Global, user: &User, request: &Request) -> Result<ReadRequest, EntryFault>
     ensures { Gives (λ asked. asked) result (asked_of user.now request.now) }
 {
     match request {
-        Request::Lookup(text) => Ok(Asked::Lookup(path_asked(alloc, text.as_slice())?)),
-        Request::WhichAccess(text) => Ok(Asked::WhichAccess(path_asked(alloc, text.as_slice())?)),
+        Request::Lookup(text) => Ok(ReadRequest::Lookup(path_asked(alloc, text.as_slice())?)),
+        Request::WhichAccess(text) => Ok(ReadRequest::WhichAccess(path_asked(
+            alloc,
+            text.as_slice(),
+        )?)),
         Request::GroupText(text) => group_asked(alloc, text.as_slice()),
-        Request::Delete(text) => Ok(Asked::Delete(path_asked(alloc, text.as_slice())?)),
-        Request::Put(put) => Ok(Asked::Put(check_entry(alloc, put, user)?)),
-        Request::Glob(text) => Ok(Asked::Glob(pattern_asked(alloc, text.as_slice())?)),
+        Request::Delete(text) => Ok(ReadRequest::Delete(path_asked(alloc, text.as_slice())?)),
+        Request::Put(put) => Ok(ReadRequest::Put(check_entry(alloc, put, user)?)),
+        Request::Glob(text) => Ok(ReadRequest::Glob(pattern_asked(alloc, text.as_slice())?)),
         Request::Watch(text, sequence) => watch_asked(alloc, text.as_slice(), sequence),
         Request::Get(_)
         | Request::StorePut(_)
@@ -72,13 +75,13 @@ pub fn asked_of(alloc: Global, user: &User, request: &Request) -> Result<Asked, 
 
 /// What a GroupText of this text asks.
 #[tactic(auto, unfolding(crate::specs::Asking::asked_of))]
-fn group_asked(alloc: Global, text: &[u8]) -> Result<Asked, EntryFault>
+fn group_asked(alloc: Global, text: &[u8]) -> Result<ReadRequest, EntryFault>
     ensures { (user : UserName)
         → Gives (λ asked. asked) result (asked_of user (request.GroupText text.now)) }
 {
     let path = path_asked(alloc, text)?;
     if is_group(&path) {
-        return Ok(Asked::GroupText(path));
+        return Ok(ReadRequest::GroupText(path));
     }
     drop(path);
     Err(EntryFault::Invalid(What::GroupName))
@@ -86,13 +89,13 @@ fn group_asked(alloc: Global, text: &[u8]) -> Result<Asked, EntryFault>
 
 /// What a Watch of this text asks.
 #[tactic(auto, unfolding(crate::specs::Asking::asked_of))]
-fn watch_asked(alloc: Global, text: &[u8], sequence: &i64) -> Result<Asked, EntryFault>
+fn watch_asked(alloc: Global, text: &[u8], sequence: &i64) -> Result<ReadRequest, EntryFault>
     ensures { (user : UserName)
         → Gives (λ asked. asked) result (asked_of user (request.Watch text.now sequence.now)) }
 {
     let path = path_asked(alloc, text)?;
     match broken_by_watch(&path, *sequence) {
-        None => Ok(Asked::Watch(path, *sequence)),
+        None => Ok(ReadRequest::Watch(path, *sequence)),
         Some(what) => {
             drop(path);
             Err(EntryFault::Invalid(what))

@@ -3,7 +3,7 @@ ghost use Rattle.std.specs.Prelude.{◌≡◌, ◌∷◌, [], IfOk, None, OnOk, 
 ghost use Rattle.std.specs.List.Sorted.{IsSortedBy, IsStableBy};
 ghost use Rattle.std.specs.Option.{option_map, option_or};
 ghost use Rattle.up_names.specs.PathNames.{extended};
-ghost use Rattle.up_replay.specs.Fits.{HasDirectory};
+ghost use Rattle.up_log_tree.specs.Fits.{HasDirectory};
 ghost use Rattle.up_rights.specs.declared.Right.TheVariants as right;
 ghost use Rattle.up_list.specs.Checks.{check, ways};
 ghost use Rattle.up_list.specs.Entries.{entry_at};

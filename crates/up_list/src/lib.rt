@@ -30,7 +30,7 @@ mod tree_view;
 mod view;
 mod walk;
 
-pub use asking::{Asked, asked_of};
+pub use asking::{ReadRequest, asked_of};
 pub use checks::check;
 pub use found::Found;
 pub use globs::glob_for;

@@ -2,8 +2,8 @@
 ghost use Rattle.std.specs.Prelude.{◌≡◌, IfOk, is_some, map};
 ghost use Rattle.std.specs.Option.{option_map};
 ghost use Rattle.up_names.specs.PathNames.{extended};
-ghost use Rattle.up_replay.specs.Trees.{node_at};
-ghost use Rattle.up_replay.specs.Rights.{access_node};
+ghost use Rattle.up_log_tree.specs.Trees.{node_at};
+ghost use Rattle.up_log_tree.specs.Rights.{access_node};
 ghost use Rattle.up_list.specs.Founds.{entry_found};
 ghost use Rattle.up_list.specs.Governing.{governing_file};
 ghost use Rattle.up_list.specs.Looks.{Look, rights};

@@ -1,7 +1,7 @@
 //! Links and Glob of a tree over its log.
 ghost use Rattle.std.specs.Prelude.{◌≡◌, ◌≢◌, true, IfOk};
 ghost use Rattle.std.specs.Option.{option_and_then, option_copied, option_map};
-ghost use Rattle.up_replay.specs.Trees.{tree_of};
+ghost use Rattle.up_log_tree.specs.Trees.{tree_of};
 ghost use Rattle.up_wire.specs.Bounds.{bounded};
 ghost use Rattle.up_wire.specs.declared.replies.Reply.TheVariants.{OutOfMemory};
 ghost use Rattle.up_list.specs.Checks.{first_link, tested, ways_before};
@@ -14,11 +14,11 @@ use crate::view::{TreeLook, standing};
 use std::alloc::{AllocError, Global};
 use up_disk::Disk;
 use up_entry::{Entry, Kind};
+use up_log_tree::Node;
+use up_mem_tree::MemTree;
 use up_names::{Path, User};
-use up_nodes::MemTree;
 use up_pattern::Pattern;
 use up_policy::Loaded;
-use up_replay::Node;
 use up_tree::TreeState;
 use up_wire::{Reply, bounded};
 

@@ -1,8 +1,8 @@
 //! The tree over a log, as it is or as it was: what rights are read by.
 ghost use Rattle.std.specs.Prelude.{◌≡◌, ◌≤◌, length, take};
 ghost use Rattle.up_list.specs.Seen.{group_listed};
-ghost use Rattle.up_replay.specs.Rights.{facts_of, group_paths};
-ghost use Rattle.up_replay.specs.Trees.{tree_of};
+ghost use Rattle.up_log_tree.specs.Rights.{facts_of, group_paths};
+ghost use Rattle.up_log_tree.specs.Trees.{tree_of};
 
 use std::marker::Model;
 use up_access::AccessText;
@@ -57,7 +57,7 @@ impl<D: Disk> Facts for TreeView<'_, D> {
 
     ghost group_paths = { λ seen. group_paths (tree_of seen.records) };
 
-    #[tactic(auto, unfolding(up_replay::specs::Rights::facts_of))]
+    #[tactic(auto, unfolding(up_log_tree::specs::Rights::facts_of))]
     fn owner(&self) -> &User {
         self.state.owner()
     }

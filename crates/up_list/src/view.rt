@@ -8,8 +8,8 @@ ghost use Rattle.up_list.specs.Founds.{entry_found};
 ghost use Rattle.up_list.specs.Reads.{file_text};
 ghost use Rattle.up_list.specs.Rooted.{IsRooted};
 ghost use Rattle.up_list.specs.Seen.{group_listed, has_name, look_of};
-ghost use Rattle.up_replay.specs.Rights.{access_path, facts_of, governing_prefix, group_paths};
-ghost use Rattle.up_replay.specs.Trees.{node_at, tree_of};
+ghost use Rattle.up_log_tree.specs.Rights.{access_path, facts_of, governing_prefix, group_paths};
+ghost use Rattle.up_log_tree.specs.Trees.{node_at, tree_of};
 
 use crate::found::Found;
 use crate::globs::within;
@@ -20,10 +20,10 @@ use up_access::AccessText;
 use up_bytes::Bytes;
 use up_entry::{Entry, Kind};
 use up_group::GroupText;
+use up_log_tree::Node;
+use up_mem_tree::MemTree;
 use up_names::{NameFault, Path, User, parse_path};
-use up_nodes::MemTree;
 use up_policy::{Facts, Loaded, rights_of};
-use up_replay::Node;
 use up_rights::RightSet;
 
 /// A tree as it was after the first records of its log: what rights are read by. It parses nothing.
@@ -71,7 +71,7 @@ impl Facts for MemView<'_> {
 
     ghost group_paths = { λ seen. group_paths (tree_of seen.records) };
 
-    #[tactic(auto, unfolding(up_replay::specs::Rights::facts_of))]
+    #[tactic(auto, unfolding(up_log_tree::specs::Rights::facts_of))]
     fn owner(&self) -> &User {
         self.tree.owner()
     }
@@ -141,7 +141,7 @@ impl Onlooker for TreeLook<'_> {
         self.tree.owner()
     }
 
-    #[tactic(auto, unfolding(crate::specs::Looks::rights, up_replay::specs::Rights::facts_of))]
+    #[tactic(auto, unfolding(crate::specs::Looks::rights, up_log_tree::specs::Rights::facts_of))]
     fn rights(&self, alloc: Global, path: &Path) -> Result<RightSet, AllocError> {
         rights_of(alloc, &self.view, self.loaded, self.user, path)
     }

@@ -4,7 +4,7 @@ ghost use Rattle.std.specs.List.{AllByRecursion};
 ghost use Rattle.std.specs.Option.{option_map, option_to_list};
 ghost use Rattle.up_entry.specs.Showing.{shown_as};
 ghost use Rattle.up_names.specs.PathNames.{PathName};
-ghost use Rattle.up_replay.specs.Rights.{access_node};
+ghost use Rattle.up_log_tree.specs.Rights.{access_node};
 ghost use Rattle.up_list.specs.Entries.{entry_at};
 ghost use Rattle.up_list.specs.Deciding.{IsDecided};
 ghost use Rattle.up_list.specs.Founds.{entry_found};

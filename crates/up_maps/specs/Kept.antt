@@ -1,7 +1,7 @@
 -- How a list is kept that may be long or short. This project's own.
 use Rattle.std.specs.Prelude.{◌≡◌, ◌≤◌, ◌<◌, Bool, true, List, vec_len, vec_capacity}
-use Rattle.up_maps.specs.declared.pieces.Shape.{Shape}
-use Rattle.up_maps.specs.declared.pieces.Shape.TheVariants.{Short, Long}
+use Rattle.up_maps.specs.declared.long_list.Shape.{Shape}
+use Rattle.up_maps.specs.declared.long_list.Shape.TheVariants.{Short, Long}
 
 -- its items
 abbrev pub items_of : {T : Type 0} → Shape T → List T

@@ -1,7 +1,7 @@
 //! A long ordered list, and a finite map whose entries stand in the order of their keys; both are kept in pieces, so that an
 //! insert or a remove moves one piece at most.
 //!
-//! Contracts see [`Pieces`] as the list of its items and whether the next insert takes no memory. `get` answers exactly
+//! Contracts see [`LongList`] as the list of its items and whether the next insert takes no memory. `get` answers exactly
 //! the item at a place. After an `Ok` of `reserve_one` (`ready`) the next `insert_reserved` takes no memory wherever it
 //! falls, and puts exactly that item at exactly that place (`items`); `remove` takes out exactly the item at a place
 //! (`item`, `items`). `find` answers a place with an item below the key before it and none below at it (`before`,
@@ -20,12 +20,12 @@
 
 mod below;
 mod long;
+mod long_list;
 mod map;
 mod piece;
-mod pieces;
 mod places;
 mod table;
 
 pub use below::Below;
+pub use long_list::LongList;
 pub use map::OrderedMap;
-pub use pieces::Pieces;

@@ -7,7 +7,7 @@ ghost use Rattle.std.specs.Map.{keys_of};
 ghost use Rattle.up_maps.specs.Maps.{IsPlaceOf, value_at};
 
 use crate::below::Below;
-use crate::pieces::Pieces;
+use crate::long_list::LongList;
 use std::alloc::{AllocError, Global};
 use std::cmp::Ordering;
 use std::marker::Model;
@@ -15,7 +15,7 @@ use std::marker::Model;
 /// A finite map, seen as its entries in the order of their keys and whether the next one takes no memory.
 #[derive(Debug, Drop)]
 pub struct OrderedMap<K: Ord, V> {
-    entries: Pieces<(K, V)>,
+    entries: LongList<(K, V)>,
 }
 
 impl<K: Ord, V> Model for OrderedMap<K, V> {
@@ -48,7 +48,7 @@ impl<K: Ord + Drop, V: Drop> OrderedMap<K, V> {
         ensures { result.entries ≡ [] }
     {
         OrderedMap {
-            entries: Pieces::new(alloc),
+            entries: LongList::new(alloc),
         }
     }
 

@@ -6,7 +6,7 @@ use Rattle.up_names.specs.Texts.{Text, UserName}
 use Rattle.up_names.specs.UserNames.{user_of}
 use Rattle.up_policy.specs.Trees.{owns_snapshots}
 
--- a user who may own a tree: no snapshot user
+-- a user, where it may own a tree: no snapshot user
 abbrev pub if_owner : UserName → Option UserName
 if_owner user = if owns_snapshots user then None else Some user
 

@@ -1,7 +1,7 @@
 //! The line that is printed of a log that does not open.
 ghost use Rattle.std.specs.Prelude.{◌≡◌, ◌≤◌, ◌++◌, [], codes, decimal, IfOk, OnOk};
 ghost use Rattle.up_command.specs.Statuses.{code_of};
-ghost use Rattle.up_lists.specs.Counts.{Rose};
+ghost use Rattle.up_lists.specs.Counts.{Rose, StaysUnless};
 ghost use Rattle.up_refs.specs.References.{text_of};
 ghost use Rattle.up_reports.specs.Telling.{AnswersOne, IsLast, TellsLast, chain_at, damaged_at, old_format_at, refused_by, told_of};
 
@@ -26,6 +26,7 @@ pub fn tell_refused<K: Sink>(alloc: Global, sink: &mut K, refused: Refused) -> u
     ensures answers { AnswersOne (K.held sink.old) (K.held sink.new) (told_of refused) result }
     ensures cause { result ≡ 3 → Rose (K.faults sink.old) (K.faults sink.new) }
     ensures later { K.faults sink.old ≤ K.faults sink.new }
+    ensures quiet { StaysUnless (K.faults sink.old) (K.faults sink.new) (result ≡ 3) }
 {
     let last = refused_line(alloc, refused.which, refused.why);
     tell(sink, last)
@@ -38,6 +39,7 @@ fn tell<K: Sink>(sink: &mut K, last: Result<Last, AllocError>) -> u8
     ensures tells { TellsLast (K.held sink.old) (K.held sink.new) last result }
     ensures cause { result ≡ 3 → Rose (K.faults sink.old) (K.faults sink.new) }
     ensures later { K.faults sink.old ≤ K.faults sink.new }
+    ensures quiet { StaysUnless (K.faults sink.old) (K.faults sink.new) (result ≡ 3) }
 {
     match last {
         Ok(last) => match write_all(sink, &last.line) {

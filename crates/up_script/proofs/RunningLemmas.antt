@@ -3,6 +3,8 @@ use Rattle.std.proofs.Common.{◌≡◌, ◌≤◌, ◌<◌, ◌-◌, ◌^◌, �
 use Rattle.std.proofs.lemmas.Grind.{flat_map-append}
 use Rattle.std.proofs.lemmas.List.Sums.{sum_by-append, sum_by-cons}
 use Rattle.std.specs.Io.KnownBytes.{Appends}
+use Rattle.std.specs.Prelude.{IsErrOf}
+use Rattle.up_lists.specs.Counts.{StaysUnless}
 use Rattle.up_ends.specs.Writing.{Going, WritesPart}
 use Rattle.up_ends.proofs.Going.{Going-all, Going-more, Going-none, WritesPart-all, WritesPart-none}
 use Rattle.up_lists.proofs.Causes.{Rose-after}
@@ -25,6 +27,13 @@ use Rattle.up_command.specs.declared.output.Stop.TheVariants as out
 use Rattle.up_command.specs.declared.status.Status.{Status}
 use Rattle.up_script.specs.declared.stop.LineStop.{LineStop}
 use Rattle.up_script.specs.declared.stop.LineStop.TheVariants as stop
+
+-- a write that did not fail left the count as it was
+not_both : {X : Type 0} {x : X} {e : Stop} → ◌≡◌ {A = Result X Stop} (Ok x) (Err e) → ⊥
+not_both both = absurd (cc)
+
+pub still_written : {X : Type 0} {x : X} (before mid now : ℕ) (result : Result X Stop) → result ≡ Ok x → StaysUnless mid now (IsErrOf result out.WriteFault) → mid ≡ before → now ≡ before
+still_written before mid now result was quiet same = quiet.stays (λ bad. not_both (sym was ∙ bad)) ∙ same
 
 module _ {D P V C N : Type 0} (who : Parties D P V C N) (limits : Limits) where
   -- Some first lines were done, and what they print was written, but for what is gathered.

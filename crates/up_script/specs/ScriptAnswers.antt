@@ -24,13 +24,14 @@ code_by (Ok status) = code_of status
 code_by (Err stop.WriteFault) = 3
 code_by (Err stop.OutOfMemory) = 4
 
--- the hosts, with what stands around them
+-- these hosts, with what stands around them
 abbrev pub among : {D P V C N : Type 0} → Hosts D → Around P V C N → World D P V C N
 among state around = record { state = state; around = around }
 
 -- Of the input, which is what the source had left where it tells that: its lines were run from the beginning, with hosts over these
 -- disks. All disks are back in their places, and a crash now leaves of each log of each host that log, or it with its doubtful record.
-pub record Means {D P V C N : Type 0} (who : Parties D P V C N) (limits : Limits) (left old new : Option Text) (given back : List D) (before after : Around P V C N) (status : ℕ) : Type 0 where
+pub record Means {D P V C N : Type 0} (who : Parties D P V C N) (limits : Limits) (left old new : Option Text)
+    (given back : List D) (before after : Around P V C N) (status : ℕ) : Type 0 where
   pub input : Text
   pub told : IfSome left (λ bytes. input ≡ bytes)
   pub state : Hosts D

@@ -14,11 +14,11 @@ use Rattle.up_script.specs.Scripts.{Came, Did, LineCame, io_in, said}
 use Rattle.up_script.specs.declared.stop.LineStop.{LineStop}
 use Rattle.up_script.specs.declared.stop.LineStop.TheVariants as stop
 
--- all that is printed
+-- what is printed of all that lines did, in order
 abbrev pub printed : List Did → Text
 printed dids = flat_map said dids
 
--- how many lines `io` that has
+-- how many lines `io` are printed of all that lines did
 abbrev pub io_lines : List Did → ℕ
 io_lines dids = sum_by io_in dids
 
@@ -29,7 +29,7 @@ stop_code stop.HelperFault = 5
 stop_code stop.DiskFault = 6
 stop_code stop.OutOfMemory = 4
 
--- and the text that it writes last: a malformed line, whose number this is, is named
+-- the text that a run writes last, where a line was not done: a malformed line is named by its number, and of all else nothing is said
 abbrev pub stop_text : ℕ → LineStop → Text
 stop_text number stop.Malformed = bad_line number
 stop_text number why = []
@@ -39,7 +39,7 @@ abbrev pub is_cut : ℕ → Bool
 is_cut status = (status == 3) || (status == 4)
 
 module _ {D P V C N : Type 0} (who : Parties D P V C N) (limits : Limits) where
-  -- a line did something
+  -- a line did something, and did not end the run
   abbrev pub LineDoes : World D P V C N → Text → Did → World D P V C N → Type 0
   LineDoes a line did b = LineCame who limits a line (Ok did) b
 
@@ -47,7 +47,8 @@ module _ {D P V C N : Type 0} (who : Parties D P V C N) (limits : Limits) where
   -- last, and the status: there is no line left; or the next one was not done; or no more could be written.
   pub data Ends (last : World D P V C N) (number : ℕ) : List Text → Text → ℕ → World D P V C N → Type 0 where
     at_end : Ends last number [] [] 0 last
-    stopped : {line : Text} {more : List Text} {b : World D P V C N} (why : LineStop) → LineCame who limits last line (Err why) b → Ends last number (line ∷ more) (stop_text number why) (stop_code why) b
+    stopped : {line : Text} {more : List Text} {b : World D P V C N} (why : LineStop)
+        → LineCame who limits last line (Err why) b → Ends last number (line ∷ more) (stop_text number why) (stop_code why) b
     unwritten : {left : List Text} → Ends last number left [] 3 last
 
   -- From one world to another: the lines that were done, each with what it did, how that ended, and what was written. The text is written

@@ -44,6 +44,7 @@ use Rattle.up_script.specs.declared.stop.LineStop.TheVariants as stop
 
 -- ---- what a line did, and the text that it prints
 
+-- what a line did, with what is printed of it: a name, the session's number, the count of records of full keys, a reply, or a result
 pub data Did : Type 0 where
   Nothing : Did
   HostOpened : Text → Did
@@ -57,7 +58,7 @@ pub data Did : Type 0 where
   Put : ℕ → Result ℕ ClientFault → Did
   Got : ℕ → Result (List ℕ) ClientFault → Did
 
--- the text that is printed
+-- the text that is printed of what a line did
 abbrev pub said : Did → Text
 said Did.Nothing = []
 said (Did.HostOpened name) = ended (codes "host " ++ name)
@@ -71,7 +72,7 @@ said (Did.Replied number given) = all_numbered number (reply_lines given)
 said (Did.Put number result) = all_numbered number (put_lines result)
 said (Did.Got number result) = all_numbered number (got_lines result)
 
--- how many lines `io` that is
+-- how many lines `io` are printed of what a line did
 abbrev pub io_in : Did → ℕ
 io_in (Did.Replied number given) = io_of given
 io_in (Did.Put number result) = talking.io_in result
@@ -90,24 +91,32 @@ place_of a name = position (is_named name) a.hosts
 
 -- A host is new: there are fewer than 8, none has its name, and none has one of its trees.
 abbrev pub is_new : {D : Type 0} → Hosts D → NewHost → Bool
-is_new a host = nat_lt (length a.hosts) 8 && is_none (place_of a host.name) && list_all (λ owner. not (list_any (has_tree owner) a.hosts)) host.owners
+is_new a host =
+    nat_lt (length a.hosts) 8 && is_none (place_of a host.name) && list_all (λ owner. not (list_any (has_tree owner) a.hosts)) host.owners
 
 module _ {D : Type 0} (disks : disk.Ghosts D) (limits : Limits) where
   -- `host`: a new one is opened over the next disks, unless one of them fails
   pub data HostCame (host : NewHost) (a : Hosts D) : Came → Hosts D → Type 0 where
-    opened : {b : Hosts D} → is_new a host ≡ true → OpensNext disks limits host.name host.operator host.owners a (Ok tt) b → HostCame host a (Ok (Did.HostOpened host.name)) b
+    opened : {b : Hosts D} → is_new a host ≡ true → OpensNext disks limits host.name host.operator host.owners a (Ok tt) b
+        → HostCame host a (Ok (Did.HostOpened host.name)) b
     not_new : is_new a host ≡ false → HostCame host a (Err stop.Malformed) a
-    failed : {b : Hosts D} → is_new a host ≡ true → OpensNext disks limits host.name host.operator host.owners a (Err fault.Fault) b → HostCame host a (Err stop.DiskFault) b
-    wanting : {b : Hosts D} → is_new a host ≡ true → OpensNext disks limits host.name host.operator host.owners a (Err fault.OutOfMemory) b → HostCame host a (Err stop.OutOfMemory) b
+    failed : {b : Hosts D} → is_new a host ≡ true → OpensNext disks limits host.name host.operator host.owners a (Err fault.Fault) b
+        → HostCame host a (Err stop.DiskFault) b
+    wanting : {b : Hosts D} → is_new a host ≡ true → OpensNext disks limits host.name host.operator host.owners a (Err fault.OutOfMemory) b
+        → HostCame host a (Err stop.OutOfMemory) b
 
 module _ {D : Type 0} (disks : disk.Ghosts D) where
-  -- `enrol`: a record without endpoints is put to the keys of the host with the name
+  -- `enrol`: a key record that names no endpoints is put to the keys of the host with the name
   pub data EnrolCame (user : NewUser) (a : Hosts D) : Came → Hosts D → Type 0 where
-    enrolled : {place position : ℕ} {b : Hosts D} → place_of a user.host ≡ Some place → EnrolsAt disks place user.user user.key a (Ok position) b → EnrolCame user a (Ok (Did.Enrolled user.user)) b
-    full : {place records : ℕ} {b : Hosts D} → place_of a user.host ≡ Some place → EnrolsAt disks place user.user user.key a (Err (append.Full records)) b → EnrolCame user a (Ok (Did.EnrolFull records)) b
+    enrolled : {place position : ℕ} {b : Hosts D} → place_of a user.host ≡ Some place
+        → EnrolsAt disks place user.user user.key a (Ok position) b → EnrolCame user a (Ok (Did.Enrolled user.user)) b
+    full : {place records : ℕ} {b : Hosts D} → place_of a user.host ≡ Some place
+        → EnrolsAt disks place user.user user.key a (Err (append.Full records)) b → EnrolCame user a (Ok (Did.EnrolFull records)) b
     unknown : place_of a user.host ≡ None → EnrolCame user a (Err stop.Malformed) a
-    failed : {place : ℕ} {b : Hosts D} → place_of a user.host ≡ Some place → EnrolsAt disks place user.user user.key a (Err append.Fault) b → EnrolCame user a (Err stop.DiskFault) b
-    wanting : {place : ℕ} {b : Hosts D} → place_of a user.host ≡ Some place → EnrolsAt disks place user.user user.key a (Err append.OutOfMemory) b → EnrolCame user a (Err stop.OutOfMemory) b
+    failed : {place : ℕ} {b : Hosts D} → place_of a user.host ≡ Some place
+        → EnrolsAt disks place user.user user.key a (Err append.Fault) b → EnrolCame user a (Err stop.DiskFault) b
+    wanting : {place : ℕ} {b : Hosts D} → place_of a user.host ≡ Some place
+        → EnrolsAt disks place user.user user.key a (Err append.OutOfMemory) b → EnrolCame user a (Err stop.OutOfMemory) b
     unmade : EnrolCame user a (Err stop.OutOfMemory) a
 
 -- what is said of a sign-on that opened the session, or did not
@@ -118,10 +127,16 @@ signed number false = Did.NotSigned number
 module _ {D V N : Type 0} (verifiers : verifier.Ghosts V) (drawn : nonces.Ghosts N) where
   -- `open`: a user signs on at the host with the name, unless the verifier fails
   pub data OpenCame (s : NewSession) (a : Hosts D) (v : V) (n : N) : Came → Hosts D → V → N → Type 0 where
-    judged : {place : ℕ} {is_open : Bool} {b : Hosts D} {w : V} {m : N} → place_of a s.host ≡ Some place → SignsOn verifiers drawn s.number place s.user s.proof a v n (Ok is_open) b w m → OpenCame s a v n (Ok (signed s.number is_open)) b w m
+    judged : {place : ℕ} {is_open : Bool} {b : Hosts D} {w : V} {m : N} → place_of a s.host ≡ Some place
+        → SignsOn verifiers drawn s.number place s.user s.proof a v n (Ok is_open) b w m
+        → OpenCame s a v n (Ok (signed s.number is_open)) b w m
     unknown : place_of a s.host ≡ None → OpenCame s a v n (Err stop.Malformed) a v n
-    failed : {place : ℕ} {b : Hosts D} {w : V} {m : N} → place_of a s.host ≡ Some place → SignsOn verifiers drawn s.number place s.user s.proof a v n (Err fault.Fault) b w m → OpenCame s a v n (Err stop.HelperFault) b w m
-    wanting : {place : ℕ} {b : Hosts D} {w : V} {m : N} → place_of a s.host ≡ Some place → SignsOn verifiers drawn s.number place s.user s.proof a v n (Err fault.OutOfMemory) b w m → OpenCame s a v n (Err stop.OutOfMemory) b w m
+    failed : {place : ℕ} {b : Hosts D} {w : V} {m : N} → place_of a s.host ≡ Some place
+        → SignsOn verifiers drawn s.number place s.user s.proof a v n (Err fault.Fault) b w m
+        → OpenCame s a v n (Err stop.HelperFault) b w m
+    wanting : {place : ℕ} {b : Hosts D} {w : V} {m : N} → place_of a s.host ≡ Some place
+        → SignsOn verifiers drawn s.number place s.user s.proof a v n (Err fault.OutOfMemory) b w m
+        → OpenCame s a v n (Err stop.OutOfMemory) b w m
 
 -- ---- sessions
 
@@ -130,11 +145,12 @@ abbrev pub replied : ℕ → Reply → Came
 replied number reply.OutOfMemory = Err stop.OutOfMemory
 replied number given = Ok (Did.Replied number given)
 
--- and of what came of a put or get
+-- what is said of a put, by its result; want of memory ends the run
 abbrev pub put_said : ℕ → Result ℕ ClientFault → Came
 put_said number (Err client.OutOfMemory) = Err stop.OutOfMemory
 put_said number result = Ok (Did.Put number result)
 
+-- what is said of a get, by its result; want of memory ends the run
 abbrev pub got_said : ℕ → Result (List ℕ) ClientFault → Came
 got_said number (Err client.OutOfMemory) = Err stop.OutOfMemory
 got_said number result = Ok (Did.Got number result)
@@ -144,23 +160,30 @@ module _ {D P C : Type 0} (disks : disk.Ghosts D) (peers : loader.Ghosts P) (clo
   -- the session is not open.
   pub data AskCame (number : ℕ) (words : List Text) (a : Hosts D) (p : P) (c : C) : Came → Hosts D → P → C → Type 0 where
     no_session : session_at a number ≡ None → AskCame number words a p c (Ok (Did.NoSession number)) a p c
-    asked : {opened : Opened} {request : Request} {moment : ℕ} {e : Event} {b : Hosts D} {q : P} {d : C} → session_at a number ≡ Some opened → request_of opened.session.user words ≡ Some request
-        → Gives (clocks.coming c) moment (clocks.coming d) → AsksHost disks peers opened.place (record { user = opened.session.user; request = request }) moment e a p b q
+    asked : {opened : Opened} {request : Request} {moment : ℕ} {e : Event} {b : Hosts D} {q : P} {d : C}
+        → session_at a number ≡ Some opened → request_of opened.session.user words ≡ Some request
+        → Gives (clocks.coming c) moment (clocks.coming d)
+        → AsksHost disks peers opened.place (record { user = opened.session.user; request = request }) moment e a p b q
         → AskCame number words a p c (replied number e.reply) b q d
     wanting : AskCame number words a p c (Err stop.OutOfMemory) a p c
 
   -- what the client does at one moment for the user of a session
-  pub data CallDone (opened : Opened) (number moment : ℕ) (path : PathName) (a : Hosts D) (p : P) : ClientLine → Came → Hosts D → P → Type 0 where
-    put : {name bytes : Text} {time sequence : ℤ} {result : Result ℕ ClientFault} {b : Hosts D} {q : P} → PutsAt disks peers opened.place opened.session.user moment path time sequence bytes result a p b q
+  pub data CallDone (opened : Opened) (number moment : ℕ) (path : PathName)
+      (a : Hosts D) (p : P) : ClientLine → Came → Hosts D → P → Type 0 where
+    put : {name bytes : Text} {time sequence : ℤ} {result : Result ℕ ClientFault} {b : Hosts D} {q : P}
+        → PutsAt disks peers opened.place opened.session.user moment path time sequence bytes result a p b q
         → CallDone opened number moment path a p (calls.Put name time sequence bytes) (put_said number result) b q
-    got : {name : Text} {result : Result (List ℕ) ClientFault} {b : Hosts D} {q : P} → GetsAt disks peers opened.place opened.session.user moment path result a p b q
+    got : {name : Text} {result : Result (List ℕ) ClientFault} {b : Hosts D} {q : P}
+        → GetsAt disks peers opened.place opened.session.user moment path result a p b q
         → CallDone opened number moment path a p (calls.Get name) (got_said number result) b q
 
   -- The client's put or get: the clock is read once, also where the path is none; nothing is done where the session is not open.
   pub data CallCame (number : ℕ) (call : ClientLine) (a : Hosts D) (p : P) (c : C) : Came → Hosts D → P → C → Type 0 where
     no_session : session_at a number ≡ None → CallCame number call a p c (Ok (Did.NoSession number)) a p c
-    bad_path : {opened : Opened} {moment : ℕ} {d : C} → session_at a number ≡ Some opened → call_path call ≡ None → Gives (clocks.coming c) moment (clocks.coming d) → CallCame number call a p c (Ok (Did.BadPath number)) a p d
-    called : {opened : Opened} {path : PathName} {moment : ℕ} {came : Came} {b : Hosts D} {q : P} {d : C} → session_at a number ≡ Some opened → call_path call ≡ Some path → Gives (clocks.coming c) moment (clocks.coming d)
+    bad_path : {opened : Opened} {moment : ℕ} {d : C} → session_at a number ≡ Some opened → call_path call ≡ None
+        → Gives (clocks.coming c) moment (clocks.coming d) → CallCame number call a p c (Ok (Did.BadPath number)) a p d
+    called : {opened : Opened} {path : PathName} {moment : ℕ} {came : Came} {b : Hosts D} {q : P} {d : C}
+        → session_at a number ≡ Some opened → call_path call ≡ Some path → Gives (clocks.coming c) moment (clocks.coming d)
         → CallDone opened number moment path a p call came b q → CallCame number call a p c came b q d
     wanting : CallCame number call a p c (Err stop.OutOfMemory) a p c
 
@@ -173,14 +196,18 @@ module _ {D P V C N : Type 0} (who : Parties D P V C N) (limits : Limits) where
   SaysCame a (lines.Host host) came b = HostCame who.disks limits host a.state came b.state × (b.around ≡ a.around)
   SaysCame a (lines.Enrol user) came b = EnrolCame who.disks user a.state came b.state × (b.around ≡ a.around)
   SaysCame a (lines.Open session) came b =
-      OpenCame who.verifiers who.nonces session a.state a.around.verifier a.around.nonces came b.state b.around.verifier b.around.nonces × (b.around.peers ≡ a.around.peers) × (b.around.clock ≡ a.around.clock)
+      OpenCame who.verifiers who.nonces session a.state a.around.verifier a.around.nonces came b.state b.around.verifier b.around.nonces
+      × (b.around.peers ≡ a.around.peers) × (b.around.clock ≡ a.around.clock)
   SaysCame a (lines.Request number words) came b =
-      AskCame who.disks who.peers who.clocks number words a.state a.around.peers a.around.clock came b.state b.around.peers b.around.clock × (b.around.verifier ≡ a.around.verifier) × (b.around.nonces ≡ a.around.nonces)
+      AskCame who.disks who.peers who.clocks number words a.state a.around.peers a.around.clock came b.state b.around.peers b.around.clock
+      × (b.around.verifier ≡ a.around.verifier) × (b.around.nonces ≡ a.around.nonces)
   SaysCame a (lines.Client number call) came b =
-      CallCame who.disks who.peers who.clocks number call a.state a.around.peers a.around.clock came b.state b.around.peers b.around.clock × (b.around.verifier ≡ a.around.verifier) × (b.around.nonces ≡ a.around.nonces)
+      CallCame who.disks who.peers who.clocks number call a.state a.around.peers a.around.clock came b.state b.around.peers b.around.clock
+      × (b.around.verifier ≡ a.around.verifier) × (b.around.nonces ≡ a.around.nonces)
 
   -- What came of a line: it is malformed by itself; or it says something, of which this came; or there was no memory to read it.
   pub data LineCame (a : World D P V C N) (line : Text) : Came → World D P V C N → Type 0 where
     malformed : line_of line ≡ None → LineCame a line (Err stop.Malformed) a
-    says : {what : ScriptLine} {came : Came} {b : World D P V C N} → line_of line ≡ Some what → SaysCame a what came b → LineCame a line came b
+    says : {what : ScriptLine} {came : Came} {b : World D P V C N}
+        → line_of line ≡ Some what → SaysCame a what came b → LineCame a line came b
     unread : LineCame a line (Err stop.OutOfMemory) a

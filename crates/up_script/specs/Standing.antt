@@ -11,7 +11,8 @@ use Rattle.up_peer.specs.declared.loader.Loader as loader
 use Rattle.up_sessions.specs.Worlds.{Around, Hosts, Parties, World, no_session}
 
 -- what disks, peers, verifiers, clocks and nonces tell
-abbrev pub parties : {D P V C N : Type 0} → disk.Ghosts D → loader.Ghosts P → verifier.Ghosts V → clock.Ghosts C → nonces.Ghosts N → Parties D P V C N
+abbrev pub parties : {D P V C N : Type 0} → disk.Ghosts D → loader.Ghosts P
+    → verifier.Ghosts V → clock.Ghosts C → nonces.Ghosts N → Parties D P V C N
 parties disks peers verifiers clocks drawn = record { disks = disks; peers = peers; verifiers = verifiers; clocks = clocks; nonces = drawn }
 
 -- what stands around the hosts
@@ -28,7 +29,7 @@ pub record AreHostLimits (limits : Limits) : Type 0 where
   pub least : largest_room ≤ limits.largest
   pub most : limits.largest ≤ 1048000
 
--- those that the program gives them
+-- the limits that the program gives them
 abbrev pub script_limits : Limits
 script_limits = record { records = 1048576; device = 1073741824; largest = 131072 }
 

@@ -24,20 +24,20 @@ IsGood (lines.Client number call) = Unit {0}
 
 -- ---- what is said
 
--- of a host with this name
+-- what is said of a host with this name that was to be opened
 abbrev pub host_said : Text → Result (Unit {0}) LineFault → Came
 host_said name (Ok done) = Ok (Did.HostOpened name)
 host_said name (Err fault.Fault) = Err stop.DiskFault
 host_said name (Err fault.OutOfMemory) = Err stop.OutOfMemory
 
--- of an enrolment of this user
+-- what is said of an enrolment of this user
 abbrev pub enrol_said : UserName → Result ℕ AppendWhy → Came
 enrol_said user (Ok position) = Ok (Did.Enrolled user)
 enrol_said user (Err (append.Full records)) = Ok (Did.EnrolFull records)
 enrol_said user (Err append.Fault) = Err stop.DiskFault
 enrol_said user (Err append.OutOfMemory) = Err stop.OutOfMemory
 
--- of a sign-on at this number
+-- what is said of a sign-on at this number
 abbrev pub sign_said : ℕ → Result Bool LineFault → Came
 sign_said number (Ok is_open) = Ok (signed number is_open)
 sign_said number (Err fault.Fault) = Err stop.HelperFault

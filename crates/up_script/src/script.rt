@@ -2,7 +2,7 @@
 ghost use Rattle.std.specs.Prelude.{◌≡◌, ◌≢◌, ◌⊎◌, ◌+◌, ◌-◌, ◌<◌, ◌≤◌, ◌^◌, ◌↔◌, [], ◌∷◌, ◌++◌, false, true, length, map, IfOk, IfSome, IsErrOf, OnOk, Some, string_bytes};
 ghost use Rattle.std.specs.List.{AllByRecursion, sum_by};
 ghost use Rattle.std.specs.Io.KnownBytes.{Appends, IsAtEnd};
-ghost use Rattle.up_lists.specs.Counts.{Rose};
+ghost use Rattle.up_lists.specs.Counts.{Rose, StaysUnless};
 ghost use Rattle.up_ends.specs.Writing.{WritesPart};
 ghost use Rattle.up_sessions.specs.Fitting.{IsFit};
 ghost use Rattle.up_disk.specs.Leaving.{IsBlank};
@@ -83,7 +83,9 @@ pub fn script_run<D: Disk + Drop, S: Source, K: Sink, V: Verifier, C: Clock, N: 
     ensures too_long_always { S.given source.old + input_limit < 2 ^ 64 - 1
         → S.given source.old + input_limit < S.given source.new → result ≡ 7 }
     ensures source_counts { S.faults source.old ≤ S.faults source.new }
+    ensures source_quiet { StaysUnless (S.faults source.old) (S.faults source.new) (result ≡ 2) }
     ensures sink_counts { K.faults sink.old ≤ K.faults sink.new }
+    ensures sink_quiet { StaysUnless (K.faults sink.old) (K.faults sink.new) (result ≡ 3) }
 
     ensures told_long { result ≡ 7
         → IfSome (S.left source.old) (λ bytes. input_limit < length bytes) }
@@ -175,7 +177,9 @@ pub fn script_within<
     ensures told_long { result ≡ 7
         → IfSome (S.left source.old) (λ bytes. input_limit < length bytes) }
     ensures source_counts { S.faults source.old ≤ S.faults source.new }
+    ensures source_quiet { StaysUnless (S.faults source.old) (S.faults source.new) (result ≡ 2) }
     ensures sink_counts { K.faults sink.old ≤ K.faults sink.new }
+    ensures sink_quiet { StaysUnless (K.faults sink.old) (K.faults sink.new) (result ≡ 3) }
 {
     match read_script(alloc, source) {
         Ok(input) => run_script(
@@ -208,6 +212,7 @@ fn run_script<D: Disk + Drop, P: Loader, K: Sink, V: Verifier, C: Clock, N: Nonc
     ensures status { IsOneOf (0 ∷ 1 ∷ 3 ∷ 4 ∷ 5 ∷ 6 ∷ []) result }
     ensures cause { result ≡ 3 → Rose (K.faults sink.old) (K.faults sink.new) }
     ensures later { K.faults sink.old ≤ K.faults sink.new }
+    ensures quiet { StaysUnless (K.faults sink.old) (K.faults sink.new) (result ≡ 3) }
 {
     let given = mem::replace(disks, Disks::new(alloc));
     match Sessions::new(alloc, random, given) {
@@ -255,6 +260,7 @@ fn run_lines<D: Disk + Drop, P: Loader, K: Sink, V: Verifier, C: Clock, N: Nonce
     ensures status { IsOneOf (0 ∷ 1 ∷ 3 ∷ 4 ∷ 5 ∷ 6 ∷ []) result }
     ensures cause { result ≡ 3 → Rose (K.faults sink.old) (K.faults sink.new) }
     ensures later { K.faults sink.old ≤ K.faults sink.new }
+    ensures quiet { StaysUnless (K.faults sink.old) (K.faults sink.new) (result ≡ 3) }
 {
     match run_each(
         alloc, limits, sessions, peers, verifier, clock, nonces, lines, sink,
@@ -285,6 +291,8 @@ fn run_each<D: Disk + Drop, P: Loader, K: Sink, V: Verifier, C: Clock, N: Nonces
     ensures status { IfOk result (λ status. IsOneOf (0 ∷ 1 ∷ 5 ∷ 6 ∷ []) (code_of status)) }
     ensures cause { IsErrOf result Stop.WriteFault → Rose (K.faults sink.old) (K.faults sink.new) }
     ensures later { K.faults sink.old ≤ K.faults sink.new }
+    ensures quiet { StaysUnless (K.faults sink.old) (K.faults sink.new)
+        (IsErrOf result Stop.WriteFault) }
 {
     let mut gathered = Vec::new(alloc);
     let mut number: u64 = 1;
@@ -329,6 +337,8 @@ fn end<K: Sink>(
     ensures unwritten { why ≡ LineStop.OutOfMemory → sink.new ≡ sink.old }
     ensures cause { IsErrOf result Stop.WriteFault → Rose (K.faults sink.old) (K.faults sink.new) }
     ensures later { K.faults sink.old ≤ K.faults sink.new }
+    ensures quiet { StaysUnless (K.faults sink.old) (K.faults sink.new)
+        (IsErrOf result Stop.WriteFault) }
 {
     let (last, status) = ending(alloc, number, why)?;
     finish(sink, gathered, &last)?;

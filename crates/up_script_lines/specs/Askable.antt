@@ -9,7 +9,7 @@ use Rattle.up_script_lines.specs.declared.script_lines.ScriptLine.TheVariants as
 abbrev pub AskSomething : List Text → Type 0
 AskSomething words = (user : UserName) → is_some (request_of user words) ≡ true
 
--- and so do those of a line that asks
+-- the words of a line that asks a request ask something, whoever signed on
 abbrev pub IsAskable : ScriptLine → Type 0
 IsAskable (lines.Request number words) = AskSomething words
 IsAskable lines.Silent = Unit {0}

@@ -48,6 +48,7 @@ are_different (user ∷ more) = not (has_user more user) && are_different more
 abbrev pub are_owners : List UserName → Bool
 are_owners owners = nat_le (length owners) 8 && list_all (λ owner. not (owns_snapshots owner)) owners && are_different owners
 
+-- these users, where they may be the trees of one host
 abbrev pub if_owners : List UserName → Option (List UserName)
 if_owners owners = if are_owners owners then Some owners else None
 

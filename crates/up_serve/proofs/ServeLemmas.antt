@@ -20,7 +20,7 @@ use Rattle.up_journal.specs.declared.fault.OpenWhy.{OpenWhy}
 use Rattle.up_journal.specs.declared.fault.OpenWhy.TheVariants as why
 use Rattle.up_journal.specs.declared.limits.Limits.{Limits}
 use Rattle.up_keys.specs.Records as keys
-use Rattle.up_lists.specs.Counts.{Rose}
+use Rattle.up_lists.specs.Counts.{Rose, StaysUnless}
 use Rattle.up_names.specs.Texts.{Text, UserName}
 use Rattle.up_serve.proofs.CountLemmas.{host_faults, opens_later, refuses_counts}
 use Rattle.up_serve.proofs.TellLemmas.{refused_codes, refused_six, stopped_codes, stopped_six}
@@ -96,6 +96,16 @@ module _ (given given_now read read_now wrote wrote_now : ℕ) (left : Option Te
     where
       not_three : (n : ℕ) → IsOneOf (2 ∷ 4 ∷ 7 ∷ []) n → n ≡ 3 → ⊥
       not_three n is bad = grind (arith)
+
+  -- the same of the status that is handed back with the disks
+  pub causes_given_back : {X : Type 0} (code status : ℕ) (result : Result X ℕ) → code ≡ status → result ≡ Err status → IsOneOf (2 ∷ 4 ∷ 7 ∷ []) status → (result ≡ Err 2 → Rose read read_now) → (result ≡ Err 7 → IfSome left (λ bytes. input_limit < length bytes))
+      → (given + input_limit < 2 ^ 64 - 1 → (result ≡ Err 7 ↔ (given + input_limit < given_now))) → read ≤ read_now → wrote_now ≡ wrote → HasCauses code given given_now read read_now wrote wrote_now left
+  causes_given_back code status result same is one fault long exact later stays =
+      subst (λ n. HasCauses n given given_now read read_now wrote wrote_now left) (sym same) (causes_unread status result is one fault long exact later stays)
+
+  -- the source's count stays where it was not its fault
+  pub quiet_given_back : {X : Type 0} (code status : ℕ) (result : Result X ℕ) → code ≡ status → result ≡ Err status → StaysUnless read read_now (result ≡ Err 2) → StaysUnless read read_now (code ≡ 2)
+  quiet_given_back code status result same is quiet = record { stays = λ not_two. quiet.stays (λ two. not_two (let apart : Err status ≡ Err 2 = sym is ∙ two in cc)) }
 
   -- it was read whole
   not_over : {X : Type 0} (result : Result X ℕ) (value : X) → result ≡ Ok value → (given + input_limit < 2 ^ 64 - 1 → (result ≡ Err 7 ↔ (given + input_limit < given_now))) → given + input_limit < 2 ^ 64 - 1 → given + input_limit < given_now → ⊥

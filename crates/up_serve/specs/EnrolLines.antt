@@ -9,7 +9,7 @@ use Rattle.up_serve.specs.declared.enrol_line.EnrolLine.TheVariants as lines
 use Rattle.up_text.specs.Lines.{is_silent, line_words}
 use Rattle.up_wire.specs.declared.keys.KeyRecord.{KeyRecord}
 
--- a user's record without endpoints
+-- a user's key record that names no endpoints
 abbrev pub plain_card : UserName → Text → KeyRecord
 plain_card user key = record { user = user; dirs = []; stores = []; key = key }
 

@@ -41,10 +41,11 @@ pub record Enrolment : Type 0 where
   pub log : List KeyRecord
   pub stop : Option EnrolStop
 
+-- this log, and why enrolling stopped, if it did
 abbrev pub ended : List KeyRecord → Option EnrolStop → Enrolment
 ended log stop = record { log = log; stop = stop }
 
--- after lines, the first of which has this number
+-- the enrolment of these lines, the first of which has this number
 abbrev pub after_lines : Limits → ℕ → List KeyRecord → List Text → Enrolment
 after_lines limits number log [] = ended log None
 after_lines limits number log (line ∷ lines) = elim (after_line limits number log (enrol_line line)) [
@@ -52,18 +53,18 @@ after_lines limits number log (line ∷ lines) = elim (after_line limits number 
   | Ok grown ↦ after_lines limits (number + 1) grown lines
 ]
 
--- after a whole text, whose lines are numbered from 1
+-- the enrolment of a whole text, whose lines are numbered from 1
 unfoldable pub enrolment : Limits → List KeyRecord → Text → Enrolment
 enrolment limits log text = after_lines limits 1 log (script_lines text)
 
 -- ---- at a host
 
--- why it stopped, if it did
+-- why enrolling stopped, if it did
 abbrev pub stop_of : Result (Unit {0}) EnrolStop → Option EnrolStop
 stop_of (Ok done) = None
 stop_of (Err why) = Some why
 
--- it was cut short by a fault of the disk, or for want of memory
+-- whether enrolling was cut short by a fault of the disk, or for want of memory
 abbrev pub is_cut : Result (Unit {0}) EnrolStop → Bool
 is_cut (Err stop.DiskFault) = true
 is_cut (Err stop.OutOfMemory) = true
@@ -82,9 +83,11 @@ pub record KeepsHost {D : Type 0} (disks : Ghosts D) (host after : HostState D) 
 
 -- The users of a text were enrolled, in the order of its lines: the log of keys is what it should be, and it stopped where it should;
 -- cut short by a fault or want of memory, the log is a front of that.
-pub record EnrolsUsers {D : Type 0} (disks : Ghosts D) (text : Text) (host after : HostState D) (result : Result (Unit {0}) EnrolStop) : Type 0 where
+pub record EnrolsUsers {D : Type 0} (disks : Ghosts D) (text : Text)
+    (host after : HostState D) (result : Result (Unit {0}) EnrolStop) : Type 0 where
   pub kept : KeepsHost disks host after (result ≡ Err stop.DiskFault)
-  pub exact : is_cut result ≡ false → enrolment host.keys.state.limits host.keys.state.log text ≡ ended after.keys.state.log (stop_of result)
+  pub exact : is_cut result ≡ false
+      → enrolment host.keys.state.limits host.keys.state.log text ≡ ended after.keys.state.log (stop_of result)
   pub front : Begins after.keys.state.log (enrolment host.keys.state.limits host.keys.state.log text).log
 
 -- why enrolling stops where a record was not put
@@ -100,14 +103,17 @@ abbrev pub IsAfter : List KeyRecord → Result (Unit {0}) EnrolStop → Result (
 IsAfter log (Ok done) meant = meant ≡ Ok log
 IsAfter log (Err why) meant = meant ≡ Err why
 
--- a user's record was put where none was held, or not
-pub record PutsUser {D : Type 0} (disks : Ghosts D) (card : KeyRecord) (host after : HostState D) (result : Result (Unit {0}) EnrolStop) : Type 0 where
+-- a user's record was put where none was held, or why it was not
+pub record PutsUser {D : Type 0} (disks : Ghosts D) (card : KeyRecord)
+    (host after : HostState D) (result : Result (Unit {0}) EnrolStop) : Type 0 where
   pub kept : KeepsHost disks host after (result ≡ Err stop.DiskFault)
   pub exact : is_cut result ≡ false → IsAfter after.keys.state.log result (with_user host.keys.state.limits host.keys.state.log card)
   pub same : OnErr result (after.keys.state.log ≡ host.keys.state.log)
 
--- what a line says was done, or not
-pub record DoesLine {D : Type 0} (disks : Ghosts D) (number : ℕ) (line : Text) (host after : HostState D) (result : Result (Unit {0}) EnrolStop) : Type 0 where
+-- what a line says was done, or why it was not
+pub record DoesLine {D : Type 0} (disks : Ghosts D) (number : ℕ) (line : Text)
+    (host after : HostState D) (result : Result (Unit {0}) EnrolStop) : Type 0 where
   pub kept : KeepsHost disks host after (result ≡ Err stop.DiskFault)
-  pub exact : is_cut result ≡ false → IsAfter after.keys.state.log result (after_line host.keys.state.limits number host.keys.state.log (enrol_line line))
+  pub exact : is_cut result ≡ false
+      → IsAfter after.keys.state.log result (after_line host.keys.state.limits number host.keys.state.log (enrol_line line))
   pub same : OnErr result (after.keys.state.log ≡ host.keys.state.log)

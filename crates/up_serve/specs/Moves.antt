@@ -17,14 +17,16 @@ use Rattle.up_lists.specs.Counts.{StaysUnless}
 use Rattle.up_names.specs.Texts.{Text}
 use Rattle.up_serve.specs.Telling.{AnswersOne, moved_by}
 
--- What a move of a log came to: the new disk has one already; or so many records were copied; or the old one is damaged at a place; or
--- so many of its records keep the limits, and more are there; each exactly where it is so. A fault comes only where a disk's count rose, and
+-- What a move of a log came to: the new disk has one already; or so many records were copied; or the old one is damaged at a place; or so
+-- many of its records keep the limits, and more are there; each exactly where it is so. A fault comes only where a disk's count rose, and
 -- without a fault none did. The old disk stays as it is, and is settled before the new one is written. A crash at any moment leaves a new
 -- one that does not begin with the name of the second format, or one that has the old one's log.
-pub record IsMove {D : Type 0} (disks : Ghosts D) (limits : Limits) (old old_now new new_now : D) (came : Result Moved MoveWhy) : Type 0 where
+pub record IsMove {D : Type 0} (disks : Ghosts D) (limits : Limits)
+    (old old_now new new_now : D) (came : Result Moved MoveWhy) : Type 0 where
   pub already : came ≢ Err why.Fault → IfSome (disks.content new) (λ bytes. is_already came ≡ has_name format2 bytes)
   pub copied : (n : ℕ) → came ≡ Ok (moved.Copied n) → IfSome (disks.content old) (λ bytes. IsCopied disks limits n bytes new_now)
-  pub damaged : (place : ℕ) → came ≡ Err (why.Old place) → IfSome (disks.content old) (λ bytes. old_log_of limits.largest bytes ≡ Err (Damaged place))
+  pub damaged : (place : ℕ) → came ≡ Err (why.Old place)
+      → IfSome (disks.content old) (λ bytes. old_log_of limits.largest bytes ≡ Err (Damaged place))
   pub full : (n : ℕ) → came ≡ Err (why.Full n) → IfSome (disks.content old) (IsOver limits n)
   pub counts : HaveCause (disks.faults old) (disks.faults old_now) (disks.faults new) (disks.faults new_now) (IsErrOf came why.Fault)
   pub old_quiet : StaysUnless (disks.faults old) (disks.faults old_now) (IsErrOf came why.Fault)
@@ -44,7 +46,8 @@ AnswersMove which held held_now (Ok done) (Err status) = ⊥
 AnswersMove which held held_now (Err why) (Ok answer) = ⊥
 
 -- a log was moved, or not, and so it was answered
-pub record Moves {D : Type 0} (disks : Ghosts D) (limits : Limits) (which : ℕ) (old old_now new new_now : D) (held held_now : Option Text) (result : Result Moved ℕ) : Type 0 where
+pub record Moves {D : Type 0} (disks : Ghosts D) (limits : Limits) (which : ℕ)
+    (old old_now new new_now : D) (held held_now : Option Text) (result : Result Moved ℕ) : Type 0 where
   pub came : Result Moved MoveWhy
   pub move : IsMove disks limits old old_now new new_now came
   pub answers : AnswersMove which held held_now came result

@@ -14,14 +14,16 @@ use Rattle.up_text.specs.Numbers.{num_of}
 
 -- ---- options and their values
 
--- a word that is an option
+-- whether a word is an option
 abbrev pub is_option : Text → Bool
 is_option word =
-    bytes_eq word (codes "--listen") || bytes_eq word (codes "--host") || bytes_eq word (codes "--operator") || bytes_eq word (codes "--tree") || bytes_eq word (codes "--folder")
-    || bytes_eq word (codes "--helper") || bytes_eq word (codes "--enrol") || bytes_eq word (codes "--peer") || bytes_eq word (codes "--connections")
+    bytes_eq word (codes "--listen") || bytes_eq word (codes "--host") || bytes_eq word (codes "--operator")
+    || bytes_eq word (codes "--tree") || bytes_eq word (codes "--folder")
+    || bytes_eq word (codes "--helper") || bytes_eq word (codes "--enrol")
+    || bytes_eq word (codes "--peer") || bytes_eq word (codes "--connections")
     || bytes_eq word (codes "--feed") || bytes_eq word (codes "--feeds")
 
--- words that are pairs of an option and its value
+-- whether words are pairs of an option and its value
 abbrev pub are_pairs : List Text → Bool
 are_pairs [] = true
 are_pairs (name ∷ []) = false
@@ -55,7 +57,7 @@ all_read read (value ∷ more) = do
 
 -- ---- what a value is read as; it stands for itself, and nothing in it is coded
 
--- a user
+-- the user that a value names
 abbrev pub user_in : Text → Option UserName
 user_in value = result_ok (user_of value)
 
@@ -63,30 +65,31 @@ user_in value = result_ok (user_of value)
 abbrev pub address_in : Text → Option Text
 address_in value = if is_address value then Some value else None
 
--- a peer: `USER=ADDR`, cut at the first `=`
+-- the byte `=`
 abbrev pub is_equals : ℕ → Bool
 is_equals b = b == 61
 
+-- a peer: `USER=ADDR`, cut at the first `=`
 unfoldable pub peer_in : Text → Option (UserName × Text)
 peer_in value = do
   user ← user_in (before_first is_equals value)
   address ← address_in (after_first is_equals value)
   if list_any is_equals value then Some (user, address) else None
 
--- where followers are listened for, and how many of their connections come: two options that stand both, each once; or neither does, and
--- then it is the empty text and 0
+-- where followers are listened for, and how many of their connections come: two options, each once
 unfoldable pub given_feed : List Text → List Text → Option (Text × ℕ)
 given_feed addresses numbers = do
   address ← once addresses >>= address_in
   number ← once numbers >>= num_of
   Some (address, number)
 
+-- the values of these two options, where both stand; where neither does, the empty text and 0
 abbrev pub feed_in : List Text → List Text → Option (Text × ℕ)
 feed_in addresses numbers = if (length addresses == 0) && (length numbers == 0) then Some ([], 0) else given_feed addresses numbers
 
 -- ---- trees
 
--- one of these users is this one
+-- whether one of these users is this one
 abbrev pub has_user : List UserName → UserName → Bool
 has_user users user = list_any (λ one. bytes_eq one user) users
 
@@ -95,10 +98,11 @@ abbrev pub are_different : List UserName → Bool
 are_different [] = true
 are_different (user ∷ more) = not (has_user more user) && are_different more
 
--- the owners of trees: all different, and none of them a snapshot user
+-- these users may be the owners of trees: all differ, and none of them is a snapshot user
 abbrev pub are_owners : List UserName → Bool
 are_owners owners = list_all (λ owner. not (owns_snapshots owner)) owners && are_different owners
 
+-- these users, where they may be the owners of trees
 abbrev pub if_owners : List UserName → Option (List UserName)
 if_owners owners = if are_owners owners then Some owners else None
 

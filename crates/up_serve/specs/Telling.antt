@@ -14,7 +14,7 @@ use Rattle.up_serve.specs.declared.enrolling.EnrolStop.{EnrolStop}
 use Rattle.up_serve.specs.declared.enrolling.EnrolStop.TheVariants as stop
 use Rattle.up_serve.specs.declared.telling.Last.{Last}
 
--- nothing is printed
+-- nothing is printed, and this is the status
 abbrev pub nothing_with : ℕ → Answer
 nothing_with status = record { text = []; status = status }
 
@@ -22,12 +22,12 @@ nothing_with status = record { text = []; status = status }
 abbrev pub damaged_at : ℕ → ℕ → Answer
 damaged_at which place = record { text = ended (codes "damaged " ++ decimal which ++ codes " " ++ decimal place); status = 8 }
 
--- `chain I P WANTED GOT`: at byte P of it stands a record that has to carry the first digest, and carries the second
+-- `chain I P WANTED GOT`: in the log at place I the record at byte P has to carry the first digest, and carries the second
 abbrev pub chain_at : ℕ → ℕ → List ℕ → List ℕ → Answer
 chain_at which gate wanted got =
     record { text = ended (codes "chain " ++ decimal which ++ codes " " ++ decimal gate ++ codes " " ++ text_of wanted ++ codes " " ++ text_of got); status = 8 }
 
--- `oldformat I`: it is one of the first format
+-- `oldformat I`: the log at place I is one of the first format
 abbrev pub old_format_at : ℕ → Answer
 old_format_at which = record { text = ended (codes "oldformat " ++ decimal which); status = 8 }
 
@@ -61,7 +61,7 @@ moved_by which (move.Full records) = full_log_at which records
 moved_by which move.Fault = nothing_with 6
 moved_by which move.OutOfMemory = nothing_with 4
 
--- that was answered and printed; or 3, and a front of it was printed; or 4, for want of memory
+-- An answer was printed, and this is its status; or 3, and a front of it was printed; or 4, for want of memory.
 pub record AnswersOne (held held_now : Option Text) (answer : Answer) (status : ℕ) : Type 0 where
   pub one : IsOneOf (3 ∷ 4 ∷ answer.status ∷ []) status
   pub answers : AnswersWith held held_now answer status
@@ -72,7 +72,7 @@ pub record AnswersOne (held held_now : Option Text) (answer : Answer) (status : 
 abbrev pub IsLast : Result Last AllocError → Answer → Type 0
 IsLast result answer = IfOk result (λ last. (last.line.items ≡ answer.text) × (code_of last.status ≡ answer.status))
 
--- it was printed; nothing, where there was none
+-- The answer was printed as it was made; nothing was, where there was no memory to make it.
 abbrev pub TellsLast : Option Text → Option Text → Result Last AllocError → ℕ → Type 0
 TellsLast old new (Ok last) status = AnswersOne old new (record { text = last.line.items; status = code_of last.status }) status
 TellsLast old new (Err e) status = (status ≡ 4) × (new ≡ old)

@@ -3,7 +3,7 @@ ghost use Rattle.std.specs.Prelude.{◌≡◌, ◌≤◌, ◌⊎◌, [], ◌∷�
 ghost use Rattle.up_command.specs.Statuses.{IsOneOf};
 ghost use Rattle.up_journal.specs.Journal.{AreLimits};
 ghost use Rattle.up_journal.specs.declared.fault.MoveWhy.TheVariants as move_why;
-ghost use Rattle.up_lists.specs.Counts.{Rose};
+ghost use Rattle.up_lists.specs.Counts.{Rose, StaysUnless};
 ghost use Rattle.up_serve.specs.Moves.{Moves};
 ghost use Rattle.up_serve.specs.Telling.{AnswersOne, moved_by};
 
@@ -37,6 +37,7 @@ pub fn serve_move<D: Disk, K: Sink>(
     ensures old_counts { D.faults old.old ≤ D.faults old.new }
     ensures new_counts { D.faults new.old ≤ D.faults new.new }
     ensures sink_counts { K.faults sink.old ≤ K.faults sink.new }
+    ensures sink_quiet { StaysUnless (K.faults sink.old) (K.faults sink.new) (result ≡ Err 3) }
 {
     match migrate(alloc, old, new, limits) {
         Ok(moved) => Ok(moved),
@@ -52,6 +53,7 @@ fn refuse<K: Sink>(alloc: Global, sink: &mut K, which: u64, why: MoveWhy) -> u8
     ensures disk_fault { result ≡ 6 → why ≡ move_why.Fault }
     ensures cause { result ≡ 3 → Rose (K.faults sink.old) (K.faults sink.new) }
     ensures later { K.faults sink.old ≤ K.faults sink.new }
+    ensures quiet { StaysUnless (K.faults sink.old) (K.faults sink.new) (result ≡ 3) }
 {
     let last = unmoved_line(alloc, which, why);
     tell(sink, last)

@@ -5,7 +5,7 @@ ghost use Rattle.std.specs.Io.KnownBytes.{Appends};
 ghost use Rattle.up_command.specs.Statuses.{IsOneOf, input_limit, usage_line};
 ghost use Rattle.up_ends.specs.Writing.{WritesPart};
 ghost use Rattle.up_host.specs.Opens.{OpensHost, RefusesHost, disks_of, logs_of};
-ghost use Rattle.up_lists.specs.Counts.{Rose};
+ghost use Rattle.up_lists.specs.Counts.{Rose, StaysUnless};
 ghost use Rattle.up_serve.specs.Plans.{IsPlan, plan_of};
 ghost use Rattle.up_serve.specs.Serving.{AreServeLimits, AreServed, HasCauses, Serves, Stays, disks_after, result_code, serve_limits};
 ghost use Rattle.up_serve.specs.Telling.{AnswersOne, refused_by, stopped_by};
@@ -80,7 +80,11 @@ pub fn serve_open<D: Disk + Drop, S: Source, K: Sink>(
         → IfSome (S.left enrol.old) (λ bytes. input_limit < length bytes) }
     ensures disk_counts { sum_by D.faults disks.disks ≤ sum_by D.faults (disks_after result) }
     ensures source_counts { S.faults enrol.old ≤ S.faults enrol.new }
+    ensures source_quiet { StaysUnless (S.faults enrol.old) (S.faults enrol.new)
+        (result_code result ≡ 2) }
     ensures sink_counts { K.faults sink.old ≤ K.faults sink.new }
+    ensures sink_quiet { StaysUnless (K.faults sink.old) (K.faults sink.new)
+        (result_code result ≡ 3) }
 
     // Where nothing is amiss it is a host, or memory was wanting.
     ensures complete { IfSome (plan_of (map string_bytes words.now)) (λ plan.
@@ -132,7 +136,11 @@ pub fn serve_within<D: Disk + Drop, S: Source, K: Sink>(
         → IfSome (S.left enrol.old) (λ bytes. input_limit < length bytes) }
     ensures disk_counts { sum_by D.faults disks.disks ≤ sum_by D.faults (disks_after result) }
     ensures source_counts { S.faults enrol.old ≤ S.faults enrol.new }
+    ensures source_quiet { StaysUnless (S.faults enrol.old) (S.faults enrol.new)
+        (result_code result ≡ 2) }
     ensures sink_counts { K.faults sink.old ≤ K.faults sink.new }
+    ensures sink_quiet { StaysUnless (K.faults sink.old) (K.faults sink.new)
+        (result_code result ≡ 3) }
     ensures complete { IfSome (S.left enrol.old) (λ text. length text ≤ input_limit
         → AreServed D.Disk limits text (logs_of plan.trees) disks.disks
         → Stays (S.faults enrol.old) (S.faults enrol.new)
@@ -162,6 +170,10 @@ fn serve_plan<D: Disk + Drop, S: Source, K: Sink>(
     ensures causes { HasCauses (result_code result) (S.given enrol.old) (S.given enrol.new)
         (S.faults enrol.old) (S.faults enrol.new) (K.faults sink.old) (K.faults sink.new)
         (S.left enrol.old) }
+    ensures source_quiet { StaysUnless (S.faults enrol.old) (S.faults enrol.new)
+        (result_code result ≡ 2) }
+    ensures sink_quiet { StaysUnless (K.faults sink.old) (K.faults sink.new)
+        (result_code result ≡ 3) }
 {
     let mut host = match open_host(alloc, random, limits, plan, disks) {
         Ok(host) => host,
@@ -231,6 +243,7 @@ fn refuse<D: Disk + Drop, K: Sink>(
         (refused_by fault.which fault.why) result.status }
     ensures cause { result.status ≡ 3 → Rose (K.faults sink.old) (K.faults sink.new) }
     ensures later { K.faults sink.old ≤ K.faults sink.new }
+    ensures quiet { StaysUnless (K.faults sink.old) (K.faults sink.new) (result.status ≡ 3) }
 {
     let HostFault { disks, which, why } = fault;
     let last = refused_line(alloc, which, why);
@@ -251,6 +264,7 @@ fn stop<D: Disk + Drop, K: Sink>(
         (stopped_by why) result.status }
     ensures cause { result.status ≡ 3 → Rose (K.faults sink.old) (K.faults sink.new) }
     ensures later { K.faults sink.old ≤ K.faults sink.new }
+    ensures quiet { StaysUnless (K.faults sink.old) (K.faults sink.new) (result.status ≡ 3) }
 {
     let last = stopped_line(alloc, why);
     let status = tell(sink, last);

@@ -1,7 +1,7 @@
 //! The line that is printed where a server does not listen, or where a log is not moved.
 ghost use Rattle.std.specs.Prelude.{◌≡◌, ◌≤◌, ◌++◌, [], codes, decimal, IfOk, OnOk};
 ghost use Rattle.up_command.specs.Statuses.{code_of};
-ghost use Rattle.up_lists.specs.Counts.{Rose};
+ghost use Rattle.up_lists.specs.Counts.{Rose, StaysUnless};
 ghost use Rattle.up_refs.specs.References.{text_of};
 ghost use Rattle.up_serve.specs.Telling.{IsLast, TellsLast, chain_at, damaged_at, full_log_at, full_with, moved_by, old_format_at, refused_by, stopped_by};
 
@@ -26,6 +26,7 @@ pub fn tell<K: Sink>(sink: &mut K, last: Result<Last, AllocError>) -> u8
     ensures tells { TellsLast (K.held sink.old) (K.held sink.new) last result }
     ensures cause { result ≡ 3 → Rose (K.faults sink.old) (K.faults sink.new) }
     ensures later { K.faults sink.old ≤ K.faults sink.new }
+    ensures quiet { StaysUnless (K.faults sink.old) (K.faults sink.new) (result ≡ 3) }
 {
     match last {
         Ok(last) => match write_all(sink, &last.line) {

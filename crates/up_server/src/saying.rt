@@ -3,7 +3,7 @@ ghost use Rattle.std.specs.Prelude.{ℕ, ◌≡◌, ◌≤◌, ◌++◌, [], ◌
 ghost use Rattle.std.specs.Io.KnownBytes.{Appends};
 ghost use Rattle.up_command.specs.Printed.{ended};
 ghost use Rattle.up_command.specs.Statuses.{IsOneOf, code_of};
-ghost use Rattle.up_lists.specs.Counts.{Rose};
+ghost use Rattle.up_lists.specs.Counts.{Rose, StaysUnless};
 
 use std::alloc::{AllocError, Global};
 use std::net::SocketAddr;
@@ -17,6 +17,7 @@ pub(crate) fn say_listening<K: Sink>(alloc: Global, sink: &mut K, address: Socke
         × Appends (K.held sink.old) (K.held sink.new) (ended (codes "listening " ++ shown)) }
     ensures cause { code_of result ≡ 3 → Rose (K.faults sink.old) (K.faults sink.new) }
     ensures later { K.faults sink.old ≤ K.faults sink.new }
+    ensures quiet { StaysUnless (K.faults sink.old) (K.faults sink.new) (code_of result ≡ 3) }
 {
     match line_of(alloc, address) {
         Ok(line) => match write_all(sink, line.as_slice()) {

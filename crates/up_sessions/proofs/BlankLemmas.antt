@@ -19,7 +19,7 @@ use Rattle.up_journal.specs.declared.fault.OpenWhy.TheVariants as reason
 use Rattle.up_journal.specs.declared.limits.Limits.{Limits}
 use Rattle.up_keys.specs.Records as keys
 use Rattle.up_names.specs.Texts.{UserName}
-use Rattle.up_replay.specs.Fits.{fits}
+use Rattle.up_log_tree.specs.Fits.{fits}
 use Rattle.up_disk.specs.Leaving.{IsBlank}
 use Rattle.up_sessions.specs.Opening.{is_damage}
 use Rattle.up_tree.specs.States as tree

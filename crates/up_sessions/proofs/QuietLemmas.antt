@@ -23,7 +23,7 @@ use Rattle.up_list.specs.Changes.{answer_of}
 use Rattle.up_list.specs.Checks.{at_link, check, first_link, lacking, ways}
 use Rattle.up_list.specs.Looks.{Look, has_some, look_now, rights, shown}
 use Rattle.up_list.specs.Reads.{file_text, group_text_reply, text_reply}
-use Rattle.up_list.specs.declared.asking.Asked.TheVariants.{GroupText}
+use Rattle.up_list.specs.declared.asking.ReadRequest.TheVariants.{GroupText}
 use Rattle.up_names.specs.PathNames.{PathName, canonical}
 use Rattle.up_names.specs.Texts.{UserName}
 use Rattle.up_names.specs.declared.fault.TextFault.{TextFault}
@@ -32,9 +32,9 @@ use Rattle.up_names.specs.declared.items.Item.{Item}
 use Rattle.up_peer.specs.Loading.{text_answer}
 use Rattle.up_policy.specs.declared.load_answer.LoadAnswer.{LoadAnswer}
 use Rattle.up_policy.specs.declared.load_answer.LoadAnswer.TheVariants as loads
-use Rattle.up_replay.specs.Logs.{Log}
-use Rattle.up_replay.specs.Rights.{is_group}
-use Rattle.up_replay.specs.Trees.{node_at}
+use Rattle.up_log_tree.specs.Logs.{Log}
+use Rattle.up_log_tree.specs.Rights.{is_group}
+use Rattle.up_log_tree.specs.Trees.{node_at}
 use Rattle.up_rights.specs.RightSets.{Rights, has_any, has_right}
 use Rattle.up_rights.specs.declared.Right.{Right}
 use Rattle.up_rights.specs.declared.Right.TheVariants as right

@@ -18,7 +18,8 @@ pub record StaysHost {D : Type 0} (disks : disk.Ghosts D) (host after : HostStat
   pub settled : StaysSettled disks host after
 
 -- One call of a host at a moment: what came of it, by its logs and by who stands behind it; and it tells no more than the user sees.
-pub record AsksOne {D P : Type 0} (disks : disk.Ghosts D) (loader : Ghosts P) (hosts : List (HostState D)) (q : Question) (moment : ℕ) (e : Event) (host after : HostState D) (old new : P) : Type 0 where
+pub record AsksOne {D P : Type 0} (disks : disk.Ghosts D) (loader : Ghosts P) (hosts : List (HostState D))
+    (q : Question) (moment : ℕ) (e : Event) (host after : HostState D) (old new : P) : Type 0 where
   pub asked : Asked (behind loader hosts) host.operator (views disks host) old q e (views disks after) new
   pub alone : IsAlone (views disks host) (views disks after) q e
   pub alike : TellsNoMore (views disks after) q e

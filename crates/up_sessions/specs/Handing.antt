@@ -5,7 +5,7 @@ use Rattle.up_disk.specs.declared.disk.Disk.{Ghosts}
 use Rattle.up_host.specs.Opens.{LeavesHost, disks_of}
 use Rattle.up_sessions.specs.Worlds.{Hosts}
 
--- those of the hosts in order, and then those that are free
+-- the disks of all hosts in order, and then those that are free
 abbrev pub all_disks : {D : Type 0} → Hosts D → List D
 all_disks a = flat_map disks_of a.hosts ++ a.free
 

@@ -15,7 +15,8 @@ pub record IsKept {D : Type 0} (hosts : List (HostState D)) (sessions : List (Op
   pub room : sum_by disk_count hosts ≤ spare
 
 -- The host at a place of a list became another one, and so did what stands behind it.
-pub record OneOf {D P : Type 0} (place : ℕ) (did : HostState D → HostState D → P → P → Type 0) (hosts : List (HostState D)) (old : P) (later : List (HostState D)) (new : P) : Type 0 where
+pub record OneOf {D P : Type 0} (place : ℕ) (did : HostState D → HostState D → P → P → Type 0)
+    (hosts : List (HostState D)) (old : P) (later : List (HostState D)) (new : P) : Type 0 where
   pub before : HostState D
   pub after : HostState D
   pub there : slice_get hosts place ≡ Some before

@@ -18,18 +18,22 @@ use Rattle.up_wire.specs.declared.requests.Request.{Request}
 
 module _ {D P V C N : Type 0} (who : Parties D P V C N) where
   -- a host is opened, or refused
-  pub record HostLine (limits : Limits) (name : List ℕ) (operator : UserName) (owners : List UserName) (a : World D P V C N) (result : Result (Unit {0}) LineFault) (b : World D P V C N) : Type 0 where
+  pub record HostLine (limits : Limits) (name : List ℕ) (operator : UserName) (owners : List UserName)
+      (a : World D P V C N) (result : Result (Unit {0}) LineFault) (b : World D P V C N) : Type 0 where
     pub opens : OpensNext who.disks limits name operator owners a.state result b.state
     pub around : b.around ≡ a.around
 
   -- a user is enrolled at the host at a place, or refused
-  pub record EnrolLine (place : ℕ) (user : UserName) (key : List ℕ) (a : World D P V C N) (result : Result ℕ AppendWhy) (b : World D P V C N) : Type 0 where
+  pub record EnrolLine (place : ℕ) (user : UserName) (key : List ℕ) (a : World D P V C N)
+      (result : Result ℕ AppendWhy) (b : World D P V C N) : Type 0 where
     pub enrols : EnrolsAt who.disks place user key a.state result b.state
     pub around : b.around ≡ a.around
 
-  -- a user signs on at the host at a place: peers and clock stay
-  pub record OpenLine (number place : ℕ) (user : UserName) (signature : List ℕ) (a : World D P V C N) (result : Result Bool LineFault) (b : World D P V C N) : Type 0 where
-    pub signs : SignsOn who.verifiers who.nonces number place user signature a.state a.around.verifier a.around.nonces result b.state b.around.verifier b.around.nonces
+  -- a user signs on at the host at a place, or is refused; peers and clock stay as they are
+  pub record OpenLine (number place : ℕ) (user : UserName) (signature : List ℕ)
+      (a : World D P V C N) (result : Result Bool LineFault) (b : World D P V C N) : Type 0 where
+    pub signs : SignsOn who.verifiers who.nonces number place user signature a.state
+        a.around.verifier a.around.nonces result b.state b.around.verifier b.around.nonces
     pub peers : b.around.peers ≡ a.around.peers
     pub clock : b.around.clock ≡ a.around.clock
 
@@ -45,14 +49,19 @@ module _ {D P V C N : Type 0} (who : Parties D P V C N) where
   -- the session's host is asked a request of its user
   pub record RequestLine (number : ℕ) (request : Request) (a : World D P V C N) (e : Event) (b : World D P V C N) : Type 0 where
     pub now : AtMoment number a b
-    pub asks : AsksHost who.disks who.peers now.opened.place (record { user = now.opened.session.user; request = request }) now.moment e a.state a.around.peers b.state b.around.peers
+    pub asks : AsksHost who.disks who.peers now.opened.place (record { user = now.opened.session.user; request = request })
+        now.moment e a.state a.around.peers b.state b.around.peers
 
-  -- its user puts a file
-  pub record PutLine (number : ℕ) (path : PathName) (time sequence : ℤ) (bytes : List ℕ) (a : World D P V C N) (result : Result ℕ ClientFault) (b : World D P V C N) : Type 0 where
+  -- the user of an open session puts a file
+  pub record PutLine (number : ℕ) (path : PathName) (time sequence : ℤ) (bytes : List ℕ)
+      (a : World D P V C N) (result : Result ℕ ClientFault) (b : World D P V C N) : Type 0 where
     pub now : AtMoment number a b
-    pub puts : PutsAt who.disks who.peers now.opened.place now.opened.session.user now.moment path time sequence bytes result a.state a.around.peers b.state b.around.peers
+    pub puts : PutsAt who.disks who.peers now.opened.place now.opened.session.user now.moment
+        path time sequence bytes result a.state a.around.peers b.state b.around.peers
 
-  -- its user gets a file
-  pub record GetLine (number : ℕ) (path : PathName) (a : World D P V C N) (result : Result (List ℕ) ClientFault) (b : World D P V C N) : Type 0 where
+  -- the user of an open session gets a file
+  pub record GetLine (number : ℕ) (path : PathName) (a : World D P V C N)
+      (result : Result (List ℕ) ClientFault) (b : World D P V C N) : Type 0 where
     pub now : AtMoment number a b
-    pub gets : GetsAt who.disks who.peers now.opened.place now.opened.session.user now.moment path result a.state a.around.peers b.state b.around.peers
+    pub gets : GetsAt who.disks who.peers now.opened.place now.opened.session.user
+        now.moment path result a.state a.around.peers b.state b.around.peers

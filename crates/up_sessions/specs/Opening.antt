@@ -17,7 +17,8 @@ use Rattle.up_sessions.specs.declared.fault.LineFault.TheVariants as fault
 use Rattle.up_wire.specs.declared.keys.KeyRecord.{KeyRecord}
 
 -- the first disks were taken for a host, in order, and it stands behind the others
-pub record AddsHost {D : Type 0} (disks : Ghosts D) (limits : Limits) (name : List ℕ) (operator : UserName) (owners : List UserName) (a b : Hosts D) : Type 0 where
+pub record AddsHost {D : Type 0} (disks : Ghosts D) (limits : Limits) (name : List ℕ)
+    (operator : UserName) (owners : List UserName) (a b : Hosts D) : Type 0 where
   pub given : List D
   pub free_is : a.free ≡ given ++ b.free
   pub host : HostState D
@@ -25,12 +26,12 @@ pub record AddsHost {D : Type 0} (disks : Ghosts D) (limits : Limits) (name : Li
   pub hosts_are : b.hosts ≡ a.hosts ++ host ∷ []
   pub sessions_are : b.sessions ≡ a.sessions
 
--- why a host is refused whose line ends so
+-- the reason for which a host was refused, where the line that opens it stops for this fault
 abbrev pub why_refused : LineFault → OpenWhy
 why_refused fault.Fault = reason.Fault
 why_refused fault.OutOfMemory = reason.OutOfMemory
 
--- whether it is damage for which a host is refused
+-- whether a host is refused for what one of its logs holds, and not for a fault or for want of memory
 abbrev pub is_damage : OpenWhy → Bool
 is_damage reason.Fault = false
 is_damage reason.OutOfMemory = false
@@ -38,7 +39,8 @@ is_damage other = true
 
 -- One of the first disks was refused, for a fault of it or for want of memory. All of them are back in their places, and nothing else
 -- changed.
-pub record RefusesNext {D : Type 0} (disks : Ghosts D) (limits : Limits) (owners : List UserName) (why : LineFault) (a b : Hosts D) : Type 0 where
+pub record RefusesNext {D : Type 0} (disks : Ghosts D) (limits : Limits)
+    (owners : List UserName) (why : LineFault) (a b : Hosts D) : Type 0 where
   pub given : List D
   pub rest : List D
   pub free_is : a.free ≡ given ++ rest
@@ -48,20 +50,22 @@ pub record RefusesNext {D : Type 0} (disks : Ghosts D) (limits : Limits) (owners
   pub why_is : refused.why ≡ why_refused why
   pub whole : b ≡ record a { free = refused.disks.disks ++ rest }
 
--- a host was opened, or refused
-abbrev pub OpensNext : {D : Type 0} → Ghosts D → Limits → List ℕ → UserName → List UserName → Hosts D → Result (Unit {0}) LineFault → Hosts D → Type 0
+-- a host was opened over the next free disks, or refused
+abbrev pub OpensNext : {D : Type 0} → Ghosts D → Limits → List ℕ → UserName
+    → List UserName → Hosts D → Result (Unit {0}) LineFault → Hosts D → Type 0
 OpensNext disks limits name operator owners a (Ok done) b = AddsHost disks limits name operator owners a b
 OpensNext disks limits name operator owners a (Err why) b = RefusesNext disks limits owners why a b
 
--- a record without endpoints
+-- a user's key record that names no endpoints
 abbrev pub plain_card : UserName → List ℕ → KeyRecord
 plain_card user key = record { user = user; dirs = []; stores = []; key = key }
 
--- it was put to the keys of a host, or refused; the logs stay settled but for a fault
-pub record EnrolsOne {D : Type 0} (disks : Ghosts D) (card : KeyRecord) (host after : HostState D) (result : Result ℕ AppendWhy) : Type 0 where
+-- a key record was put to the keys of a host, or refused; the logs stay settled but for a fault
+pub record EnrolsOne {D : Type 0} (disks : Ghosts D) (card : KeyRecord)
+    (host after : HostState D) (result : Result ℕ AppendWhy) : Type 0 where
   pub enrols : Enrols disks card host after result
   pub settled : StaysSettled disks host after
 
--- of the host at a place
+-- a user was enrolled at the host at a place, by a record without endpoints, or refused
 abbrev pub EnrolsAt : {D : Type 0} → Ghosts D → ℕ → UserName → List ℕ → Hosts D → Result ℕ AppendWhy → Hosts D → Type 0
 EnrolsAt disks place user key a result b = AtHost place (λ host after. EnrolsOne disks (plain_card user key) host after result) a b

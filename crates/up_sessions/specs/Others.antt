@@ -9,7 +9,7 @@ use Rattle.up_peer.specs.Loading.{GroupQuestion}
 use Rattle.up_peer.specs.declared.loader.Loader.{Ghosts}
 use Rattle.up_policy.specs.declared.load_answer.LoadAnswer.{LoadAnswer}
 
--- all but the one at a place, in order
+-- all hosts but the one at a place, in order
 abbrev pub others : {X : Type 0} → ℕ → List X → List X
 others place hosts = take place hosts ++ drop (suc place) hosts
 
@@ -21,7 +21,8 @@ has_tree owner host = is_some (tree_for host.trees owner)
 -- may be wanting; where no host has it, who stands behind them is asked.
 abbrev pub LoadsFirst : {D P : Type 0} → Ghosts P → Option (HostState D) → P → GroupQuestion → Option LoadAnswer → P → Type 0
 LoadsFirst loader (Some host) old question answer new =
-    (new ≡ old) × IfSome answer (λ (loaded : LoadAnswer). loaded ≡ load_of question.name.owner (group_text_by host.trees question.asker question.name))
+    (new ≡ old)
+    × IfSome answer (λ (loaded : LoadAnswer). loaded ≡ load_of question.name.owner (group_text_by host.trees question.asker question.name))
 LoadsFirst loader None old question answer new = loader.loads old question answer new
 
 -- what stands behind a host as its loader: for a group the first of the other hosts that has the owner's tree, and else the peers; for a

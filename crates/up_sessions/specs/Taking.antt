@@ -11,14 +11,16 @@ use Rattle.up_sessions.specs.Opening.{why_refused}
 use Rattle.up_sessions.specs.declared.fault.LineFault.{LineFault}
 
 -- the first disks were taken for a host that was opened, and there is room for them
-pub record TakesHost {D : Type 0} (disks : Ghosts D) (limits : Limits) (name : List ℕ) (operator : UserName) (owners : List UserName) (old new : Spared D) (host : HostState D) : Type 0 where
+pub record TakesHost {D : Type 0} (disks : Ghosts D) (limits : Limits) (name : List ℕ) (operator : UserName)
+    (owners : List UserName) (old new : Spared D) (host : HostState D) : Type 0 where
   pub given : List D
   pub taken : old.disks ≡ given ++ new.disks
   pub opens : OpensHost disks limits name operator owners given host
   pub room : new.spare ≡ old.spare + (length owners + 2)
 
--- or they were handed back, and stand in their places
-pub record HandsBack {D : Type 0} (disks : Ghosts D) (limits : Limits) (owners : List UserName) (why : LineFault) (old new : Spared D) : Type 0 where
+-- The first disks were taken for a host that was refused; they were handed back, and stand in their places.
+pub record HandsBack {D : Type 0} (disks : Ghosts D) (limits : Limits)
+    (owners : List UserName) (why : LineFault) (old new : Spared D) : Type 0 where
   pub given : List D
   pub rest : List D
   pub taken : old.disks ≡ given ++ rest

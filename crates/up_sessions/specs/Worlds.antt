@@ -19,17 +19,19 @@ pub record Hosts (D : Type 0) : Type 0 where
   pub sessions : List (Option Opened)
   pub free : List D
 
--- the session that is open at a number
+-- the session that is open at a number of this list
 abbrev pub session_in : List (Option Opened) → ℕ → Option Opened
 session_in sessions number = option_and_then (λ session. session) (slice_get sessions number)
 
+-- the session that is open at a number, among those of the hosts
 abbrev pub session_at : {D : Type 0} → Hosts D → ℕ → Option Opened
 session_at a number = session_in a.sessions number
 
--- its user
+-- the user of the session that is open at a number of this list
 abbrev pub user_in : List (Option Opened) → ℕ → Option UserName
 user_in sessions number = option_map (λ (opened : Opened). opened.session.user) (session_in sessions number)
 
+-- the user of the session that is open at a number, among those of the hosts
 abbrev pub user_at : {D : Type 0} → Hosts D → ℕ → Option UserName
 user_at a number = user_in a.sessions number
 
@@ -37,7 +39,7 @@ user_at a number = user_in a.sessions number
 abbrev pub no_session : List (Option Opened)
 no_session = replicate 100 None
 
--- the same with this session at a number, or with none
+-- the hosts, with this session open at a number, or with none there
 abbrev pub with_session : {D : Type 0} → ℕ → Option Opened → Hosts D → Hosts D
 with_session number session a = record a { sessions = slice_set a.sessions number session }
 

@@ -17,10 +17,10 @@ use Rattle.up_names.specs.PathOrderLaws.{path_cmp_total, path_exact}
 use Rattle.up_access.specs.declared.Rule.{Rule}
 use Rattle.up_policy.specs.Loadings.{Loading}
 use Rattle.up_policy.specs.Trees.{owns_snapshots}
-use Rattle.up_replay.specs.Rights.{facts_of, governing_prefix, group_paths}
-use Rattle.up_replay.specs.Trees.{Tree}
-use Rattle.up_replay.proofs.Fronts.{take_next}
-use Rattle.up_replay.proofs.Paths.{some_none, some_same}
+use Rattle.up_log_tree.specs.Rights.{facts_of, governing_prefix, group_paths}
+use Rattle.up_log_tree.specs.Trees.{Tree}
+use Rattle.up_log_tree.proofs.Fronts.{take_next}
+use Rattle.up_log_tree.proofs.Paths.{some_none, some_same}
 use Rattle.up_share.specs.declared.known.Known.{Known}
 use Rattle.up_share.specs.Known.{AreKnown, HasSearched, HasTold, is_key, is_listed, lacking_by, line_of, paths_in, rules_in, unread_of, word_by}
 use Rattle.up_share.specs.Orders.{Keys, in_order, with_keys}

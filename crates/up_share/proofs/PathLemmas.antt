@@ -17,13 +17,13 @@ use Rattle.up_entry.specs.declared.records.Rec.TheVariants.{Put, Delete, Snap}
 use Rattle.up_access.specs.declared.Rule.{Rule}
 use Rattle.up_policy.specs.Governors.{first_text, governor, prefixes}
 use Rattle.up_policy.specs.Trees.{owns_snapshots}
-use Rattle.up_replay.specs.Changes.{record_at}
-use Rattle.up_replay.specs.declared.node.Node.{Node}
-use Rattle.up_replay.specs.Rights.{access_node, facts_of, governing_prefix, rules_of}
-use Rattle.up_replay.specs.Trees.{Tree, after_record, tree_at, tree_of}
-use Rattle.up_replay.proofs.Fronts.{take_next}
-use Rattle.up_replay.proofs.Paths.{some_none, some_same}
-use Rattle.up_replay.proofs.Trees.{tree_of-push}
+use Rattle.up_log_tree.specs.Changes.{record_at}
+use Rattle.up_log_tree.specs.declared.node.Node.{Node}
+use Rattle.up_log_tree.specs.Rights.{access_node, facts_of, governing_prefix, rules_of}
+use Rattle.up_log_tree.specs.Trees.{Tree, after_record, tree_at, tree_of}
+use Rattle.up_log_tree.proofs.Fronts.{take_next}
+use Rattle.up_log_tree.proofs.Paths.{some_none, some_same}
+use Rattle.up_log_tree.proofs.Trees.{tree_of-push}
 use Rattle.up_share.specs.Known.{paths_in, rules_in}
 use Rattle.up_share.specs.Orders.{Keys, with_key}
 use Rattle.up_share.specs.Readers.{governing_rules}

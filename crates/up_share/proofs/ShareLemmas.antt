@@ -12,13 +12,13 @@ use Rattle.up_lists.specs.Counts.{Rose}
 use Rattle.up_names.specs.Texts.{Text, UserName}
 use Rattle.up_reports.specs.declared.refused.Refused.{Refused}
 use Rattle.up_policy.specs.Trees.{owns_snapshots}
-use Rattle.up_replay.proofs.Paths.{some_none, some_same}
+use Rattle.up_log_tree.proofs.Paths.{some_none, some_same}
 use Rattle.up_reports.specs.Opens.{AreLogs, OpensTree, OpensTrees, RefusesLogs, TakesTrees, disk_of, report_limits, trees_of}
 use Rattle.up_reports.specs.Telling.{AnswersOne, Stays, told_of}
 use Rattle.up_reports.proofs.CountLemmas.{refuses_later, refuses_rose, refuses_well}
 use Rattle.up_reports.proofs.TellLemmas.{refused_codes, refused_complete, refused_six, told_wanting}
 use Rattle.up_share.specs.declared.plan.SharePlan.{SharePlan}
-use Rattle.up_replay.specs.Trees.{tree_of}
+use Rattle.up_log_tree.specs.Trees.{tree_of}
 use Rattle.up_share.specs.Plans.{plan_of}
 use Rattle.up_share.specs.Report.{report}
 use Rattle.up_share.specs.Sharing.{FitsNot, HasCauses, IsComplete, Refuses, Shares, Tells, Wants, whole_report}

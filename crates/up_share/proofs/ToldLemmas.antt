@@ -18,7 +18,7 @@ use Rattle.up_policy.specs.Members.{is_user}
 use Rattle.up_policy.specs.Trees.{TreeFacts, owns_snapshots}
 use Rattle.up_policy.specs.Verdicts.{HasRight, right_test}
 use Rattle.up_entry.specs.declared.records.Rec.{Rec}
-use Rattle.up_replay.specs.Changes.{record_at}
+use Rattle.up_log_tree.specs.Changes.{record_at}
 use Rattle.up_share.specs.declared.readers.Readers.{Readers}
 use Rattle.up_share.specs.Orders.{Keys, with_keys}
 use Rattle.up_share.specs.Readers.{AreReaders, AreUnread, governing_rules, lacking, readers_by}

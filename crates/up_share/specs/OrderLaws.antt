@@ -15,9 +15,12 @@ use Rattle.up_names.specs.PathOrder.{path_cmp}
 use Rattle.up_names.specs.PathOrderLaws.{path_cmp_total, path_exact}
 use Rattle.up_share.specs.Orders.{item_cmp, name_in, path_in, rank}
 
+-- the order of items is a total order
 pub item_cmp_total : IsTotalOrder item_cmp
-item_cmp_total = then_total (on_total rank nat_cmp_total) (then_total (on_total name_in nat_list_cmp_total) (on_total path_in path_cmp_total))
+item_cmp_total =
+    then_total (on_total rank nat_cmp_total) (then_total (on_total name_in nat_list_cmp_total) (on_total path_in path_cmp_total))
 
+-- two comparisons, one after the other, say Equal only where each of them does
 both_equal : (o r : Ordering) → ordering_then o r ≡ Equal → (o ≡ Equal) × (r ≡ Equal)
 both_equal Less r h = absurd (false≢true (ap is_eq h))
 both_equal Equal r h = (refl, h)
@@ -42,9 +45,13 @@ one_item (Group group) Everyone kind name path = absurd (omega (arith, kind))
 one_item (Group group) (Domain other) kind name path = absurd (omega (arith, kind))
 one_item (Group group) (User other) kind name path = absurd (omega (arith, kind))
 
+-- items that compare as Equal are equal
 pub item_cmp_exact : CmpEqualImpliesEq item_cmp
 item_cmp_exact one other h =
-    let kinds = both_equal (nat_cmp (rank one) (rank other)) (ordering_then (slice_cmp nat_cmp (name_in one) (name_in other)) (path_cmp (path_in one) (path_in other))) h in
+    let kinds =
+    both_equal (nat_cmp (rank one) (rank other))
+    (ordering_then (slice_cmp nat_cmp (name_in one) (name_in other)) (path_cmp (path_in one) (path_in other))) h in
     let parts = both_equal (slice_cmp nat_cmp (name_in one) (name_in other)) (path_cmp (path_in one) (path_in other)) kinds.1 in
     one_item one other (nat_cmp-IsAntisymmetric (rank one) (rank other) kinds.0)
-    (slice_cmp-IsAntisymmetric nat_cmp-IsAntisymmetric (name_in one) (name_in other) parts.0) (path_exact (path_in one) (path_in other) parts.1)
+    (slice_cmp-IsAntisymmetric nat_cmp-IsAntisymmetric (name_in one) (name_in other) parts.0)
+    (path_exact (path_in one) (path_in other) parts.1)

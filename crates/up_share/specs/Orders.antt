@@ -15,10 +15,11 @@ use Rattle.up_names.specs.PathOrder.{path_cmp}
 abbrev pub Keys : Type 0 → Type 0
 Keys K = List (K × Unit {0})
 
--- these keys and one more, and these and all of those
+-- these keys and one more
 abbrev pub with_key : {K : Type 0} → (K → K → Ordering) → Keys K → K → Keys K
 with_key cmp keys key = put cmp key tt keys
 
+-- these keys and all of those
 abbrev pub with_keys : {K : Type 0} → (K → K → Ordering) → Keys K → List K → Keys K
 with_keys cmp keys more = fold (with_key cmp) keys more
 

@@ -21,7 +21,7 @@ use Rattle.up_share.specs.Orders.{in_order, item_cmp}
 
 -- ---- what is meant
 
--- a user, a domain or everyone, and no group
+-- whether an item is a user, a domain or everyone, and no group
 abbrev pub is_plain : Item → Bool
 is_plain Everyone = true
 is_plain (Domain domain) = true
@@ -35,11 +35,13 @@ Leads texts first (next ∷ behind) last = Contains (names_in texts first) next 
 
 -- A group is met: a list of groups leads to it from one that stands in a rule that holds read.
 abbrev pub IsMet : GroupTexts → List Rule → PathName → Type 0
-IsMet texts rules group = (first : PathName) × (behind : List PathName) × Contains (items_for Read rules) (Group first) × Leads texts first behind group
+IsMet texts rules group =
+    (first : PathName) × (behind : List PathName) × Contains (items_for Read rules) (Group first) × Leads texts first behind group
 
 -- An item stands in a rule that holds read, or in the text of a group that is met.
 abbrev pub StandsIn : GroupTexts → List Rule → Item → Type 0
-StandsIn texts rules item = Contains (items_for Read rules) item ⊎ ((group : PathName) × IsMet texts rules group × Contains (items_in texts group) item)
+StandsIn texts rules item =
+    Contains (items_for Read rules) item ⊎ ((group : PathName) × IsMet texts rules group × Contains (items_in texts group) item)
 
 -- Who reads at a path: the owner; and where a text governs the path, each user, each domain and everyone that stands in a rule of it
 -- that holds read, or in the text of a group that is met from there.
@@ -53,12 +55,13 @@ pub record AreReaders (tree : TreeFacts) (loaded : Loading) (path : PathName) (i
   pub members : (item : Item) → Contains items item ↔ IsReader tree loaded path item
   pub order : IsStrictlySortedBy item_cmp items
 
--- A group of another owner is met on the way, and has no text.
+-- A group of another owner is met on the way to who reads at a path, and has no text.
 abbrev pub IsUnread : TreeFacts → Loading → PathName → PathName → Type 0
 IsUnread tree loaded path group =
-    (rules : List Rule) × IsGovernor tree path (Some rules) × IsMet (text_of tree loaded) rules group × (group.owner ≢ tree.owner) × (text_of tree loaded group ≡ None)
+    (rules : List Rule) × IsGovernor tree path (Some rules) × IsMet (text_of tree loaded) rules group
+    × (group.owner ≢ tree.owner) × (text_of tree loaded group ≡ None)
 
--- All such groups, and no others, in order of paths and none twice.
+-- All groups that are unread for a path, and no others, in order of paths and none twice.
 pub record AreUnread (tree : TreeFacts) (loaded : Loading) (path : PathName) (groups : List PathName) : Type 0 where
   pub members : (group : PathName) → Contains groups group ↔ IsUnread tree loaded path group
   pub order : IsStrictlySortedBy path_cmp groups
@@ -81,7 +84,7 @@ standing tree listed loaded rules = items_for Read rules ++ flat_map (items_in (
 unfoldable pub readers_by : TreeFacts → List PathName → Loading → List Rule → List Item
 readers_by tree listed loaded rules = in_order item_cmp (User tree.owner ∷ filter is_plain (standing tree listed loaded rules))
 
--- a group of another owner that has no text
+-- whether a group is another owner's and has no text
 abbrev pub lacks_text : TreeFacts → Loading → PathName → Bool
 lacks_text tree loaded group = not (bytes_eq group.owner tree.owner) && is_none (text_of tree loaded group)
 
@@ -89,9 +92,10 @@ lacks_text tree loaded group = not (bytes_eq group.owner tree.owner) && is_none 
 unfoldable pub lacking : TreeFacts → List PathName → Loading → List Rule → List PathName
 lacking tree listed loaded rules = filter (lacks_text tree loaded) (met_groups tree listed loaded rules)
 
--- who reads at a path, and which groups are unread for it
+-- who reads at a path
 abbrev pub readers : TreeFacts → List PathName → Loading → PathName → List Item
 readers tree listed loaded path = readers_by tree listed loaded (governing_rules tree path)
 
+-- the groups that are unread for a path, in order, each once
 abbrev pub unread : TreeFacts → List PathName → Loading → PathName → List PathName
 unread tree listed loaded path = in_order path_cmp (lacking tree listed loaded (governing_rules tree path))

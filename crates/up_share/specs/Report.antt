@@ -8,12 +8,12 @@ use Rattle.up_names.specs.PathNames.{PathName, canonical}
 use Rattle.up_names.specs.PathOrder.{path_cmp}
 use Rattle.up_access.specs.Printing.{item_text}
 use Rattle.up_text.specs.Words.{coded}
-use Rattle.up_replay.specs.Rights.{facts_of, group_paths}
-use Rattle.up_replay.specs.Trees.{Tree, is_file, kind_of, node_at}
+use Rattle.up_log_tree.specs.Rights.{facts_of, group_paths}
+use Rattle.up_log_tree.specs.Trees.{Tree, is_file, kind_of, node_at}
 use Rattle.up_share.specs.Orders.{in_order}
 use Rattle.up_share.specs.Readers.{readers, unread}
 
--- a file stands at a path: an Access or a Group file too
+-- whether a file stands at a path: an Access or a Group file too
 abbrev pub is_file_at : Tree → PathName → Bool
 is_file_at tree path = elim (node_at tree path) [ None ↦ false | Some node ↦ is_file (kind_of node) ]
 
@@ -21,10 +21,11 @@ is_file_at tree path = elim (node_at tree path) [ None ↦ false | Some node ↦
 unfoldable pub files_of : Tree → List PathName
 files_of tree = filter (is_file_at tree) (keys_of tree)
 
--- who reads at a path of an owner's tree, with nothing loaded; and which groups are unread for it
+-- who reads at a path of an owner's tree, with nothing loaded
 abbrev pub readers_at : UserName → Tree → PathName → List Item
 readers_at owner tree path = readers (facts_of owner tree) (group_paths tree) [] path
 
+-- the groups that are unread for a path of an owner's tree, with nothing loaded
 abbrev pub unread_at : UserName → Tree → PathName → List PathName
 unread_at owner tree path = unread (facts_of owner tree) (group_paths tree) [] path
 
@@ -46,4 +47,5 @@ unread_in owner tree = in_order path_cmp (flat_map (unread_at owner tree) (files
 
 -- the line of each file in order of paths, and then that of each group that is unread for some file
 unfoldable pub report : UserName → Tree → Text
-report owner tree = flat_map (λ path. file_line path (readers_at owner tree path)) (files_of tree) ++ flat_map unread_line (unread_in owner tree)
+report owner tree =
+    flat_map (λ path. file_line path (readers_at owner tree path)) (files_of tree) ++ flat_map unread_line (unread_in owner tree)

@@ -5,7 +5,7 @@ use Rattle.up_disk.specs.declared.disk.Disk.{Ghosts}
 use Rattle.up_journal.specs.declared.limits.Limits.{Limits}
 use Rattle.up_lists.specs.Counts.{Rose}
 use Rattle.up_names.specs.Texts.{Text, UserName}
-use Rattle.up_replay.specs.Trees.{tree_of}
+use Rattle.up_log_tree.specs.Trees.{tree_of}
 use Rattle.up_reports.specs.declared.refused.Refused.{Refused}
 use Rattle.up_reports.specs.Opens.{AreLogs, OpensTree, RefusesLogs, trees_of}
 use Rattle.up_reports.specs.Telling.{AnswersOne, Stays, told_of}
@@ -23,7 +23,8 @@ abbrev pub whole_report : {D : Type 0} → tree.State D → Answer
 whole_report state = record { text = report state.owner (tree_of state.log); status = 0 }
 
 -- The log was opened as the owner's tree, and its report was printed; a front of it where the sink failed or memory was wanting.
-pub record Tells {D : Type 0} (disks : Ghosts D) (limits : Limits) (owner : UserName) (given now : List D) (held held_now : Option Text) (status : ℕ) : Type 0 where
+pub record Tells {D : Type 0} (disks : Ghosts D) (limits : Limits) (owner : UserName)
+    (given now : List D) (held held_now : Option Text) (status : ℕ) : Type 0 where
   pub disk : D
   pub state : tree.State D
   pub given_is : given ≡ disk ∷ []
@@ -32,7 +33,8 @@ pub record Tells {D : Type 0} (disks : Ghosts D) (limits : Limits) (owner : User
   pub answers : AnswersOne held held_now (whole_report state) status
 
 -- The log did not open, and the line that tells why was printed; the disk is back.
-pub record Refuses {D : Type 0} (disks : Ghosts D) (limits : Limits) (owner : UserName) (given now : List D) (held held_now : Option Text) (status : ℕ) : Type 0 where
+pub record Refuses {D : Type 0} (disks : Ghosts D) (limits : Limits) (owner : UserName)
+    (given now : List D) (held held_now : Option Text) (status : ℕ) : Type 0 where
   pub refused : Refused
   pub refuses : RefusesLogs disks limits (trees_of (owner ∷ [])) given now refused
   pub answers : AnswersOne held held_now (told_of refused) status
@@ -43,7 +45,7 @@ pub record Wants {D : Type 0} (given now : List D) (held held_now : Option Text)
   pub back_is : now ≡ given
   pub held_is : held_now ≡ held
 
--- one of these
+-- What came of sharing an owner's tree: its report was printed, or its log was refused, or nothing was done for want of memory.
 abbrev pub Shares : {D : Type 0} → Ghosts D → Limits → UserName → List D → List D → Option Text → Option Text → ℕ → Type 0
 Shares disks limits owner given now held held_now status =
     Tells disks limits owner given now held held_now status

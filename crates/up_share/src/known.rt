@@ -5,7 +5,7 @@ ghost use Rattle.std.specs.List.{flat_map};
 ghost use Rattle.std.specs.Map.{keys_of};
 ghost use Rattle.up_access.specs.Printing.{item_text};
 ghost use Rattle.up_names.specs.PathOrder.{path_cmp};
-ghost use Rattle.up_replay.specs.Trees.{tree_of};
+ghost use Rattle.up_log_tree.specs.Trees.{tree_of};
 ghost use Rattle.up_share.specs.Known.{AreKnown, HasSearched, rules_in, word_by};
 ghost use Rattle.up_share.specs.Report.{items_text, unread_line};
 ghost use Rattle.up_text.specs.Words.{coded};

@@ -4,7 +4,7 @@ ghost use Rattle.std.specs.Io.KnownBytes.{Appends};
 ghost use Rattle.up_command.specs.Statuses.{IsOneOf, usage_line};
 ghost use Rattle.up_ends.specs.Writing.{WritesPart};
 ghost use Rattle.up_journal.specs.Journal.{AreLimits};
-ghost use Rattle.up_lists.specs.Counts.{Rose};
+ghost use Rattle.up_lists.specs.Counts.{Rose, StaysUnless};
 ghost use Rattle.up_policy.specs.Trees.{owns_snapshots};
 ghost use Rattle.up_reports.specs.Opens.{disk_of, report_limits};
 ghost use Rattle.up_reports.specs.Telling.{AnswersOne};
@@ -53,6 +53,7 @@ pub fn share_run<D: Disk + Drop, K: Sink>(
     ensures statuses { IsOneOf (0 ∷ 3 ∷ 4 ∷ 6 ∷ 8 ∷ 64 ∷ []) result }
     ensures causes { HasCauses D.Disk disks.old.disks disks.new.disks
         (K.faults sink.old) (K.faults sink.new) result }
+    ensures sink_quiet { StaysUnless (K.faults sink.old) (K.faults sink.new) (result ≡ 3) }
 
     // Where nothing is amiss all was printed, or memory was wanting.
     ensures complete { IfSome (plan_of (map string_bytes words.now)) (λ plan.
@@ -104,6 +105,7 @@ fn share_within<D: Disk + Drop, K: Sink>(
     ensures statuses { IsOneOf (0 ∷ 3 ∷ 4 ∷ 6 ∷ 8 ∷ []) result }
     ensures causes { HasCauses D.Disk disks.old.disks disks.new.disks
         (K.faults sink.old) (K.faults sink.new) result }
+    ensures sink_quiet { StaysUnless (K.faults sink.old) (K.faults sink.new) (result ≡ 3) }
     ensures complete { IsComplete D.Disk limits owner disks.old.disks disks.new.disks
         (K.faults sink.old) (K.faults sink.new) result }
 {
@@ -127,6 +129,7 @@ fn share_tree<D: Disk + Drop, K: Sink>(
         (K.held sink.old) (K.held sink.new) result }
     ensures cause { result ≡ 3 → Rose (K.faults sink.old) (K.faults sink.new) }
     ensures later { K.faults sink.old ≤ K.faults sink.new }
+    ensures quiet { StaysUnless (K.faults sink.old) (K.faults sink.new) (result ≡ 3) }
 {
     let owners = match one_owner(alloc, owner) {
         Ok(owners) => owners,
@@ -163,6 +166,7 @@ fn tell_trees<D: Disk + Drop, K: Sink>(
         → AnswersOne (K.held sink.old) (K.held sink.new) (whole_report state) result }
     ensures cause { result ≡ 3 → Rose (K.faults sink.old) (K.faults sink.new) }
     ensures later { K.faults sink.old ≤ K.faults sink.new }
+    ensures quiet { StaysUnless (K.faults sink.old) (K.faults sink.new) (result ≡ 3) }
 {
     let Some(state) = trees.get(0) else {
         unreachable!()
@@ -184,6 +188,7 @@ fn tell_report<D: Disk, K: Sink>(
         (whole_report state.now) result }
     ensures cause { result ≡ 3 → Rose (K.faults sink.old) (K.faults sink.new) }
     ensures later { K.faults sink.old ≤ K.faults sink.new }
+    ensures quiet { StaysUnless (K.faults sink.old) (K.faults sink.new) (result ≡ 3) }
 {
     match report_text(alloc, random, state) {
         Ok(text) => tell_text(sink, &text),
@@ -198,6 +203,7 @@ fn tell_text<K: Sink>(sink: &mut K, text: &[u8]) -> u8
         (record { text = text.now; status = 0 }) result }
     ensures cause { result ≡ 3 → Rose (K.faults sink.old) (K.faults sink.new) }
     ensures later { K.faults sink.old ≤ K.faults sink.new }
+    ensures quiet { StaysUnless (K.faults sink.old) (K.faults sink.new) (result ≡ 3) }
 {
     match write_all(sink, text) {
         Ok(()) => Status::Done.code(),

@@ -31,7 +31,7 @@ use Rattle.up_names.specs.PathNames.{PathName}
 use Rattle.up_names.specs.Texts.{UserName}
 use Rattle.up_policy.specs.Loadings.{Loading}
 use Rattle.up_policy.specs.declared.load_answer.LoadAnswer.{LoadAnswer}
-use Rattle.up_replay.specs.Logs.{Log}
+use Rattle.up_log_tree.specs.Logs.{Log}
 use Rattle.up_shared.proofs.Turning.{turn_fixed, turn_takes, turned_after, turned_before, turned_fixed, turned_later, turned_looked, turned_own, turned_quiet, turned_takes}
 use Rattle.up_shared.specs.Callers.{IsTied, KeysTurned, StoreTurned, TreeTurned, seats_same}
 use Rattle.up_shared.specs.Jobs.{there}

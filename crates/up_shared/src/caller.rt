@@ -15,6 +15,7 @@ use up_calls::{Logs, Turn};
 use up_dir::Fetched;
 use up_disk::Disk;
 use up_entry::Fetch;
+use up_list::ReadRequest;
 use up_names::{Path, User};
 use up_policy::{LoadAnswer, Loaded};
 use up_refs::Reference;
@@ -84,6 +85,7 @@ impl<'a, D: Disk + Drop, R: Wait> Logs for Caller<'a, D, R> {
         owner: &User,
         user: &User,
         request: &Request,
+        asked: &ReadRequest,
         loaded: &Loaded,
         fetched: &Fetched,
         now: u64,
@@ -95,6 +97,7 @@ impl<'a, D: Disk + Drop, R: Wait> Logs for Caller<'a, D, R> {
             alloc,
             user,
             request,
+            asked,
             loaded,
             fetched,
             now,

@@ -1,9 +1,10 @@
 //! What is done in the turns of a shared host.
-ghost use Rattle.std.specs.Prelude.{◌≡◌, ◌<◌, None};
+ghost use Rattle.std.specs.Prelude.{◌≡◌, ◌<◌, None, Ok};
 ghost use Rattle.up_calls.specs.Routes.{service_of};
 ghost use Rattle.up_calls.specs.Services.{key_fault, store_fault};
 ghost use Rattle.up_calls.specs.Steps.{KeysTried, StoreTried, Tried};
 ghost use Rattle.up_calls.specs.declared.service.Service.TheVariants as service;
+ghost use Rattle.up_list.specs.Asking.{asked_of};
 ghost use Rattle.up_shared.specs.Jobs.{ReadsBlock, ReadsText};
 
 use std::alloc::{AllocError, Global};
@@ -15,18 +16,20 @@ use up_dir::Fetched;
 use up_disk::Disk;
 use up_entry::Fetch;
 use up_keys::Keys;
+use up_list::ReadRequest;
 use up_names::{Path, User};
 use up_policy::{LoadAnswer, Loaded};
 use up_refs::Reference;
 use up_tree::TreeState;
 use up_wire::{Reply, Request};
 
-/// A user's request to a tree, with what was loaded and fetched for it: what is missing for it, or else the reply.
+/// A user's request to a tree, and what it asks, with what was loaded and fetched for it: what is missing for it, or else the reply.
 #[derive(Drop)]
 pub(crate) struct TryTree<'a> {
     pub(crate) alloc: Global,
     pub(crate) user: &'a User,
     pub(crate) request: &'a Request,
+    pub(crate) asked: &'a ReadRequest,
     pub(crate) loaded: &'a Loaded,
     pub(crate) fetched: &'a Fetched,
     pub(crate) now: u64,
@@ -34,7 +37,8 @@ pub(crate) struct TryTree<'a> {
 }
 
 impl<'a, D: Disk> Job<TreeState<D>> for TryTree<'a> {
-    ghost can = { λ job state. job.now < 253402207200 };
+    ghost can = { λ job state. (asked_of job.user.now job.request.now ≡ Ok job.asked.now)
+        × (job.now < 253402207200) };
 
     ghost did = { λ job old after new. Tried D.Disk
         (record { user = job.user.now; request = job.request.now })
@@ -46,6 +50,7 @@ impl<'a, D: Disk> Job<TreeState<D>> for TryTree<'a> {
             state,
             self.user,
             self.request,
+            self.asked,
             self.loaded,
             self.fetched,
             self.now,

@@ -9,40 +9,40 @@ use Rattle.up_entry.specs.declared.fault.EntryFault.TheVariants as fault
 use Rattle.up_entry.specs.declared.records.Rec.{Rec}
 use Rattle.up_entry.specs.declared.what.What.{What}
 use Rattle.up_policy.specs.Loadings.{Loading}
-use Rattle.up_list.specs.declared.asking.Asked.{Asked}
+use Rattle.up_list.specs.declared.asking.ReadRequest.{ReadRequest}
 use Rattle.up_list.specs.Asking.{asked_of, owner_asked}
 use Rattle.up_list.specs.Changes.{added_by, answer_of}
 use Rattle.up_wire.specs.declared.replies.Reply.{Reply}
 use Rattle.up_wire.specs.declared.replies.Reply.TheVariants as reply
 use Rattle.up_wire.specs.declared.requests.Request.{Request}
-use Rattle.up_replay.specs.Logs.{Log}
+use Rattle.up_log_tree.specs.Logs.{Log}
 use Rattle.up_tree.specs.States.{State, log_of}
 use Rattle.up_answers.specs.Answers.{added, answer, asked_outcome, fault_reply, log_owner, outcome, tree_outcome}
 use Rattle.up_answers.specs.Fetching.{Fetched}
 use Rattle.up_answers.specs.SnapshotReplies.{snapshot_outcome}
-use Rattle.up_adding.specs.Steps.{Steps}
-use Rattle.up_adding.proofs.StepLemmas.{steps_memory, steps_told}
+use Rattle.up_commit.specs.Steps.{Steps}
+use Rattle.up_commit.proofs.StepLemmas.{steps_memory, steps_told}
 use Rattle.up_snap.specs.Outcomes.{IsOfSnapshots}
 
 -- ---- what it leads to
 
 module _ (log : Log) (loaded : Loading) (fetched : Fetched) (user : List ℕ) (now : ℕ) where
-  asked_is : (asked : Asked) → IsOfSnapshots log.owner (owner_asked asked) → asked_outcome log loaded fetched user asked now ≡ snapshot_outcome log user asked now
+  asked_is : (asked : ReadRequest) → IsOfSnapshots log.owner (owner_asked asked) → asked_outcome log loaded fetched user asked now ≡ snapshot_outcome log user asked now
   unfolding asked_outcome
   asked_is asked place =
       ap (λ b. if b then tree_outcome log loaded fetched user asked else if bytes_eq (log_owner (owner_asked asked)) log.owner then snapshot_outcome log user asked now else Err reply.WrongHost) place.0
       ∙ ap (λ b. if b then snapshot_outcome log user asked now else Err reply.WrongHost) ((bytes_eq-Decides (log_owner (owner_asked asked)) log.owner).1 place.1)
 
-  outcome_is : (request : Request) (asked : Asked) → asked_of user request ≡ Ok asked → IsOfSnapshots log.owner (owner_asked asked) → snapshot_outcome log user asked now ≡ outcome log loaded fetched user request now
+  outcome_is : (request : Request) (asked : ReadRequest) → asked_of user request ≡ Ok asked → IsOfSnapshots log.owner (owner_asked asked) → snapshot_outcome log user asked now ≡ outcome log loaded fetched user request now
   unfolding outcome
   outcome_is request asked is place =
-      sym (ap (λ (r : Result Asked EntryFault). elim r as (λ _. Result Rec Reply) [ Ok asked ↦ asked_outcome log loaded fetched user asked now | Err fault ↦ Err (fault_reply fault) ]) is
+      sym (ap (λ (r : Result ReadRequest EntryFault). elim r as (λ _. Result Rec Reply) [ Ok asked ↦ asked_outcome log loaded fetched user asked now | Err fault ↦ Err (fault_reply fault) ]) is
       ∙ asked_is asked place)
 
   malformed_is : (request : Request) (what : What) → asked_of user request ≡ Err (fault.Invalid what) → Err (reply.Invalid what) ≡ outcome log loaded fetched user request now
   unfolding outcome
   malformed_is request what is =
-      sym (ap (λ (r : Result Asked EntryFault). elim r as (λ _. Result Rec Reply) [ Ok asked ↦ asked_outcome log loaded fetched user asked now | Err fault ↦ Err (fault_reply fault) ]) is)
+      sym (ap (λ (r : Result ReadRequest EntryFault). elim r as (λ _. Result Rec Reply) [ Ok asked ↦ asked_outcome log loaded fetched user asked now | Err fault ↦ Err (fault_reply fault) ]) is)
 
 -- ---- what comes of it
 
@@ -57,7 +57,7 @@ module _ {D : Type 0} (disks : Ghosts D) where
   steps_by old new answered loaded fetched user request now led is steps = subst (λ r. Steps disks (answer_of (log_of old) r) (added_by (log_of old) r) old new answered) is steps
 
   -- its texts were read
-  pub steps_asked : (old new : State D) (answered : Reply) (user : List ℕ) (request : Request) (now : ℕ) (asked : Asked) → asked_of user request ≡ Ok asked → IsOfSnapshots old.owner (owner_asked asked) →
+  pub steps_asked : (old new : State D) (answered : Reply) (user : List ℕ) (request : Request) (now : ℕ) (asked : ReadRequest) → asked_of user request ≡ Ok asked → IsOfSnapshots old.owner (owner_asked asked) →
       Steps disks (answer_of (log_of old) (snapshot_outcome (log_of old) user asked now)) (added_by (log_of old) (snapshot_outcome (log_of old) user asked now)) old new answered → (loaded : Loading) (fetched : Fetched) →
       Steps disks (answer (log_of old) loaded fetched user request now) (added (log_of old) loaded fetched user request now) old new answered
   steps_asked old new answered user request now asked is place steps loaded fetched =

@@ -14,14 +14,14 @@ use Rattle.std.proofs.lemmas.Bool.{cases_order, eqb-true, eq-eqb, false≢true, 
 use Rattle.up_names.specs.PathNames.{PathName}
 use Rattle.up_entry.specs.declared.records.Rec.{Rec}
 use Rattle.up_entry.specs.declared.records.Rec.TheVariants.{Put, Delete, Snap}
-use Rattle.up_nodes.proofs.SnapTimes.{is_taken, snap_is}
-use Rattle.up_replay.specs.Fits.{IsLog, is_snap_at}
-use Rattle.up_replay.specs.Snapshots.{snap_at, snapshots_of}
-use Rattle.up_replay.proofs.Paths.{some_none, some_same}
+use Rattle.up_mem_tree.proofs.SnapTimes.{is_taken, snap_is}
+use Rattle.up_log_tree.specs.Fits.{IsLog, is_snap_at}
+use Rattle.up_log_tree.specs.Snapshots.{snap_at, snapshots_of}
+use Rattle.up_log_tree.proofs.Paths.{some_none, some_same}
 use Rattle.up_policy.proofs.VerdictLemmas.{any_at}
 use Rattle.std.proofs.Math.Seq.{take-length}
 use Rattle.std.proofs.lemmas.Grind.{fold-append}
-use Rattle.up_replay.proofs.Fronts.{take_next}
+use Rattle.up_log_tree.proofs.Fronts.{take_next}
 use Rattle.up_snap.specs.Firsts.{bearing_at, least_to, sooner}
 use Rattle.up_snap.specs.Shown.{bearing, bears_on, first_to}
 use Rattle.up_snap.specs.declared.shown.Shown.{Shown}
@@ -35,9 +35,9 @@ use Rattle.up_snap.proofs.UnderLemmas.{below_if}
 abbrev IsAmong : List ℕ → ℕ → Type 0
 IsAmong times time = (i : ℕ) × (slice_get times i ≡ Some time)
 
-module _ (shower : List ℕ) (records : List Rec) (q : PathName) where
+module _ (snap_user : List ℕ) (records : List Rec) (q : PathName) where
   abbrev At : ℕ → Option Shown
-  At time = bearing_at shower records q time
+  At time = bearing_at snap_user records q time
 
   abbrev step : Option Shown → ℕ → Option Shown
   step first time = sooner first (At time)
@@ -95,14 +95,14 @@ module _ (shower : List ℕ) (records : List Rec) (q : PathName) where
   -- ---- the first by position
 
   -- where a record among the first n takes a snapshot that bears, there is a first one, which is no later
-  pub first_low : (n m time : ℕ) → m < n → slice_get records m ≡ Some (Snap time) → bears_on shower q time ≡ true → IsAtMost (first_to shower records q n) (suc m)
+  pub first_low : (n m time : ℕ) → m < n → slice_get records m ≡ Some (Snap time) → bears_on snap_user q time ≡ true → IsAtMost (first_to snap_user records q n) (suc m)
   unfolding first_to
   first_low zero m time lt taken bears = absurd (omega (arith, lt))
-  first_low (suc n) m time lt taken bears = go (first_to shower records q n) refl (λ l. first_low n m time l taken bears)
+  first_low (suc n) m time lt taken bears = go (first_to snap_user records q n) refl (λ l. first_low n m time l taken bears)
     where
-      go : (o : Option Shown) → first_to shower records q n ≡ o → (m < n → IsAtMost (first_to shower records q n) (suc m)) → IsAtMost (option_or o (bearing shower q (suc n) (slice_get records n))) (suc m)
+      go : (o : Option Shown) → first_to snap_user records q n ≡ o → (m < n → IsAtMost (first_to snap_user records q n) (suc m)) → IsAtMost (option_or o (bearing snap_user q (suc n) (slice_get records n))) (suc m)
       go (Some f) e ih = elim (cases_order m n) [
-        | inl same ↦ record { found = f; is = refl; low = let w = first_is shower records q n f e in omega (arith, same, w.within, w.position) }
+        | inl same ↦ record { found = f; is = refl; low = let w = first_is snap_user records q n f e in omega (arith, same, w.within, w.position) }
         | inr apart ↦ elim apart [
           | inl less ↦ let was = ih less in record { found = f; is = refl; low = let s : was.found ≡ f = some_same was.found f (sym was.is ∙ e) in let p : was.found.position ≡ f.position = ap (λ (x : Shown). x.position) s in omega (arith, p, was.low) }
           | inr more ↦ absurd (omega (arith, more, lt))
@@ -112,7 +112,7 @@ module _ (shower : List ℕ) (records : List Rec) (q : PathName) where
         | inl same ↦ record {
           found = record { position = suc n; time = time };
           is =
-              ap (bearing shower q (suc n)) (ap (slice_get records) (sym same) ∙ taken)
+              ap (bearing snap_user q (suc n)) (ap (slice_get records) (sym same) ∙ taken)
               ∙ ap (λ b. if b then Some (record { position = suc n; time = time }) else None) bears;
           low = omega (arith, same);
         }
@@ -198,11 +198,11 @@ module _ (owner : List ℕ) (records : List Rec) (is : IsLog owner records) (tim
 
 -- ---- both are the same
 
-module _ (owner shower : List ℕ) (records : List Rec) (is : IsLog owner records) (q : PathName) where
+module _ (owner snap_user : List ℕ) (records : List Rec) (is : IsLog owner records) (q : PathName) where
   abbrev Moments : List ℕ
   Moments = keys_of (snapshots_of records)
 
-  at_first : (s : Shown) (first : IsFirst shower records q (length records) s) → bearing_at shower records q s.time ≡ Some s
+  at_first : (s : Shown) (first : IsFirst snap_user records q (length records) s) → bearing_at snap_user records q s.time ≡ Some s
   at_first s first =
       ap (λ b. if b then option_map (λ position. record { position = position; time = s.time }) (snap_at records s.time) else None) first.bears
       ∙ ap (option_map (λ position. record { position = position; time = s.time })) (position_at owner records is s.time first.place first.takes)
@@ -213,29 +213,29 @@ module _ (owner shower : List ℕ) (records : List Rec) (is : IsLog owner record
     place : ℕ
     takes : slice_get records place ≡ Some (Snap s.time)
     position : s.position ≡ suc place
-    bears : bears_on shower q s.time ≡ true
+    bears : bears_on snap_user q s.time ≡ true
 
-  there_at : (time : ℕ) (s : Shown) → bearing_at shower records q time ≡ Some s → IsThere s
-  there_at time s h = go (bears_on shower q time) refl h
+  there_at : (time : ℕ) (s : Shown) → bearing_at snap_user records q time ≡ Some s → IsThere s
+  there_at time s h = go (bears_on snap_user q time) refl h
     where
-      by : (o : Option ℕ) → snap_at records time ≡ o → bears_on shower q time ≡ true → option_map (λ position. record { position = position; time = time }) o ≡ Some s → IsThere s
+      by : (o : Option ℕ) → snap_at records time ≡ o → bears_on snap_user q time ≡ true → option_map (λ position. record { position = position; time = time }) o ≡ Some s → IsThere s
       by None e bears k = absurd (some_none s (sym k))
       by (Some n) e bears k =
           let found = at_position owner records is time n e in
           subst IsThere (some_same (record { position = n; time = time }) s k) (record { place = found.0; takes = found.2; position = found.1; bears = bears })
 
-      go : (b : Bool) → bears_on shower q time ≡ b → (if b then option_map (λ position. record { position = position; time = time }) (snap_at records time) else None) ≡ Some s → IsThere s
+      go : (b : Bool) → bears_on snap_user q time ≡ b → (if b then option_map (λ position. record { position = position; time = time }) (snap_at records time) else None) ≡ Some s → IsThere s
       go false e k = absurd (some_none s (sym k))
       go true e k = by (snap_at records time) refl e k
 
-  from_first : (s f : Shown) → fold (λ first time. sooner first (bearing_at shower records q time)) None Moments ≡ Some s → first_to shower records q (length records) ≡ Some f → s ≡ f
+  from_first : (s f : Shown) → fold (λ first time. sooner first (bearing_at snap_user records q time)) None Moments ≡ Some s → first_to snap_user records q (length records) ≡ Some f → s ≡ f
   from_first s f least first =
-      let is_first = first_is shower records q (length records) f first in
+      let is_first = first_is snap_user records q (length records) f first in
       let key = moment_there owner records is f.time is_first.place is_first.takes in
-      let low = least_low shower records q Moments None key.0 f.time f key.1 (at_first f is_first) in
+      let low = least_low snap_user records q Moments None key.0 f.time f key.1 (at_first f is_first) in
       let same : low.found ≡ s = some_same low.found s (sym low.is ∙ least) in
-      let there = elim (least_from shower records q Moments None s least) as (λ _. IsThere s) [ inl none ↦ absurd (some_none s (sym none)) | inr found ↦ there_at found.0 s found.3 ] in
-      let back = first_low shower records q (length records) there.place s.time (slice_get_within records there.place (Snap s.time) there.takes) there.takes there.bears in
+      let there = elim (least_from snap_user records q Moments None s least) as (λ _. IsThere s) [ inl none ↦ absurd (some_none s (sym none)) | inr found ↦ there_at found.0 s found.3 ] in
+      let back = first_low snap_user records q (length records) there.place s.time (slice_get_within records there.place (Snap s.time) there.takes) there.takes there.bears in
       let again : back.found ≡ f = some_same back.found f (sym back.is ∙ first) in
       let p : low.found.position ≡ s.position = ap (λ (x : Shown). x.position) same in
       let r : back.found.position ≡ f.position = ap (λ (x : Shown). x.position) again in
@@ -245,49 +245,49 @@ module _ (owner shower : List ℕ) (records : List Rec) (is : IsLog owner record
       ap (λ n. record { position = n; time = s.time }) (there.position ∙ ap suc places ∙ sym is_first.position)
       ∙ ap (λ t. record { position = f.position; time = t }) times
 
-  pub least_is : least_to shower records q Moments ≡ first_to shower records q (length records)
+  pub least_is : least_to snap_user records q Moments ≡ first_to snap_user records q (length records)
   unfolding least_to
-  least_is = go (fold (λ first time. sooner first (bearing_at shower records q time)) None Moments) refl (first_to shower records q (length records)) refl
+  least_is = go (fold (λ first time. sooner first (bearing_at snap_user records q time)) None Moments) refl (first_to snap_user records q (length records)) refl
     where
-      go : (a : Option Shown) → fold (λ first time. sooner first (bearing_at shower records q time)) None Moments ≡ a → (b : Option Shown) → first_to shower records q (length records) ≡ b → a ≡ b
+      go : (a : Option Shown) → fold (λ first time. sooner first (bearing_at snap_user records q time)) None Moments ≡ a → (b : Option Shown) → first_to snap_user records q (length records) ≡ b → a ≡ b
       go None e None f = refl
       go (Some s) e (Some g) f = ap (λ x. Some x) (from_first s g e f)
       go None e (Some g) f =
-          let is_first = first_is shower records q (length records) g f in
+          let is_first = first_is snap_user records q (length records) g f in
           let key = moment_there owner records is g.time is_first.place is_first.takes in
-          let low = least_low shower records q Moments None key.0 g.time g key.1 (at_first g is_first) in
+          let low = least_low snap_user records q Moments None key.0 g.time g key.1 (at_first g is_first) in
           absurd (some_none low.found (sym low.is ∙ e))
       go (Some s) e None f =
-          let there = elim (least_from shower records q Moments None s e) as (λ _. IsThere s) [ inl none ↦ absurd (some_none s (sym none)) | inr found ↦ there_at found.0 s found.3 ] in
-          let back = first_low shower records q (length records) there.place s.time (slice_get_within records there.place (Snap s.time) there.takes) there.takes there.bears in
+          let there = elim (least_from snap_user records q Moments None s e) as (λ _. IsThere s) [ inl none ↦ absurd (some_none s (sym none)) | inr found ↦ there_at found.0 s found.3 ] in
+          let back = first_low snap_user records q (length records) there.place s.time (slice_get_within records there.place (Snap s.time) there.takes) there.takes there.bears in
           absurd (some_none back.found (sym back.is ∙ f))
 
   -- ---- a path that tells its moment
 
   module _ (long : 4 ≤ length q.elements) (found : Option ℕ) (read : IsRead (λ time. time) q found) where
-    read_first : (s : Shown) → first_to shower records q (length records) ≡ Some s → found ≡ Some s.time
+    read_first : (s : Shown) → first_to snap_user records q (length records) ≡ Some s → found ≡ Some s.time
     read_first s h =
-        let first = first_is shower records q (length records) s h in
-        read shower s.time (calendar owner records is q first.place s.time first.takes) (below_if shower s.time q long first.bears)
+        let first = first_is snap_user records q (length records) s h in
+        read snap_user s.time (calendar owner records is q first.place s.time first.takes) (below_if snap_user s.time q long first.bears)
 
-    pub read_some : (time : ℕ) → found ≡ Some time → sooner None (bearing_at shower records q time) ≡ first_to shower records q (length records)
-    read_some time h = go (bearing_at shower records q time) refl (first_to shower records q (length records)) refl
+    pub read_some : (time : ℕ) → found ≡ Some time → sooner None (bearing_at snap_user records q time) ≡ first_to snap_user records q (length records)
+    read_some time h = go (bearing_at snap_user records q time) refl (first_to snap_user records q (length records)) refl
       where
-        go : (a : Option Shown) → bearing_at shower records q time ≡ a → (b : Option Shown) → first_to shower records q (length records) ≡ b → a ≡ b
+        go : (a : Option Shown) → bearing_at snap_user records q time ≡ a → (b : Option Shown) → first_to snap_user records q (length records) ≡ b → a ≡ b
         go a e (Some s) f =
-            let first = first_is shower records q (length records) s f in
+            let first = first_is snap_user records q (length records) s f in
             let same : time ≡ s.time = some_same time s.time (sym h ∙ read_first s f) in
-            sym e ∙ ap (bearing_at shower records q) same ∙ at_first s first
+            sym e ∙ ap (bearing_at snap_user records q) same ∙ at_first s first
         go None e None f = refl
         go (Some s) e None f =
             let there = there_at time s e in
-            let back = first_low shower records q (length records) there.place s.time (slice_get_within records there.place (Snap s.time) there.takes) there.takes there.bears in
+            let back = first_low snap_user records q (length records) there.place s.time (slice_get_within records there.place (Snap s.time) there.takes) there.takes there.bears in
             absurd (some_none back.found (sym back.is ∙ f))
 
-    pub read_none : found ≡ None → None ≡ first_to shower records q (length records)
-    read_none h = go (first_to shower records q (length records)) refl
+    pub read_none : found ≡ None → None ≡ first_to snap_user records q (length records)
+    read_none h = go (first_to snap_user records q (length records)) refl
       where
-        go : (b : Option Shown) → first_to shower records q (length records) ≡ b → ◌≡◌ {A = Option Shown} None b
+        go : (b : Option Shown) → first_to snap_user records q (length records) ≡ b → ◌≡◌ {A = Option Shown} None b
         go None f = refl
         go (Some s) f = absurd (some_none s.time (sym (read_first s f) ∙ h))
 
@@ -310,21 +310,21 @@ module _ (owner shower : List ℕ) (records : List Rec) (is : IsLog owner record
 
 -- ---- one moment more
 
-module _ (shower : List ℕ) (records : List Rec) (q : PathName) where
-  pub least_none : None ≡ least_to shower records q []
+module _ (snap_user : List ℕ) (records : List Rec) (q : PathName) where
+  pub least_none : None ≡ least_to snap_user records q []
   unfolding least_to
   least_none = refl
 
-  pub least_next : (times : List ℕ) (i time : ℕ) (first : Option Shown) → slice_get times i ≡ Some time → first ≡ least_to shower records q (take i times) →
-      sooner first (bearing_at shower records q time) ≡ least_to shower records q (take (i + 1) times)
+  pub least_next : (times : List ℕ) (i time : ℕ) (first : Option Shown) → slice_get times i ≡ Some time → first ≡ least_to snap_user records q (take i times) →
+      sooner first (bearing_at snap_user records q time) ≡ least_to snap_user records q (take (i + 1) times)
   unfolding least_to
   least_next times i time first there so_far =
-      ap (λ f. sooner f (bearing_at shower records q time)) so_far
-      ∙ sym (ap (fold (λ f t. sooner f (bearing_at shower records q t)) None) (ap (λ n. take n times) (let e : i + 1 ≡ suc i = omega arith in e) ∙ take_next i times time there)
-      ∙ fold-append (λ f t. sooner f (bearing_at shower records q t)) None (take i times) (time ∷ []))
+      ap (λ f. sooner f (bearing_at snap_user records q time)) so_far
+      ∙ sym (ap (fold (λ f t. sooner f (bearing_at snap_user records q t)) None) (ap (λ n. take n times) (let e : i + 1 ≡ suc i = omega arith in e) ∙ take_next i times time there)
+      ∙ fold-append (λ f t. sooner f (bearing_at snap_user records q t)) None (take i times) (time ∷ []))
 
-  pub least_all : (times : List ℕ) (i : ℕ) → slice_get times i ≡ None → least_to shower records q (take i times) ≡ least_to shower records q times
-  least_all times i none = ap (least_to shower records q) (past times i none)
+  pub least_all : (times : List ℕ) (i : ℕ) → slice_get times i ≡ None → least_to snap_user records q (take i times) ≡ least_to snap_user records q times
+  least_all times i none = ap (least_to snap_user records q) (past times i none)
     where
       past : (xs : List ℕ) (i : ℕ) → slice_get xs i ≡ None → take i xs ≡ xs
       past [] zero e = refl

@@ -15,14 +15,14 @@ use Rattle.up_entry.specs.declared.entries.Entry.{Entry}
 use Rattle.up_entry.specs.declared.records.Rec.{Rec}
 use Rattle.up_entry.specs.declared.records.Rec.TheVariants.{Snap}
 use Rattle.up_list.specs.Entries.{entries_in, entry_at, entry_of}
-use Rattle.up_nodes.specs.Slots.{named_paths}
-use Rattle.up_nodes.proofs.Named.{named_later, rising_named, unnamed_none}
-use Rattle.up_replay.specs.Fits.{IsLog, snapshot_user}
-use Rattle.up_replay.specs.Orders.{has_path as has}
-use Rattle.up_replay.specs.Trees.{is_parent, last_element, node_at, tree_at}
-use Rattle.up_replay.specs.declared.node.Node.{Node}
-use Rattle.up_replay.proofs.Paths.{extended_last, is_parent_of, last_extended, parent_extended, parent_passes}
-use Rattle.up_replay.proofs.Rising.{has-filter, rising-filter}
+use Rattle.up_mem_tree.specs.Slots.{named_paths}
+use Rattle.up_mem_tree.proofs.Named.{named_later, rising_named, unnamed_none}
+use Rattle.up_log_tree.specs.Fits.{IsLog, snapshot_user}
+use Rattle.up_log_tree.specs.Orders.{has_path as has}
+use Rattle.up_log_tree.specs.Trees.{is_parent, last_element, node_at, tree_at}
+use Rattle.up_log_tree.specs.declared.node.Node.{Node}
+use Rattle.up_log_tree.proofs.Paths.{extended_last, is_parent_of, last_extended, parent_extended, parent_passes}
+use Rattle.up_log_tree.proofs.Rising.{has-filter, rising-filter}
 use Rattle.up_answers.specs.SnapshotTrees.{snapshots_to}
 use Rattle.up_snap.specs.Listed.{IsTaken, kept_entry, short_path}
 use Rattle.up_snap.specs.Shown.{first_to, is_short, old_path, renamed, shown_root}
@@ -193,12 +193,12 @@ module _ (records : List Rec) (dir : PathName) (n : ℕ) (old : PathName) where
 
 -- ---- the first snapshot that bears on a path
 
-module _ (shower : List ℕ) (records : List Rec) (path : PathName) (s : Shown) (first : first_to shower records path (length records) ≡ Some s) where
+module _ (snap_user : List ℕ) (records : List Rec) (path : PathName) (s : Shown) (first : first_to snap_user records path (length records) ≡ Some s) where
   pub first_taken : IsTaken records s
-  first_taken = let is = first_is shower records path (length records) s first in record { place = is.place; within = is.within; takes = is.takes; position = is.position }
+  first_taken = let is = first_is snap_user records path (length records) s first in record { place = is.place; within = is.within; takes = is.takes; position = is.position }
 
-  pub first_below : 4 ≤ length path.elements → is_under path (shown_root shower s.time) ≡ true
-  first_below long = below_if shower s.time path long (first_is shower records path (length records) s first).bears
+  pub first_below : 4 ≤ length path.elements → is_under path (shown_root snap_user s.time) ≡ true
+  first_below long = below_if snap_user s.time path long (first_is snap_user records path (length records) s first).bears
 
 -- ---- what a call gives
 

@@ -8,7 +8,7 @@ pub mod FirstLemmas
 pub mod PlacedLemmas
 pub mod ShortLemmas
 pub mod StandingLemmas
-pub mod ShowerLemmas
+pub mod SnapUserLemmas
 pub mod OutcomeLemmas
 pub mod AskedLemmas
 pub mod TakerLemmas

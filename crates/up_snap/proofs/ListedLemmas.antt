@@ -14,12 +14,12 @@ use Rattle.up_names.specs.PathOrder.{path_cmp, path_eq}
 use Rattle.up_names.specs.PathOrderLaws.{path_cmp_eq, path_cmp_total, path_exact}
 use Rattle.up_entry.specs.declared.entries.Entry.{Entry}
 use Rattle.up_list.specs.Entries.{entries_in, entry_at, entry_of, nodes_in}
-use Rattle.up_replay.specs.Orders.{are_rising, has_path as has}
-use Rattle.up_replay.specs.Trees.{Tree, is_parent, last_element, made_of, node_at}
-use Rattle.up_replay.specs.declared.node.Node.{Node}
-use Rattle.up_replay.proofs.Paths.{extended_last, is_parent_of, last_extended, parent_extended, parent_passes, path_apart, path_eq_itself, path_same, sibling_cmp}
-use Rattle.up_replay.proofs.Trees.{find-made, made_sorted}
-use Rattle.up_replay.proofs.Fronts.{take_next}
+use Rattle.up_log_tree.specs.Orders.{are_rising, has_path as has}
+use Rattle.up_log_tree.specs.Trees.{Tree, is_parent, last_element, made_of, node_at}
+use Rattle.up_log_tree.specs.declared.node.Node.{Node}
+use Rattle.up_log_tree.proofs.Paths.{extended_last, is_parent_of, last_extended, parent_extended, parent_passes, path_apart, path_eq_itself, path_same, sibling_cmp}
+use Rattle.up_log_tree.proofs.Trees.{find-made, made_sorted}
+use Rattle.up_log_tree.proofs.Fronts.{take_next}
 use Rattle.std.proofs.lemmas.List.{append-nil, map-append}
 use Rattle.up_list.specs.Founds.{entry_found}
 use Rattle.up_list.specs.declared.found.Found.{Found}
@@ -202,9 +202,6 @@ module _ (dir old : PathName) (make : PathName → Option Entry) where
           ∙ sym (ap (λ b. if b || has ps (extended old x) then make (extended old x) else None) is)
 
 -- ---- the first items of a list
-
-pub made_none : {X Y : Type 0} (make : X → Option Y) → [] ≡ filter_map make (take 0 [])
-made_none make = refl
 
 module _ {X Y : Type 0} (make : X → Option Y) where
   made_more : (xs : List X) (x : X) → filter_map make (xs ++ x ∷ []) ≡ filter_map make xs ++ cons_option (make x) []

@@ -3,9 +3,9 @@ use Rattle.std.proofs.Common.{◌≡◌, ℕ, zero, suc, ◌+◌, ◌-◌, ◌<�
 use Rattle.std.specs.Prelude.{if◌then◌else◌, find, is_some}
 use Rattle.std.proofs.lemmas.Bool.{false≢true}
 use Rattle.up_names.specs.PathNames.{cut}
-use Rattle.up_replay.specs.declared.node.Node.{Node}
-use Rattle.up_replay.specs.Trees.{Tree, node_at}
-use Rattle.up_replay.proofs.Paths.{cut_cut, cut_whole, length_cut, some_none}
+use Rattle.up_log_tree.specs.declared.node.Node.{Node}
+use Rattle.up_log_tree.specs.Trees.{Tree, node_at}
+use Rattle.up_log_tree.proofs.Paths.{cut_cut, cut_whole, length_cut, some_none}
 use Rattle.up_list.specs.Rooted.{IsRooted}
 use Rattle.up_list.proofs.ViewLemmas.{Halves, halves_down, halves_end, halves_from, halves_up, on_way, stands_itself}
 use Rattle.up_list.specs.Founds.{entry_found}
@@ -20,15 +20,15 @@ use Rattle.up_rights.specs.declared.Right.TheVariants as right
 use Rattle.up_policy.specs.Governors.{governor}
 use Rattle.up_policy.specs.Trees.{owns_snapshots}
 use Rattle.up_policy.specs.Verdicts.{is_control, only_looks, right_test, rights_held, text_decides, without_text}
-use Rattle.up_replay.specs.Rights.{facts_of, group_paths}
+use Rattle.up_log_tree.specs.Rights.{facts_of, group_paths}
 use Rattle.up_list.specs.Looks.{Look, rights}
 use Rattle.up_list.specs.Entries.{entry_at, entry_of, entry_on_way}
 use Rattle.up_list.specs.Governing.{governing_file}
 use Rattle.up_entry.specs.declared.records.Rec.{Rec}
-use Rattle.up_replay.specs.Fits.{snapshot_user}
-use Rattle.up_replay.specs.Rights.{access_path, governing_prefix}
+use Rattle.up_log_tree.specs.Fits.{snapshot_user}
+use Rattle.up_log_tree.specs.Rights.{access_path, governing_prefix}
 use Rattle.up_answers.specs.SnapshotTrees.{snapshots_to}
-use Rattle.up_snap.specs.Looked.{IsShower, first_named, held_by, look_at}
+use Rattle.up_snap.specs.Looked.{IsSnapUser, first_named, held_by, look_at}
 use Rattle.std.specs.Option.{option_and_then, option_map}
 
 module _ (look : Look) (path : PathName) (owns : owns_snapshots look.owner ≡ true) where
@@ -57,7 +57,7 @@ module _ (look : Look) (path : PathName) (owns : owns_snapshots look.owner ≡ t
 
 -- ---- the snapshot tree of a log
 
-module _ (owner shower : List ℕ) (records : List Rec) (user : List ℕ) (shows : IsShower owner shower) where
+module _ (owner snap_user : List ℕ) (records : List Rec) (user : List ℕ) (shows : IsSnapUser owner snap_user) where
   owns_it : owns_snapshots (snapshot_user owner) ≡ true
   owns_it = ap owns_snapshots (sym shows.named) ∙ shows.owns
 

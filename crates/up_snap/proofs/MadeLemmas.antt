@@ -14,14 +14,14 @@ use Rattle.up_names.specs.PathOrderLaws.{path_cmp_eq, path_cmp_total}
 use Rattle.up_entry.specs.declared.entries.Entry.{Entry}
 use Rattle.up_entry.specs.declared.records.Rec.{Rec}
 use Rattle.up_list.specs.Entries.{entries_in, entry_at, entry_of}
-use Rattle.up_replay.specs.Fits.{HasDirectory, IsLog, snapshot_user}
-use Rattle.up_replay.specs.Orders.{are_rising, has_path as has}
-use Rattle.up_replay.specs.Snapshots.{snap_at, snapshots_of}
-use Rattle.up_replay.specs.Trees.{Tree, is_parent, last_element, node_at}
-use Rattle.up_replay.specs.declared.node.Node.{Node}
-use Rattle.up_replay.proofs.Paths.{cut_cut, cut_whole, extended_last, is_parent_of, length_cut, parent_is, parent_none, parent_passes, path_eq_itself, path_same, some_none, some_same}
-use Rattle.up_replay.proofs.Fronts.{take_next}
-use Rattle.up_replay.proofs.Trees.{rising_keys}
+use Rattle.up_log_tree.specs.Fits.{HasDirectory, IsLog, snapshot_user}
+use Rattle.up_log_tree.specs.Orders.{are_rising, has_path as has}
+use Rattle.up_log_tree.specs.Snapshots.{snap_at, snapshots_of}
+use Rattle.up_log_tree.specs.Trees.{Tree, is_parent, last_element, node_at}
+use Rattle.up_log_tree.specs.declared.node.Node.{Node}
+use Rattle.up_log_tree.proofs.Paths.{cut_cut, cut_whole, extended_last, is_parent_of, length_cut, parent_is, parent_none, parent_passes, path_eq_itself, path_same, some_none, some_same}
+use Rattle.up_log_tree.proofs.Fronts.{take_next}
+use Rattle.up_log_tree.proofs.Trees.{rising_keys}
 use Rattle.up_answers.specs.SnapshotTrees.{snapshots_to}
 use Rattle.up_snap.specs.Firsts.{bearing_at, least_to, sooner}
 use Rattle.up_snap.specs.Listed.{IsNaming}
@@ -33,11 +33,11 @@ use Rattle.up_snap.proofs.PlacedLemmas.{shown_rooted, shown_sorted}
 use Rattle.up_snap.proofs.ShownLemmas.{told}
 use Rattle.up_snap.proofs.UnderLemmas.{above_few, above_is, above_of, below_of, moment_length}
 
-module _ (shower : List ℕ) (dir : PathName) where
+module _ (snap_user : List ℕ) (dir : PathName) where
   -- a snapshot bears on a path in the directory exactly where the path is above its root, or is it
   module _ (time : ℕ) where
     abbrev Root : PathName
-    Root = shown_root shower time
+    Root = shown_root snap_user time
 
     child_length : (q : PathName) → is_parent dir q ≡ true → length q.elements ≡ suc (length dir.elements)
     child_length q parent = go (length q.elements) refl (is_parent_of dir q parent)
@@ -57,9 +57,9 @@ module _ (shower : List ℕ) (dir : PathName) where
     above_parent : (q : PathName) → is_parent dir q ≡ true → is_under Root q ≡ true → is_under Root dir ≡ true
     above_parent q parent above =
         let size = child_length q parent in
-        let few = above_few shower time q above in
-        above_is shower time dir (length dir.elements) (omega (arith, size, few))
-        (sym (child_cut q parent) ∙ ap (cut (length dir.elements)) (sym (above_of shower time q above)) ∙ cut_cut (length dir.elements) (length q.elements) Root (omega (arith, size)))
+        let few = above_few snap_user time q above in
+        above_is snap_user time dir (length dir.elements) (omega (arith, size, few))
+        (sym (child_cut q parent) ∙ ap (cut (length dir.elements)) (sym (above_of snap_user time q above)) ∙ cut_cut (length dir.elements) (length q.elements) Root (omega (arith, size)))
 
     module _ (low : length dir.elements < 4) (above : is_under Root dir ≡ true) (name : PathName) (is : name ≡ cut (length dir.elements + 1) Root) where
       name_parent : is_parent dir name ≡ true
@@ -69,7 +69,7 @@ module _ (shower : List ℕ) (dir : PathName) where
           ap (λ (p : PathName). length p.elements) is ∙ length_cut (length dir.elements + 1) Root (omega (arith, four, low)) ∙ (let e : length dir.elements + 1 ≡ suc (length dir.elements) = omega arith in e) in
           parent_passes dir name
           (parent_is name (length dir.elements) size
-          ∙ ap Some (ap (cut (length dir.elements)) is ∙ cut_cut (length dir.elements) (length dir.elements + 1) Root (omega arith) ∙ above_of shower time dir above))
+          ∙ ap Some (ap (cut (length dir.elements)) is ∙ cut_cut (length dir.elements) (length dir.elements + 1) Root (omega arith) ∙ above_of snap_user time dir above))
 
       same_name : (q : PathName) → is_parent dir q ≡ true → path_eq q name ≡ is_under Root q
       same_name q parent = go (is_under Root q) refl (path_eq q name) refl
@@ -81,69 +81,69 @@ module _ (shower : List ℕ) (dir : PathName) where
           go true e true f = refl
           go false e false f = refl
           go true e false f =
-              let same : q ≡ name = sym (above_of shower time q e) ∙ ap (λ n. cut n Root) (size ∙ (let k : suc (length dir.elements) ≡ length dir.elements + 1 = omega arith in k)) ∙ sym is in
+              let same : q ≡ name = sym (above_of snap_user time q e) ∙ ap (λ n. cut n Root) (size ∙ (let k : suc (length dir.elements) ≡ length dir.elements + 1 = omega arith in k)) ∙ sym is in
               absurd (false≢true (sym f ∙ ap (path_eq q) (sym same) ∙ path_eq_itself q))
           go false e true f =
-              absurd (false≢true (sym e ∙ above_is shower time q (length dir.elements + 1) (omega (arith, low)) (path_same q name f ∙ is)))
+              absurd (false≢true (sym e ∙ above_is snap_user time q (length dir.elements + 1) (omega (arith, low)) (path_same q name f ∙ is)))
 
-    bears_child : (q : PathName) → length dir.elements < 4 → is_parent dir q ≡ true → bears_on shower q time ≡ is_under Root q
+    bears_child : (q : PathName) → length dir.elements < 4 → is_parent dir q ≡ true → bears_on snap_user q time ≡ is_under Root q
     bears_child q low parent = go (is_under Root q) refl (is_under q Root) refl
       where
-        go : (a : Bool) → is_under Root q ≡ a → (b : Bool) → is_under q Root ≡ b → bears_on shower q time ≡ a
+        go : (a : Bool) → is_under Root q ≡ a → (b : Bool) → is_under q Root ≡ b → bears_on snap_user q time ≡ a
         go a e false f = ap (λ b. b || is_under Root q) f ∙ e
         go true e true f = ap (λ b. b || is_under Root q) f
         go false e true f =
-            let below = below_of shower time q f in
+            let below = below_of snap_user time q f in
             let size = child_length q parent in
             let four : length q.elements ≡ 4 = omega (arith, size, low, below.size) in
             let root : q ≡ Root =
             sym (cut_whole q) ∙ ap (λ n. cut n q) four
             ∙ ap (λ o. record { owner = o; elements = take 4 q.elements }) below.owned
-            ∙ ap (λ es. record { owner = shower; elements = es }) below.front in
-            absurd (false≢true (sym e ∙ above_is shower time q 4 (omega arith) (root ∙ sym (cut_whole Root) ∙ ap (λ n. cut n Root) (moment_length time))))
+            ∙ ap (λ es. record { owner = snap_user; elements = es }) below.front in
+            absurd (false≢true (sym e ∙ above_is snap_user time q 4 (omega arith) (root ∙ sym (cut_whole Root) ∙ ap (λ n. cut n Root) (moment_length time))))
 
     module _ (records : List Rec) where
-      none_at : (q : PathName) → snap_at records time ≡ None → bearing_at shower records q time ≡ None
-      none_at q none = go (bears_on shower q time)
+      none_at : (q : PathName) → snap_at records time ≡ None → bearing_at snap_user records q time ≡ None
+      none_at q none = go (bears_on snap_user q time)
         where
           go : (b : Bool) → ◌≡◌ {A = Option Shown} (if b then option_map (λ position. record { position = position; time = time }) (snap_at records time) else None) None
           go true = ap (option_map {U = Shown} (λ position. record { position = position; time = time })) none
           go false = refl
 
-      none_by : (q : PathName) → bears_on shower q time ≡ false → bearing_at shower records q time ≡ None
+      none_by : (q : PathName) → bears_on snap_user q time ≡ false → bearing_at snap_user records q time ≡ None
       none_by q apart = ap (λ b. if b then option_map {U = Shown} (λ position. record { position = position; time = time }) (snap_at records time) else None) apart
 
-      some_by : (q : PathName) (position : ℕ) → bears_on shower q time ≡ true → snap_at records time ≡ Some position → bearing_at shower records q time ≡ Some (record { position = position; time = time })
+      some_by : (q : PathName) (position : ℕ) → bears_on snap_user q time ≡ true → snap_at records time ≡ Some position → bearing_at snap_user records q time ≡ Some (record { position = position; time = time })
       some_by q position bears there =
           ap (λ b. if b then option_map {U = Shown} (λ position. record { position = position; time = time }) (snap_at records time) else None) bears
           ∙ ap (option_map {U = Shown} (λ position. record { position = position; time = time })) there
 
       -- one moment more
-      least_more : (q : PathName) (times : List ℕ) → least_to shower records q (times ++ time ∷ []) ≡ sooner (least_to shower records q times) (bearing_at shower records q time)
+      least_more : (q : PathName) (times : List ℕ) → least_to snap_user records q (times ++ time ∷ []) ≡ sooner (least_to snap_user records q times) (bearing_at snap_user records q time)
       unfolding least_to
-      least_more q times = fold-append (λ f t. sooner f (bearing_at shower records q t)) None times (time ∷ [])
+      least_more q times = fold-append (λ f t. sooner f (bearing_at snap_user records q t)) None times (time ∷ [])
 
       sooner_none : (o : Option Shown) → sooner o None ≡ o
       sooner_none None = refl
       sooner_none (Some one) = refl
 
-      least_same : (q : PathName) (times : List ℕ) → bearing_at shower records q time ≡ None → least_to shower records q (times ++ time ∷ []) ≡ least_to shower records q times
-      least_same q times none = least_more q times ∙ ap (sooner (least_to shower records q times)) none ∙ sooner_none (least_to shower records q times)
+      least_same : (q : PathName) (times : List ℕ) → bearing_at snap_user records q time ≡ None → least_to snap_user records q (times ++ time ∷ []) ≡ least_to snap_user records q times
+      least_same q times none = least_more q times ∙ ap (sooner (least_to snap_user records q times)) none ∙ sooner_none (least_to snap_user records q times)
 
-      module _ (times : List ℕ) (named : List (PathName × Shown)) (so_far : IsNaming shower records dir times named) where
-        same_when : ((q : PathName) → is_parent dir q ≡ true → bearing_at shower records q time ≡ None) → IsNaming shower records dir (times ++ time ∷ []) named
+      module _ (times : List ℕ) (named : List (PathName × Shown)) (so_far : IsNaming snap_user records dir times named) where
+        same_when : ((q : PathName) → is_parent dir q ≡ true → bearing_at snap_user records q time ≡ None) → IsNaming snap_user records dir (times ++ time ∷ []) named
         same_when nothing = record { sorted = so_far.sorted; each = λ q. so_far.each q ∙ go q (is_parent dir q) refl }
           where
-            go : (q : PathName) (b : Bool) → is_parent dir q ≡ b → (if b then least_to shower records q times else None) ≡ (if b then least_to shower records q (times ++ time ∷ []) else None)
+            go : (q : PathName) (b : Bool) → is_parent dir q ≡ b → (if b then least_to snap_user records q times else None) ≡ (if b then least_to snap_user records q (times ++ time ∷ []) else None)
             go q true e = sym (least_same q times (nothing q e))
             go q false e = refl
 
         -- there is no snapshot of that moment
-        pub naming_without : snap_at records time ≡ None → IsNaming shower records dir (times ++ time ∷ []) named
+        pub naming_without : snap_at records time ≡ None → IsNaming snap_user records dir (times ++ time ∷ []) named
         naming_without none = same_when (λ q parent. none_at q none)
 
         -- its root is elsewhere
-        pub naming_less : length dir.elements < 4 → is_under Root dir ≡ false → IsNaming shower records dir (times ++ time ∷ []) named
+        pub naming_less : length dir.elements < 4 → is_under Root dir ≡ false → IsNaming snap_user records dir (times ++ time ∷ []) named
         naming_less low apart = same_when (λ q parent. none_by q (bears_child q low parent ∙ go q parent (is_under Root q) refl))
           where
             go : (q : PathName) → is_parent dir q ≡ true → (b : Bool) → is_under Root q ≡ b → b ≡ false
@@ -152,29 +152,29 @@ module _ (shower : List ℕ) (dir : PathName) where
 
         -- its root is below the directory
         pub naming_more : length dir.elements < 4 → is_under Root dir ≡ true → (position : ℕ) → snap_at records time ≡ Some position → (name : PathName) → name ≡ cut (length dir.elements + 1) Root →
-            (first : Shown) → Some first ≡ sooner (find path_cmp name named) (Some (record { position = position; time = time })) → IsNaming shower records dir (times ++ time ∷ []) (put path_cmp name first named)
+            (first : Shown) → Some first ≡ sooner (find path_cmp name named) (Some (record { position = position; time = time })) → IsNaming snap_user records dir (times ++ time ∷ []) (put path_cmp name first named)
         naming_more low above position there name is first least = record {
           sorted = is_sorted-put path_cmp path_cmp_total name first named so_far.sorted;
           each = λ q. find-put path_cmp path_cmp_total q name first named ∙ ap (λ b. cond b (Some first) (find path_cmp q named)) (sym (path_cmp_eq q name)) ∙ go q (is_parent dir q) refl (path_eq q name) refl;
         }
           where
             go : (q : PathName) (b : Bool) → is_parent dir q ≡ b → (c : Bool) → path_eq q name ≡ c →
-                cond c (Some first) (find path_cmp q named) ≡ (if b then least_to shower records q (times ++ time ∷ []) else None)
+                cond c (Some first) (find path_cmp q named) ≡ (if b then least_to snap_user records q (times ++ time ∷ []) else None)
             go q false e true f = absurd (false≢true (sym e ∙ ap (is_parent dir) (path_same q name f) ∙ name_parent low above name is))
-            go q false e false f = so_far.each q ∙ ap (λ b. if b then least_to shower records q times else None) e
+            go q false e false f = so_far.each q ∙ ap (λ b. if b then least_to snap_user records q times else None) e
             go q true e false f =
-                so_far.each q ∙ ap (λ b. if b then least_to shower records q times else None) e
+                so_far.each q ∙ ap (λ b. if b then least_to snap_user records q times else None) e
                 ∙ sym (least_same q times (none_by q (bears_child q low e ∙ sym (same_name low above name is q e) ∙ f)))
             go q true e true f =
                 let same : q ≡ name = path_same q name f in
-                let bears : bears_on shower q time ≡ true = bears_child q low e ∙ sym (same_name low above name is q e) ∙ f in
-                least ∙ ap (λ o. sooner o (Some (record { position = position; time = time }))) (ap (λ p. find path_cmp p named) (sym same) ∙ so_far.each q ∙ ap (λ b. if b then least_to shower records q times else None) e)
-                ∙ ap (sooner (least_to shower records q times)) (sym (some_by q position bears there))
+                let bears : bears_on snap_user q time ≡ true = bears_child q low e ∙ sym (same_name low above name is q e) ∙ f in
+                least ∙ ap (λ o. sooner o (Some (record { position = position; time = time }))) (ap (λ p. find path_cmp p named) (sym same) ∙ so_far.each q ∙ ap (λ b. if b then least_to snap_user records q times else None) e)
+                ∙ ap (sooner (least_to snap_user records q times)) (sym (some_by q position bears there))
                 ∙ sym (least_more q times)
 
-pub naming_none : (shower : List ℕ) (records : List Rec) (dir : PathName) → IsNaming shower records dir [] []
+pub naming_none : (snap_user : List ℕ) (records : List Rec) (dir : PathName) → IsNaming snap_user records dir [] []
 unfolding least_to
-naming_none shower records dir = record { sorted = tt; each = λ q. go (is_parent dir q) }
+naming_none snap_user records dir = record { sorted = tt; each = λ q. go (is_parent dir q) }
   where
     go : (b : Bool) → ◌≡◌ {A = Option Shown} None (if b then None else None)
     go true = refl
@@ -289,13 +289,13 @@ module _ (owner : List ℕ) (records : List Rec) (is : IsLog owner records) (dir
 
 -- ---- one moment after the other
 
-module _ (shower : List ℕ) (records : List Rec) (dir : PathName) (times : List ℕ) where
-  pub naming_next : (i time : ℕ) (named : List (PathName × Shown)) → slice_get times i ≡ Some time → IsNaming shower records dir (take i times ++ time ∷ []) named → IsNaming shower records dir (take (i + 1) times) named
+module _ (snap_user : List ℕ) (records : List Rec) (dir : PathName) (times : List ℕ) where
+  pub naming_next : (i time : ℕ) (named : List (PathName × Shown)) → slice_get times i ≡ Some time → IsNaming snap_user records dir (take i times ++ time ∷ []) named → IsNaming snap_user records dir (take (i + 1) times) named
   naming_next i time named there naming =
-      subst (λ ts. IsNaming shower records dir ts named) (sym (ap (λ n. take n times) (let e : i + 1 ≡ suc i = omega arith in e) ∙ take_next i times time there)) naming
+      subst (λ ts. IsNaming snap_user records dir ts named) (sym (ap (λ n. take n times) (let e : i + 1 ≡ suc i = omega arith in e) ∙ take_next i times time there)) naming
 
-  pub naming_all : (i : ℕ) (named : List (PathName × Shown)) → slice_get times i ≡ None → IsNaming shower records dir (take i times) named → IsNaming shower records dir times named
-  naming_all i named none naming = subst (λ ts. IsNaming shower records dir ts named) (past times i none) naming
+  pub naming_all : (i : ℕ) (named : List (PathName × Shown)) → slice_get times i ≡ None → IsNaming snap_user records dir (take i times) named → IsNaming snap_user records dir times named
+  naming_all i named none naming = subst (λ ts. IsNaming snap_user records dir ts named) (past times i none) naming
     where
       past : (xs : List ℕ) (i : ℕ) → slice_get xs i ≡ None → take i xs ≡ xs
       past [] zero e = refl

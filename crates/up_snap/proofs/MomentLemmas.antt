@@ -4,9 +4,6 @@ use Rattle.jiff_core.specs.Calendar.{day_count}
 use Rattle.up_answers.specs.Calendar.{clock_text, date_of, digits, moment_elements}
 use Rattle.up_snap.proofs.DateLemmas.{date_counts}
 
-digit_same : (m n : ℕ) → 48 + m ≡ 48 + n → m ≡ n
-digit_same m n h = omega (arith, h)
-
 at : {m n : List ℕ} → (i : ℕ) → m ≡ n → get_or m i 0 ≡ get_or n i 0
 at i h = ap (λ l. get_or l i 0) h
 

@@ -11,11 +11,11 @@ use Rattle.std.specs.declared.cmp.Ordering.TheVariants.{Less, Equal, Greater}
 use Rattle.up_names.specs.PathNames.{PathName}
 use Rattle.up_names.specs.PathOrder.{path_cmp, path_eq}
 use Rattle.up_names.specs.PathOrderLaws.{path_cmp_eq, path_cmp_total}
-use Rattle.up_replay.specs.Fits.{snapshot_user}
-use Rattle.up_replay.specs.Orders.{has_path as has}
-use Rattle.up_replay.specs.Trees.{Tree, node_at}
-use Rattle.up_replay.specs.declared.node.Node.{Node}
-use Rattle.up_replay.proofs.Paths.{path_apart, path_eq_itself, path_other, path_same}
+use Rattle.up_log_tree.specs.Fits.{snapshot_user}
+use Rattle.up_log_tree.specs.Orders.{has_path as has}
+use Rattle.up_log_tree.specs.Trees.{Tree, node_at}
+use Rattle.up_log_tree.specs.declared.node.Node.{Node}
+use Rattle.up_log_tree.proofs.Paths.{path_apart, path_eq_itself, path_other, path_same}
 use Rattle.up_list.specs.Rooted.{IsRooted}
 use Rattle.up_list.proofs.FrontLemmas.{owner_of}
 use Rattle.up_list.proofs.SortedLemmas.{found_all}

@@ -9,14 +9,14 @@ use Rattle.up_names.specs.PathNames.{PathName}
 use Rattle.up_names.specs.PathOrder.{path_eq}
 use Rattle.up_entry.specs.declared.records.Rec.{Rec}
 use Rattle.up_entry.specs.declared.records.Rec.TheVariants.{Put, Delete, Snap}
-use Rattle.up_nodes.proofs.Named.{last_change-none, last_change-push}
-use Rattle.up_replay.specs.Changes.{change_before, changes_some, last_change, path_of_change, record_at}
-use Rattle.up_replay.specs.Trees.{after_record, node_at, tree_at, tree_of}
-use Rattle.up_replay.specs.declared.node.Node.{Node}
+use Rattle.up_mem_tree.proofs.Named.{last_change-none, last_change-push}
+use Rattle.up_log_tree.specs.Changes.{change_before, changes_some, last_change, path_of_change, record_at}
+use Rattle.up_log_tree.specs.Trees.{after_record, node_at, tree_at, tree_of}
+use Rattle.up_log_tree.specs.declared.node.Node.{Node}
 use Rattle.up_snap.specs.Standing.{put_by}
-use Rattle.up_replay.proofs.Fronts.{take_next, take_past}
-use Rattle.up_replay.proofs.Paths.{path_eq_turned, path_same, some_none, some_same}
-use Rattle.up_replay.proofs.Trees.{node_at-delete, node_at-empty, node_at-put, node_at-snap, tree_of-push}
+use Rattle.up_log_tree.proofs.Fronts.{take_next, take_past}
+use Rattle.up_log_tree.proofs.Paths.{path_eq_turned, path_same, some_none, some_same}
+use Rattle.up_log_tree.proofs.Trees.{node_at-delete, node_at-empty, node_at-put, node_at-snap, tree_of-push}
 
 module _ (records : List Rec) (path : PathName) where
   -- the last change among the first n records

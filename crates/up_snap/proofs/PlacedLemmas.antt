@@ -10,10 +10,10 @@ use Rattle.up_names.specs.PathOrderLaws.{path_cmp_total}
 use Rattle.up_names.proofs.PathEdits.{length-canonical-cut}
 use Rattle.up_entry.specs.declared.records.Rec.{Rec}
 use Rattle.up_entry.specs.declared.records.Rec.TheVariants.{Put, Delete, Snap}
-use Rattle.up_replay.specs.Fits.{HasDirectory, HasPlace, IsLog, snapshot_user}
-use Rattle.up_replay.specs.Trees.{Tree, node_at, tree_at}
-use Rattle.up_replay.specs.declared.node.Node.{Node}
-use Rattle.up_replay.proofs.Paths.{cut_cut, cut_whole, length_cut, parent_is, parent_none, some_none, some_same}
+use Rattle.up_log_tree.specs.Fits.{HasDirectory, HasPlace, IsLog, snapshot_user}
+use Rattle.up_log_tree.specs.Trees.{Tree, node_at, tree_at}
+use Rattle.up_log_tree.specs.declared.node.Node.{Node}
+use Rattle.up_log_tree.proofs.Paths.{cut_cut, cut_whole, length_cut, parent_is, parent_none, some_none, some_same}
 use Rattle.up_list.specs.Rooted.{IsRooted}
 use Rattle.up_answers.specs.SnapshotTrees.{directories_above, made_up, moved_nodes, snapshots_to, with_new, with_node, with_snapshot, with_snapshot_of}
 use Rattle.up_snap.specs.Shown.{bears_on, first_to, is_short, kept_node, old_path, renamed, shown_node, shown_root}
@@ -56,8 +56,8 @@ shown_sorted owner records (suc n) = record_sorted owner (slice_get records n) (
 -- ---- what stands
 
 module _ (owner : List ℕ) (records : List Rec) (is : IsLog owner records) where
-  abbrev Shower : List ℕ
-  Shower = snapshot_user owner
+  abbrev SnapUser : List ℕ
+  SnapUser = snapshot_user owner
 
   abbrev All : Tree
   All = snapshots_to owner records (length records)
@@ -65,22 +65,22 @@ module _ (owner : List ℕ) (records : List Rec) (is : IsLog owner records) wher
   -- what stands at a path is what the first snapshot shows that bears on it
   pub record Stands (q : PathName) (node : Node) : Type 0 where
     pub shown : Shown
-    pub first : IsFirst Shower records q (length records) shown
+    pub first : IsFirst SnapUser records q (length records) shown
     pub is_shown : shown_node owner records q shown ≡ Some node
 
   pub stands_by : (q : PathName) (node : Node) → node_at All q ≡ Some node → Stands q node
-  stands_by q node there = go (first_to Shower records q (length records)) refl (sym (told owner records is q (length records)) ∙ there)
+  stands_by q node there = go (first_to SnapUser records q (length records)) refl (sym (told owner records is q (length records)) ∙ there)
     where
-      go : (o : Option Shown) → first_to Shower records q (length records) ≡ o → option_and_then (shown_node owner records q) o ≡ Some node → Stands q node
+      go : (o : Option Shown) → first_to SnapUser records q (length records) ≡ o → option_and_then (shown_node owner records q) o ≡ Some node → Stands q node
       go None e h = absurd (some_none node (sym h))
-      go (Some s) e h = record { shown = s; first = first_is Shower records q (length records) s e; is_shown = h }
+      go (Some s) e h = record { shown = s; first = first_is SnapUser records q (length records) s e; is_shown = h }
 
   -- at a path on which a snapshot bears there is a first one
-  pub first_there : (q : PathName) (place time : ℕ) → place < length records → slice_get records place ≡ Some (Snap time) → bears_on Shower q time ≡ true →
-      (s : Shown) × (first_to Shower records q (length records) ≡ Some s) × IsFirst Shower records q (length records) s
+  pub first_there : (q : PathName) (place time : ℕ) → place < length records → slice_get records place ≡ Some (Snap time) → bears_on SnapUser q time ≡ true →
+      (s : Shown) × (first_to SnapUser records q (length records) ≡ Some s) × IsFirst SnapUser records q (length records) s
   first_there q place time within takes bears =
-      let low = first_low Shower records q (length records) place time within takes bears in
-      (low.found, low.is, first_is Shower records q (length records) low.found low.is)
+      let low = first_low SnapUser records q (length records) place time within takes bears in
+      (low.found, low.is, first_is SnapUser records q (length records) low.found low.is)
 
   or_left : (a b : Bool) → a ≡ true → (a || b) ≡ true
   or_left true b h = refl
@@ -91,30 +91,30 @@ module _ (owner : List ℕ) (records : List Rec) (is : IsLog owner records) wher
   or_both false b h = h
 
   -- the owner of a path on which a snapshot bears
-  bears_owner : (q : PathName) (time : ℕ) → bears_on Shower q time ≡ true → q.owner ≡ Shower
-  bears_owner q time bears = go (is_under q (shown_root Shower time)) refl bears
+  bears_owner : (q : PathName) (time : ℕ) → bears_on SnapUser q time ≡ true → q.owner ≡ SnapUser
+  bears_owner q time bears = go (is_under q (shown_root SnapUser time)) refl bears
     where
-      go : (b : Bool) → is_under q (shown_root Shower time) ≡ b → (b || is_under (shown_root Shower time) q) ≡ true → q.owner ≡ Shower
-      go true e h = (below_of Shower time q e).owned
-      go false e h = sym (ap (λ (p : PathName). p.owner) (above_of Shower time q h))
+      go : (b : Bool) → is_under q (shown_root SnapUser time) ≡ b → (b || is_under (shown_root SnapUser time) q) ≡ true → q.owner ≡ SnapUser
+      go true e h = (below_of SnapUser time q e).owned
+      go false e h = sym (ap (λ (p : PathName). p.owner) (above_of SnapUser time q h))
 
   -- one that bears on a path of four elements or more has it below its root
-  bears_below : (q : PathName) (time : ℕ) → bears_on Shower q time ≡ true → 4 ≤ length q.elements → IsBelow Shower time q
-  bears_below q time bears size = go (is_under q (shown_root Shower time)) refl bears
+  bears_below : (q : PathName) (time : ℕ) → bears_on SnapUser q time ≡ true → 4 ≤ length q.elements → IsBelow SnapUser time q
+  bears_below q time bears size = go (is_under q (shown_root SnapUser time)) refl bears
     where
-      go : (b : Bool) → is_under q (shown_root Shower time) ≡ b → (b || is_under (shown_root Shower time) q) ≡ true → IsBelow Shower time q
-      go true e h = below_of Shower time q e
-      go false e h = subst (IsBelow Shower time) (sym (above_whole Shower time q h size)) (root_below Shower time)
+      go : (b : Bool) → is_under q (shown_root SnapUser time) ≡ b → (b || is_under (shown_root SnapUser time) q) ≡ true → IsBelow SnapUser time q
+      go true e h = below_of SnapUser time q e
+      go false e h = subst (IsBelow SnapUser time) (sym (above_whole SnapUser time q h size)) (root_below SnapUser time)
 
-  not_below : (q : PathName) (time : ℕ) → length q.elements < 4 → is_under q (shown_root Shower time) ≡ false
-  not_below q time low = go (is_under q (shown_root Shower time)) refl
+  not_below : (q : PathName) (time : ℕ) → length q.elements < 4 → is_under q (shown_root SnapUser time) ≡ false
+  not_below q time low = go (is_under q (shown_root SnapUser time)) refl
     where
-      go : (b : Bool) → is_under q (shown_root Shower time) ≡ b → is_under q (shown_root Shower time) ≡ false
+      go : (b : Bool) → is_under q (shown_root SnapUser time) ≡ b → is_under q (shown_root SnapUser time) ≡ false
       go false e = e
-      go true e = let below = below_of Shower time q e in absurd (omega (arith, below.size, low))
+      go true e = let below = below_of SnapUser time q e in absurd (omega (arith, below.size, low))
 
   -- a made-up directory stands at each path above a root
-  made_stands : (q : PathName) (place time : ℕ) → place < length records → slice_get records place ≡ Some (Snap time) → bears_on Shower q time ≡ true → length q.elements < 4 → HasDirectory All q
+  made_stands : (q : PathName) (place time : ℕ) → place < length records → slice_get records place ≡ Some (Snap time) → bears_on SnapUser q time ≡ true → length q.elements < 4 → HasDirectory All q
   made_stands q place time within takes bears low =
       let found = first_there q place time within takes bears in (
         made_up owner found.0.time found.0.position q,
@@ -123,26 +123,26 @@ module _ (owner : List ℕ) (records : List Rec) (is : IsLog owner records) wher
         refl,
       )
 
-  above_bears : (q : PathName) (n time : ℕ) → n ≤ 4 → q ≡ cut n (shown_root Shower time) → bears_on Shower q time ≡ true
-  above_bears q n time few same = or_both (is_under q (shown_root Shower time)) (is_under (shown_root Shower time) q) (above_is Shower time q n few same)
+  above_bears : (q : PathName) (n time : ℕ) → n ≤ 4 → q ≡ cut n (shown_root SnapUser time) → bears_on SnapUser q time ≡ true
+  above_bears q n time few same = or_both (is_under q (shown_root SnapUser time)) (is_under (shown_root SnapUser time) q) (above_is SnapUser time q n few same)
 
   -- the first is the one below whose root the path is
-  below_first : (q : PathName) (place time : ℕ) → place < length records → slice_get records place ≡ Some (Snap time) → IsBelow Shower time q →
-      first_to Shower records q (length records) ≡ Some (record { position = suc place; time = time })
+  below_first : (q : PathName) (place time : ℕ) → place < length records → slice_get records place ≡ Some (Snap time) → IsBelow SnapUser time q →
+      first_to SnapUser records q (length records) ≡ Some (record { position = suc place; time = time })
   below_first q place time within takes below =
-      let found = first_there q place time within takes (or_left (is_under q (shown_root Shower time)) (is_under (shown_root Shower time) q) (below_is Shower time q below)) in
+      let found = first_there q place time within takes (or_left (is_under q (shown_root SnapUser time)) (is_under (shown_root SnapUser time) q) (below_is SnapUser time q below)) in
       let other = bears_below q found.0.time found.2.bears below.size in
-      let times : found.0.time ≡ time = one_moment Shower Shower found.0.time time q (calendar owner records is q found.2.place found.0.time found.2.takes) (calendar owner records is q place time takes) other below in
+      let times : found.0.time ≡ time = one_moment SnapUser SnapUser found.0.time time q (calendar owner records is q found.2.place found.0.time found.2.takes) (calendar owner records is q place time takes) other below in
       let places : found.2.place ≡ place = one_place owner records is time found.2.place place (found.2.takes ∙ ap (λ t. Some (Snap t)) times) takes in
       found.1
       ∙ ap (λ n. Some (record { position = n; time = found.0.time })) (found.2.position ∙ ap suc places)
       ∙ ap (λ t. Some (record { position = suc place; time = t })) times
 
-  pub stands_below : (q : PathName) (place time : ℕ) → place < length records → slice_get records place ≡ Some (Snap time) → IsBelow Shower time q →
+  pub stands_below : (q : PathName) (place time : ℕ) → place < length records → slice_get records place ≡ Some (Snap time) → IsBelow SnapUser time q →
       node_at All q ≡ kept_node owner records q place
   stands_below q place time within takes below =
       told owner records is q (length records) ∙ ap (option_and_then (shown_node owner records q)) (below_first q place time within takes below)
-      ∙ kept_below owner records is q place time below.owned (below_is Shower time q below)
+      ∙ kept_below owner records is q place time below.owned (below_is SnapUser time q below)
 
   -- ---- at its name
 
@@ -181,18 +181,18 @@ module _ (owner : List ℕ) (records : List Rec) (is : IsLog owner records) wher
   -- ---- in a directory
 
   abbrev Placed : PathName → Type 0
-  Placed q = HasPlace Shower All q
+  Placed q = HasPlace SnapUser All q
 
   placed_in : (q : PathName) (n : ℕ) → length q.elements ≡ suc n → HasDirectory All (cut n q) → Placed q
-  placed_in q n size dir = subst (λ o. MatchOption o (q.owner ≡ Shower) (HasDirectory All)) (sym (parent_is q n size)) dir
+  placed_in q n size dir = subst (λ o. MatchOption o (q.owner ≡ SnapUser) (HasDirectory All)) (sym (parent_is q n size)) dir
 
-  cut_root : (q : PathName) (time n m : ℕ) → n ≤ m → q ≡ cut m (shown_root Shower time) → cut n q ≡ cut n (shown_root Shower time)
-  cut_root q time n m few same = ap (cut n) same ∙ cut_cut n m (shown_root Shower time) few
+  cut_root : (q : PathName) (time n m : ℕ) → n ≤ m → q ≡ cut m (shown_root SnapUser time) → cut n q ≡ cut n (shown_root SnapUser time)
+  cut_root q time n m few same = ap (cut n) same ∙ cut_cut n m (shown_root SnapUser time) few
 
   -- above a root
-  placed_above : (q : PathName) (place time m : ℕ) → place < length records → slice_get records place ≡ Some (Snap time) → m ≤ 4 → length q.elements ≡ m → q ≡ cut m (shown_root Shower time) → Placed q
+  placed_above : (q : PathName) (place time m : ℕ) → place < length records → slice_get records place ≡ Some (Snap time) → m ≤ 4 → length q.elements ≡ m → q ≡ cut m (shown_root SnapUser time) → Placed q
   placed_above q place time zero within takes few size same =
-      subst (λ o. MatchOption o (q.owner ≡ Shower) (HasDirectory All)) (sym (parent_none q size)) (ap (λ (p : PathName). p.owner) same)
+      subst (λ o. MatchOption o (q.owner ≡ SnapUser) (HasDirectory All)) (sym (parent_none q size)) (ap (λ (p : PathName). p.owner) same)
   placed_above q place time (suc n) within takes few size same =
       placed_in q n size
       (made_stands (cut n q) place time within takes (above_bears (cut n q) n time (omega (arith, few)) (cut_root q time n (suc n) (omega arith) same))
@@ -224,7 +224,7 @@ module _ (owner : List ℕ) (records : List Rec) (is : IsLog owner records) wher
       go (a ∷ b ∷ c ∷ []) h = absurd (omega (arith, h))
       go (a ∷ b ∷ c ∷ d ∷ xs) h = omega arith
 
-  cut_below : (q : PathName) (time n : ℕ) → IsBelow Shower time q → 4 ≤ n → n ≤ length q.elements → IsBelow Shower time (cut n q)
+  cut_below : (q : PathName) (time n : ℕ) → IsBelow SnapUser time q → 4 ≤ n → n ≤ length q.elements → IsBelow SnapUser time (cut n q)
   cut_below q time n below low few = record {
     owned = below.owned;
     front = ap (λ (p : PathName). p.elements) (cut_cut 4 n q low) ∙ below.front;
@@ -235,7 +235,7 @@ module _ (owner : List ℕ) (records : List Rec) (is : IsLog owner records) wher
   short_cut q n short = le-leb (length (canonical (cut n q))) 4096 (let s = leb-true (length (canonical q)) 4096 short in let c = length-canonical-cut n q in omega (arith, s, c))
 
   -- below a root, and not the root
-  placed_below : (q : PathName) (node : Node) (place time k : ℕ) → place < length records → slice_get records place ≡ Some (Snap time) → IsBelow Shower time q → length (old_path owner q).elements ≡ suc k →
+  placed_below : (q : PathName) (node : Node) (place time k : ℕ) → place < length records → slice_get records place ≡ Some (Snap time) → IsBelow SnapUser time q → length (old_path owner q).elements ≡ suc k →
       kept_node owner records q place ≡ Some node → Placed q
   placed_below q node place time k within takes below size kept =
       let whole = old_length q below.size in
@@ -251,28 +251,28 @@ module _ (owner : List ℕ) (records : List Rec) (is : IsLog owner records) wher
       ∙ ap (option_map (renamed up)) there in
       placed_in q (4 + k) (omega (arith, whole, size)) (renamed up old_dir.0, stands, old_dir.2)
 
-  module _ (q : PathName) (node : Node) (there : node_at All q ≡ Some node) (s : Shown) (first : IsFirst Shower records q (length records) s) where
-    above : (m : ℕ) → length q.elements ≡ m → m ≤ 4 → is_under (shown_root Shower s.time) q ≡ true → Placed q
-    above m size few under = placed_above q first.place s.time m first.within first.takes few size (sym (above_of Shower s.time q under) ∙ ap (λ n. cut n (shown_root Shower s.time)) size)
+  module _ (q : PathName) (node : Node) (there : node_at All q ≡ Some node) (s : Shown) (first : IsFirst SnapUser records q (length records) s) where
+    above : (m : ℕ) → length q.elements ≡ m → m ≤ 4 → is_under (shown_root SnapUser s.time) q ≡ true → Placed q
+    above m size few under = placed_above q first.place s.time m first.within first.takes few size (sym (above_of SnapUser s.time q under) ∙ ap (λ n. cut n (shown_root SnapUser s.time)) size)
 
-    low_bears : length q.elements < 4 → (b : Bool) → is_under q (shown_root Shower s.time) ≡ b → (b || is_under (shown_root Shower s.time) q) ≡ true → is_under (shown_root Shower s.time) q ≡ true
+    low_bears : length q.elements < 4 → (b : Bool) → is_under q (shown_root SnapUser s.time) ≡ b → (b || is_under (shown_root SnapUser s.time) q) ≡ true → is_under (shown_root SnapUser s.time) q ≡ true
     low_bears low true e h = absurd (false≢true (sym (not_below q s.time low) ∙ e))
     low_bears low false e h = h
 
-    four_root : IsBelow Shower s.time q → cut 4 q ≡ cut 4 (shown_root Shower s.time)
+    four_root : IsBelow SnapUser s.time q → cut 4 q ≡ cut 4 (shown_root SnapUser s.time)
     four_root below =
         ap (λ o. record { owner = o; elements = take 4 q.elements }) below.owned
-        ∙ ap (λ es. record { owner = Shower; elements = es }) (below.front ∙ sym (root_below Shower s.time).front)
+        ∙ ap (λ es. record { owner = SnapUser; elements = es }) (below.front ∙ sym (root_below SnapUser s.time).front)
 
-    by_old : (k : ℕ) → length (old_path owner q).elements ≡ k → IsBelow Shower s.time q → Placed q
+    by_old : (k : ℕ) → length (old_path owner q).elements ≡ k → IsBelow SnapUser s.time q → Placed q
     by_old zero size below =
         let four : length q.elements ≡ 4 = let w = old_length q below.size in omega (arith, w, size) in
-        let root : is_under (shown_root Shower s.time) q ≡ true = above_is Shower s.time q 4 (omega arith) (sym (cut_whole q) ∙ ap (λ n. cut n q) four ∙ four_root below) in
+        let root : is_under (shown_root SnapUser s.time) q ≡ true = above_is SnapUser s.time q 4 (omega arith) (sym (cut_whole q) ∙ ap (λ n. cut n q) four ∙ four_root below) in
         above 4 four (omega arith) root
     by_old (suc k) size below = placed_below q node first.place s.time k first.within first.takes below size (sym (stands_below q first.place s.time first.within first.takes below) ∙ there)
 
     placed_by : (length q.elements < 4) ⊎ (4 ≤ length q.elements) → Placed q
-    placed_by (inl low) = above (length q.elements) refl (omega (arith, low)) (low_bears low (is_under q (shown_root Shower s.time)) refl first.bears)
+    placed_by (inl low) = above (length q.elements) refl (omega (arith, low)) (low_bears low (is_under q (shown_root SnapUser s.time)) refl first.bears)
     placed_by (inr high) = by_old (length (old_path owner q).elements) refl (bears_below q s.time first.bears high)
 
   shown_placed : (q : PathName) (node : Node) → node_at All q ≡ Some node → Placed q

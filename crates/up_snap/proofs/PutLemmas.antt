@@ -7,10 +7,10 @@ use Rattle.up_entry.specs.declared.puts.Checked.{Checked}
 use Rattle.up_entry.specs.declared.records.Rec.{Rec}
 use Rattle.up_wire.specs.declared.replies.Reply.{Reply}
 use Rattle.up_wire.specs.declared.replies.Reply.TheVariants as reply
-use Rattle.up_replay.specs.Logs.{Log}
-use Rattle.up_replay.specs.Trees.{node_at}
-use Rattle.up_list.specs.declared.asking.Asked.{Asked}
-use Rattle.up_list.specs.declared.asking.Asked.TheVariants.{Put}
+use Rattle.up_log_tree.specs.Logs.{Log}
+use Rattle.up_log_tree.specs.Trees.{node_at}
+use Rattle.up_list.specs.declared.asking.ReadRequest.{ReadRequest}
+use Rattle.up_list.specs.declared.asking.ReadRequest.TheVariants.{Put}
 use Rattle.up_list.specs.Changes.{◌>>=◌, right_to_put, unless}
 use Rattle.up_list.specs.Checks.{check, ways}
 use Rattle.up_list.specs.Looks.{Look}
@@ -36,6 +36,6 @@ module _ (log : Log) (look : Look) (entry : Entry) (now : ℕ) (passed : None �
   put_refused takes = by_file false takes
 
 -- as a request
-pub put_outcome : (log : Log) (look : Look) (put : Checked) (asked : Asked) (now : ℕ) → look ≡ snapshot_look log look.user → asked ≡ Put put → snapshot_put log look put.entry now ≡ snapshot_outcome log look.user asked now
+pub put_outcome : (log : Log) (look : Look) (put : Checked) (asked : ReadRequest) (now : ℕ) → look ≡ snapshot_look log look.user → asked ≡ Put put → snapshot_put log look put.entry now ≡ snapshot_outcome log look.user asked now
 unfolding snapshot_outcome
 put_outcome log look put asked now seen is = ap (λ (l : Look). snapshot_put log l put.entry now) seen ∙ ap (λ a. snapshot_outcome log look.user a now) (sym is)

@@ -10,7 +10,7 @@ use Rattle.jiff_core.proofs.CalendarLemmas.{days_from_civil-day_count, days_in_m
 use Rattle.jiff_core.proofs.SignedLemmas.{signed_arith}
 use Rattle.std.proofs.lemmas.Bool.{false≢true}
 use Rattle.up_names.specs.PathNames.{PathName, is_under}
-use Rattle.up_replay.proofs.Paths.{cut_cut}
+use Rattle.up_log_tree.proofs.Paths.{cut_cut}
 use Rattle.up_answers.specs.Calendar.{clock_text, date_of, digits, moment_elements}
 use Rattle.up_snap.specs.Firsts.{IsMoment}
 use Rattle.up_snap.specs.Shown.{shown_root}
@@ -109,24 +109,24 @@ module _ (path : PathName) where
     unfolding moment_elements
     day_read = ap (λ text. two_at text 0) (first_read path.elements (take 3 (moment_elements time)) 2 front (omega arith)) ∙ two_read (date_of (time / 86400)).day (let h = own_day (time / 86400) days_few in omega (arith, h))
 
-  module _ (shower : List ℕ) (time : ℕ) where
+  module _ (snap_user : List ℕ) (time : ℕ) where
     -- so it is at or below the root, and of a path of three elements above it
-    pub front_below : is_under path (shown_root shower time) ≡ true → take 3 path.elements ≡ take 3 (moment_elements time)
+    pub front_below : is_under path (shown_root snap_user time) ≡ true → take 3 path.elements ≡ take 3 (moment_elements time)
     front_below under =
-        sym (ap (λ (p : PathName). p.elements) (cut_cut 3 4 path (omega arith))) ∙ ap (take 3) (below_of shower time path under).front
+        sym (ap (λ (p : PathName). p.elements) (cut_cut 3 4 path (omega arith))) ∙ ap (take 3) (below_of snap_user time path under).front
 
-    pub front_above : length path.elements ≡ 3 → is_under (shown_root shower time) path ≡ true → take 3 path.elements ≡ take 3 (moment_elements time)
+    pub front_above : length path.elements ≡ 3 → is_under (shown_root snap_user time) path ≡ true → take 3 path.elements ≡ take 3 (moment_elements time)
     front_above size above =
-        let same : take 3 (moment_elements time) ≡ path.elements = ap (λ n. take n (moment_elements time)) (sym size) ∙ ap (λ (p : PathName). p.elements) (above_of shower time path above) in
-        ap (take 3) (sym same) ∙ ap (λ (p : PathName). p.elements) (cut_cut 3 3 (shown_root shower time) (omega arith))
+        let same : take 3 (moment_elements time) ≡ path.elements = ap (λ n. take n (moment_elements time)) (sym size) ∙ ap (λ (p : PathName). p.elements) (above_of snap_user time path above) in
+        ap (take 3) (sym same) ∙ ap (λ (p : PathName). p.elements) (cut_cut 3 3 (shown_root snap_user time) (omega arith))
 
-    module _ (under : is_under path (shown_root shower time) ≡ true) where
+    module _ (under : is_under path (shown_root snap_user time) ≡ true) where
       pub second_read : two_at (element 3) 0 * 3600 + two_at (element 3) 2 * 60 + two_at (element 3) 4 ≡ time % 86400
       unfolding moment_elements
       second_read =
           let size = moment_length time in
           ap (λ text. two_at text 0 * 3600 + two_at text 2 * 60 + two_at text 4)
-          (first_read path.elements (moment_elements time) 3 (ap (λ n. take n path.elements) size ∙ (below_of shower time path under).front) (omega (arith, size)))
+          (first_read path.elements (moment_elements time) 3 (ap (λ n. take n path.elements) size ∙ (below_of snap_user time path under).front) (omega (arith, size)))
           ∙ clock_read time
 
 -- what holds of one holds of the other

@@ -9,13 +9,13 @@ use Rattle.up_names.specs.PathNames.{PathName, cut, is_under}
 use Rattle.up_names.specs.PathOrder.{path_eq}
 use Rattle.up_entry.specs.declared.records.Rec.{Rec}
 use Rattle.up_entry.specs.declared.records.Rec.TheVariants.{Put, Delete, Snap}
-use Rattle.up_replay.specs.Fits.{IsLog, snapshot_user}
-use Rattle.up_replay.specs.Orders.{has_path as has}
-use Rattle.up_replay.specs.Trees.{Tree, node_at, tree_at}
-use Rattle.up_replay.specs.declared.node.Node.{Node}
-use Rattle.up_replay.proofs.Paths.{path_eq_itself, path_same, some_none, some_same}
-use Rattle.up_replay.proofs.Rooted.{rooted_at}
-use Rattle.up_replay.proofs.Trees.{tree_sorted}
+use Rattle.up_log_tree.specs.Fits.{IsLog, snapshot_user}
+use Rattle.up_log_tree.specs.Orders.{has_path as has}
+use Rattle.up_log_tree.specs.Trees.{Tree, node_at, tree_at}
+use Rattle.up_log_tree.specs.declared.node.Node.{Node}
+use Rattle.up_log_tree.proofs.Paths.{path_eq_itself, path_same, some_none, some_same}
+use Rattle.up_log_tree.proofs.Rooted.{rooted_at}
+use Rattle.up_log_tree.proofs.Trees.{tree_sorted}
 use Rattle.up_list.specs.Rooted.{IsRooted}
 use Rattle.up_answers.specs.SnapshotTrees.{directories_above, made_up, moved_nodes, snapshots_to, with_new, with_snapshot, with_snapshot_of}
 use Rattle.up_snap.specs.Shown.{bearing, bears_on, first_to, is_short, kept_node, old_path, renamed, shown_node, shown_root}
@@ -159,37 +159,37 @@ module _ (owner : List ℕ) (time position : ℕ) (was tree : Tree) (rooted : Is
 
 -- ---- the first snapshot that bears on a path
 
-pub record IsFirst (shower : List ℕ) (records : List Rec) (q : PathName) (n : ℕ) (s : Shown) : Type 0 where
+pub record IsFirst (snap_user : List ℕ) (records : List Rec) (q : PathName) (n : ℕ) (s : Shown) : Type 0 where
   pub place : ℕ
   pub within : place < n
   pub takes : slice_get records place ≡ Some (Snap s.time)
   pub position : s.position ≡ suc place
-  pub bears : bears_on shower q s.time ≡ true
+  pub bears : bears_on snap_user q s.time ≡ true
 
-module _ (shower : List ℕ) (records : List Rec) (q : PathName) where
-  pub bearing_is : (n : ℕ) (o : Option Rec) (s : Shown) → slice_get records n ≡ o → bearing shower q (suc n) o ≡ Some s → IsFirst shower records q (suc n) s
+module _ (snap_user : List ℕ) (records : List Rec) (q : PathName) where
+  pub bearing_is : (n : ℕ) (o : Option Rec) (s : Shown) → slice_get records n ≡ o → bearing snap_user q (suc n) o ≡ Some s → IsFirst snap_user records q (suc n) s
   bearing_is n None s is h = absurd (some_none s (sym h))
   bearing_is n (Some (Put entry text)) s is h = absurd (some_none s (sym h))
   bearing_is n (Some (Delete gone)) s is h = absurd (some_none s (sym h))
-  bearing_is n (Some (Snap time)) s is h = go (bears_on shower q time) refl h
+  bearing_is n (Some (Snap time)) s is h = go (bears_on snap_user q time) refl h
     where
-      go : (b : Bool) → bears_on shower q time ≡ b → (if b then Some (record { position = suc n; time = time }) else None) ≡ Some s → IsFirst shower records q (suc n) s
+      go : (b : Bool) → bears_on snap_user q time ≡ b → (if b then Some (record { position = suc n; time = time }) else None) ≡ Some s → IsFirst snap_user records q (suc n) s
       go false e k = absurd (some_none s (sym k))
       go true e k =
           let same : record { position = suc n; time = time } ≡ s = some_same (record { position = suc n; time = time }) s k in
-          subst (IsFirst shower records q (suc n)) same (record { place = n; within = omega arith; takes = is; position = refl; bears = e })
+          subst (IsFirst snap_user records q (suc n)) same (record { place = n; within = omega arith; takes = is; position = refl; bears = e })
 
-  pub first_is : (n : ℕ) (s : Shown) → first_to shower records q n ≡ Some s → IsFirst shower records q n s
+  pub first_is : (n : ℕ) (s : Shown) → first_to snap_user records q n ≡ Some s → IsFirst snap_user records q n s
   unfolding first_to
   first_is zero s h = absurd (some_none s (sym h))
-  first_is (suc n) s h = go (first_to shower records q n) refl (λ t k. first_is n t k) h
+  first_is (suc n) s h = go (first_to snap_user records q n) refl (λ t k. first_is n t k) h
     where
-      go : (o : Option Shown) → first_to shower records q n ≡ o → ((t : Shown) → first_to shower records q n ≡ Some t → IsFirst shower records q n t) →
-          option_or o (bearing shower q (suc n) (slice_get records n)) ≡ Some s → IsFirst shower records q (suc n) s
+      go : (o : Option Shown) → first_to snap_user records q n ≡ o → ((t : Shown) → first_to snap_user records q n ≡ Some t → IsFirst snap_user records q n t) →
+          option_or o (bearing snap_user q (suc n) (slice_get records n)) ≡ Some s → IsFirst snap_user records q (suc n) s
       go None e ih k = bearing_is n (slice_get records n) s refl k
       go (Some t) e ih k =
           let was = ih t e in
-          subst (IsFirst shower records q (suc n)) (some_same t s k) (record { place = was.place; within = omega (arith, was.within); takes = was.takes; position = was.position; bears = was.bears })
+          subst (IsFirst snap_user records q (suc n)) (some_same t s k) (record { place = was.place; within = omega (arith, was.within); takes = was.takes; position = was.position; bears = was.bears })
 
 -- a record among the first ones
 pub has_taken : (records : List Rec) (n m : ℕ) (r : Rec) → m < n → slice_get records m ≡ Some r → Contains (take n records) r
@@ -207,8 +207,8 @@ has_taken records n m r lt h =
 -- ---- the snapshot tree
 
 module _ (owner : List ℕ) (records : List Rec) (is : IsLog owner records) (q : PathName) where
-  abbrev Shower : List ℕ
-  Shower = snapshot_user owner
+  abbrev SnapUser : List ℕ
+  SnapUser = snapshot_user owner
 
   pub calendar : (n : ℕ) (time : ℕ) → slice_get records n ≡ Some (Snap time) → time < 253402207200
   calendar n time taken = (is.fitting.each n (Snap time) taken).calendar
@@ -217,60 +217,60 @@ module _ (owner : List ℕ) (records : List Rec) (is : IsLog owner records) (q :
   rooted_then n = let r = rooted_at owner records is.fitting n in record { ordered = tree_sorted (take n records); named = r.named; placed = r.placed }
 
   abbrev First : ℕ → Option Shown
-  First n = first_to Shower records q n
+  First n = first_to SnapUser records q n
 
   -- one snapshot is below whose root the path is
-  none_before : (n time : ℕ) → slice_get records n ≡ Some (Snap time) → is_under q (shown_root Shower time) ≡ true → First n ≡ None
+  none_before : (n time : ℕ) → slice_get records n ≡ Some (Snap time) → is_under q (shown_root SnapUser time) ≡ true → First n ≡ None
   none_before n time taken below = go (First n) refl
     where
-      is_below : IsBelow Shower time q
-      is_below = below_of Shower time q below
+      is_below : IsBelow SnapUser time q
+      is_below = below_of SnapUser time q below
 
-      twice : (s : Shown) → IsFirst Shower records q n s → IsBelow Shower s.time q → ⊥
+      twice : (s : Shown) → IsFirst SnapUser records q n s → IsBelow SnapUser s.time q → ⊥
       twice s first other =
-          let same : s.time ≡ time = one_moment Shower Shower s.time time q (calendar first.place s.time first.takes) (calendar n time taken) other is_below in
+          let same : s.time ≡ time = one_moment SnapUser SnapUser s.time time q (calendar first.place s.time first.takes) (calendar n time taken) other is_below in
           (is.fitting.each n (Snap time) taken).new (has_taken records n first.place (Snap time) first.within (first.takes ∙ ap (λ t. Some (Snap t)) same))
 
-      by : (s : Shown) → IsFirst Shower records q n s → (b : Bool) → is_under q (shown_root Shower s.time) ≡ b → ⊥
-      by s first true e = twice s first (below_of Shower s.time q e)
+      by : (s : Shown) → IsFirst SnapUser records q n s → (b : Bool) → is_under q (shown_root SnapUser s.time) ≡ b → ⊥
+      by s first true e = twice s first (below_of SnapUser s.time q e)
       by s first false e =
-          let above : is_under (shown_root Shower s.time) q ≡ true = sym (ap (λ b. b || is_under (shown_root Shower s.time) q) e) ∙ first.bears in
-          let root = above_whole Shower s.time q above is_below.size in
-          twice s first (subst (IsBelow Shower s.time) (sym root) (root_below Shower s.time))
+          let above : is_under (shown_root SnapUser s.time) q ≡ true = sym (ap (λ b. b || is_under (shown_root SnapUser s.time) q) e) ∙ first.bears in
+          let root = above_whole SnapUser s.time q above is_below.size in
+          twice s first (subst (IsBelow SnapUser s.time) (sym root) (root_below SnapUser s.time))
 
       go : (o : Option Shown) → First n ≡ o → First n ≡ None
       go None e = e
-      go (Some s) e = absurd (by s (first_is Shower records q n s e) (is_under q (shown_root Shower s.time)) refl)
+      go (Some s) e = absurd (by s (first_is SnapUser records q n s e) (is_under q (shown_root SnapUser s.time)) refl)
 
   -- what the first one shows above its root is made up
-  pub made_above : (s : Shown) → q.owner ≡ Shower → is_under q (shown_root Shower s.time) ≡ false → shown_node owner records q s ≡ Some (made_up owner s.time s.position q)
+  pub made_above : (s : Shown) → q.owner ≡ SnapUser → is_under q (shown_root SnapUser s.time) ≡ false → shown_node owner records q s ≡ Some (made_up owner s.time s.position q)
   unfolding shown_node
   made_above s owned apart =
       ap (λ b. if b then kept_node owner records q (s.position - 1) else Some (made_up owner s.time s.position q))
       (ap (λ o. is_under q (shown_root o s.time)) owned ∙ apart)
 
-  pub kept_below : (n time : ℕ) → q.owner ≡ Shower → is_under q (shown_root Shower time) ≡ true →
+  pub kept_below : (n time : ℕ) → q.owner ≡ SnapUser → is_under q (shown_root SnapUser time) ≡ true →
       shown_node owner records q (record { position = suc n; time = time }) ≡ kept_node owner records q n
   unfolding shown_node
   kept_below n time owned below =
       ap (λ b. if b then kept_node owner records q (suc n - 1) else Some (made_up owner time (suc n) q)) (ap (λ o. is_under q (shown_root o time)) owned ∙ below)
       ∙ ap (kept_node owner records q) (let e : suc n - 1 ≡ n = omega arith in e)
 
-  short_path : (time : ℕ) → is_under q (shown_root Shower time) ≡ false → is_under (shown_root Shower time) q ≡ true → length q.elements < 4
-  short_path time apart above = go (length q.elements) refl (above_few Shower time q above)
+  short_path : (time : ℕ) → is_under q (shown_root SnapUser time) ≡ false → is_under (shown_root SnapUser time) q ≡ true → length q.elements < 4
+  short_path time apart above = go (length q.elements) refl (above_few SnapUser time q above)
     where
       go : (n : ℕ) → length q.elements ≡ n → n ≤ 4 → n < 4
       go (suc (suc (suc (suc zero)))) size few =
-          let root : q ≡ shown_root Shower time = above_whole Shower time q above (omega (arith, size)) in
-          absurd (false≢true (sym apart ∙ below_is Shower time q (subst (IsBelow Shower time) (sym root) (root_below Shower time))))
+          let root : q ≡ shown_root SnapUser time = above_whole SnapUser time q above (omega (arith, size)) in
+          absurd (false≢true (sym apart ∙ below_is SnapUser time q (subst (IsBelow SnapUser time) (sym root) (root_below SnapUser time))))
       go zero size few = omega arith
       go (suc zero) size few = omega arith
       go (suc (suc zero)) size few = omega arith
       go (suc (suc (suc zero))) size few = omega arith
       go (suc (suc (suc (suc (suc n))))) size few = absurd (omega (arith, few))
 
-  above_owner : (time : ℕ) → is_under (shown_root Shower time) q ≡ true → q.owner ≡ Shower
-  above_owner time above = sym (ap (λ (p : PathName). p.owner) (above_of Shower time q above))
+  above_owner : (time : ℕ) → is_under (shown_root SnapUser time) q ≡ true → q.owner ≡ SnapUser
+  above_owner time above = sym (ap (λ (p : PathName). p.owner) (above_of SnapUser time q above))
 
   abbrev Told : ℕ → Type 0
   Told n = node_at (snapshots_to owner records n) q ≡ option_and_then (shown_node owner records q) (First n)
@@ -278,45 +278,45 @@ module _ (owner : List ℕ) (records : List Rec) (is : IsLog owner records) (q :
   -- one Snap more
   snap_told : (n time : ℕ) → slice_get records n ≡ Some (Snap time) → Told n →
       node_at (with_snapshot owner time (suc n) (tree_at records n) (snapshots_to owner records n)) q
-      ≡ option_and_then (shown_node owner records q) (option_or (First n) (bearing Shower q (suc n) (Some (Snap time))))
-  snap_told n time taken so_far = go (is_under q (shown_root Shower time)) refl (is_under (shown_root Shower time) q) refl
+      ≡ option_and_then (shown_node owner records q) (option_or (First n) (bearing SnapUser q (suc n) (Some (Snap time))))
+  snap_told n time taken so_far = go (is_under q (shown_root SnapUser time)) refl (is_under (shown_root SnapUser time) q) refl
     where
-      bears : (a : Bool) → is_under q (shown_root Shower time) ≡ a → (b : Bool) → is_under (shown_root Shower time) q ≡ b →
-          bearing Shower q (suc n) (Some (Snap time)) ≡ (if a || b then Some (record { position = suc n; time = time }) else None)
-      bears a e b f = ap (λ c. if c || is_under (shown_root Shower time) q then Some (record { position = suc n; time = time }) else None) e ∙ ap (λ c. if a || c then Some (record { position = suc n; time = time }) else None) f
+      bears : (a : Bool) → is_under q (shown_root SnapUser time) ≡ a → (b : Bool) → is_under (shown_root SnapUser time) q ≡ b →
+          bearing SnapUser q (suc n) (Some (Snap time)) ≡ (if a || b then Some (record { position = suc n; time = time }) else None)
+      bears a e b f = ap (λ c. if c || is_under (shown_root SnapUser time) q then Some (record { position = suc n; time = time }) else None) e ∙ ap (λ c. if a || c then Some (record { position = suc n; time = time }) else None) f
 
-      rhs : (a : Bool) → is_under q (shown_root Shower time) ≡ a → (b : Bool) → is_under (shown_root Shower time) q ≡ b →
-          option_and_then (shown_node owner records q) (option_or (First n) (bearing Shower q (suc n) (Some (Snap time)))) ≡ option_and_then (shown_node owner records q) (option_or (First n) (if a || b then Some (record { position = suc n; time = time }) else None))
+      rhs : (a : Bool) → is_under q (shown_root SnapUser time) ≡ a → (b : Bool) → is_under (shown_root SnapUser time) q ≡ b →
+          option_and_then (shown_node owner records q) (option_or (First n) (bearing SnapUser q (suc n) (Some (Snap time)))) ≡ option_and_then (shown_node owner records q) (option_or (First n) (if a || b then Some (record { position = suc n; time = time }) else None))
       rhs a e b f = ap (λ o. option_and_then (shown_node owner records q) (option_or (First n) o)) (bears a e b f)
 
-      above_more : (o : Option Shown) → First n ≡ o → is_under q (shown_root Shower time) ≡ false → is_under (shown_root Shower time) q ≡ true →
+      above_more : (o : Option Shown) → First n ≡ o → is_under q (shown_root SnapUser time) ≡ false → is_under (shown_root SnapUser time) q ≡ true →
           option_or (node_at (snapshots_to owner records n) q) (Some (made_up owner time (suc n) q)) ≡ option_and_then (shown_node owner records q) (option_or o (Some (record { position = suc n; time = time })))
       above_more None first e f =
           ap (λ o. option_or o (Some (made_up owner time (suc n) q))) (so_far ∙ ap (option_and_then (shown_node owner records q)) first)
           ∙ sym (made_above (record { position = suc n; time = time }) (above_owner time f) e)
       above_more (Some s) first e f =
           let low = short_path time e f in
-          let found = first_is Shower records q n s first in
-          let apart : is_under q (shown_root Shower s.time) ≡ false = not_below s low in
+          let found = first_is SnapUser records q n s first in
+          let apart : is_under q (shown_root SnapUser s.time) ≡ false = not_below s low in
           let shown = made_above s (above_owner time f) apart in
           ap (λ o. option_or o (Some (made_up owner time (suc n) q))) (so_far ∙ ap (option_and_then (shown_node owner records q)) first ∙ shown)
           ∙ sym shown
         where
-          not_below : (s : Shown) → length q.elements < 4 → is_under q (shown_root Shower s.time) ≡ false
-          not_below s low = by (is_under q (shown_root Shower s.time)) refl
+          not_below : (s : Shown) → length q.elements < 4 → is_under q (shown_root SnapUser s.time) ≡ false
+          not_below s low = by (is_under q (shown_root SnapUser s.time)) refl
             where
-              by : (b : Bool) → is_under q (shown_root Shower s.time) ≡ b → is_under q (shown_root Shower s.time) ≡ false
+              by : (b : Bool) → is_under q (shown_root SnapUser s.time) ≡ b → is_under q (shown_root SnapUser s.time) ≡ false
               by false h = h
-              by true h = let below = below_of Shower s.time q h in absurd (omega (arith, low, below.size))
+              by true h = let below = below_of SnapUser s.time q h in absurd (omega (arith, low, below.size))
 
-      go : (a : Bool) → is_under q (shown_root Shower time) ≡ a → (b : Bool) → is_under (shown_root Shower time) q ≡ b →
-          node_at (with_snapshot owner time (suc n) (tree_at records n) (snapshots_to owner records n)) q ≡ option_and_then (shown_node owner records q) (option_or (First n) (bearing Shower q (suc n) (Some (Snap time))))
+      go : (a : Bool) → is_under q (shown_root SnapUser time) ≡ a → (b : Bool) → is_under (shown_root SnapUser time) q ≡ b →
+          node_at (with_snapshot owner time (suc n) (tree_at records n) (snapshots_to owner records n)) q ≡ option_and_then (shown_node owner records q) (option_or (First n) (bearing SnapUser q (suc n) (Some (Snap time))))
       go true e b f =
           let none = none_before n time taken e in
           with_below owner time (suc n) (tree_at records n) (snapshots_to owner records n) (rooted_then n) q e
           ∙ ap (option_or (kept_node owner records q n)) (so_far ∙ ap (option_and_then (shown_node owner records q)) none)
           ∙ or_none (kept_node owner records q n)
-          ∙ sym (kept_below n time (below_of Shower time q e).owned e)
+          ∙ sym (kept_below n time (below_of SnapUser time q e).owned e)
           ∙ ap (λ o. option_and_then (shown_node owner records q) (option_or o (Some (record { position = suc n; time = time })))) (sym none)
           ∙ sym (rhs true e b f)
       go false e true f = with_above owner time (suc n) (tree_at records n) (snapshots_to owner records n) (rooted_then n) q e f ∙ above_more (First n) refl e f ∙ sym (rhs false e true f)
@@ -327,13 +327,13 @@ module _ (owner : List ℕ) (records : List Rec) (is : IsLog owner records) (q :
 
   -- one record more
   record_told : (n : ℕ) (o : Option Rec) → slice_get records n ≡ o → Told n →
-      node_at (with_snapshot_of owner o (suc n) (tree_at records n) (snapshots_to owner records n)) q ≡ option_and_then (shown_node owner records q) (option_or (First n) (bearing Shower q (suc n) o))
+      node_at (with_snapshot_of owner o (suc n) (tree_at records n) (snapshots_to owner records n)) q ≡ option_and_then (shown_node owner records q) (option_or (First n) (bearing SnapUser q (suc n) o))
   record_told n None e so_far = so_far ∙ ap (option_and_then (shown_node owner records q)) (sym (or_none (First n)))
   record_told n (Some (Put entry text)) e so_far = so_far ∙ ap (option_and_then (shown_node owner records q)) (sym (or_none (First n)))
   record_told n (Some (Delete gone)) e so_far = so_far ∙ ap (option_and_then (shown_node owner records q)) (sym (or_none (First n)))
   record_told n (Some (Snap time)) e so_far = snap_told n time e so_far
 
-  pub told : (n : ℕ) → node_at (snapshots_to owner records n) q ≡ option_and_then (shown_node owner records q) (first_to Shower records q n)
+  pub told : (n : ℕ) → node_at (snapshots_to owner records n) q ≡ option_and_then (shown_node owner records q) (first_to SnapUser records q n)
   unfolding snapshots_to first_to node_at
   told zero = refl
   told (suc n) = record_told n (slice_get records n) refl (told n)

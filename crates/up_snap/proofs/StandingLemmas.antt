@@ -4,8 +4,8 @@ use Rattle.std.specs.Prelude.{if◌then◌else◌}
 use Rattle.std.specs.Option.{option_and_then, option_map}
 use Rattle.up_names.specs.PathNames.{PathName, is_under}
 use Rattle.up_entry.specs.declared.records.Rec.{Rec}
-use Rattle.up_replay.specs.Fits.{IsLog, snapshot_user}
-use Rattle.up_replay.specs.Trees.{node_at, tree_at}
+use Rattle.up_log_tree.specs.Fits.{IsLog, snapshot_user}
+use Rattle.up_log_tree.specs.Trees.{node_at, tree_at}
 use Rattle.up_answers.specs.SnapshotTrees.{made_up, snapshots_to}
 use Rattle.up_snap.specs.Shown.{first_to, is_short, kept_node, old_path, renamed, shown_node, shown_root}
 use Rattle.up_snap.specs.Standing.{node_of}
@@ -38,22 +38,22 @@ module _ (owner : List ℕ) (records : List Rec) (path : PathName) where
   none_shown shown root old is below short same none =
       ap (option_map (renamed path)) (none ∙ ap (node_at (tree_at records (shown.position - 1))) same) ∙ sym (kept_shown shown root is below short)
 
-  module _ (shower : List ℕ) (is : IsLog owner records) where
+  module _ (snap_user : List ℕ) (is : IsLog owner records) where
     -- the first snapshot has a moment and a position
-    pub first_moment : (s : Shown) → Some s ≡ first_to shower records path (length records) → s.time < 253402207200
-    first_moment s h = let first = first_is shower records path (length records) s (sym h) in calendar owner records is path first.place s.time first.takes
+    pub first_moment : (s : Shown) → Some s ≡ first_to snap_user records path (length records) → s.time < 253402207200
+    first_moment s h = let first = first_is snap_user records path (length records) s (sym h) in calendar owner records is path first.place s.time first.takes
 
-    pub first_position : (s : Shown) → Some s ≡ first_to shower records path (length records) → 1 ≤ s.position
-    first_position s h = let first = first_is shower records path (length records) s (sym h) in omega (arith, first.position)
+    pub first_position : (s : Shown) → Some s ≡ first_to snap_user records path (length records) → 1 ≤ s.position
+    first_position s h = let first = first_is snap_user records path (length records) s (sym h) in omega (arith, first.position)
 
-    pub told_some : (s : Shown) → shower ≡ snapshot_user owner → Some s ≡ first_to shower records path (length records) →
+    pub told_some : (s : Shown) → snap_user ≡ snapshot_user owner → Some s ≡ first_to snap_user records path (length records) →
         shown_node owner records path s ≡ node_at (snapshots_to owner records (length records)) path
     told_some s same h =
         sym (told owner records is path (length records)
         ∙ ap (λ o. option_and_then (shown_node owner records path) (first_to o records path (length records))) (sym same)
         ∙ ap (option_and_then (shown_node owner records path)) (sym h))
 
-    pub told_none : shower ≡ snapshot_user owner → None ≡ first_to shower records path (length records) → None ≡ node_at (snapshots_to owner records (length records)) path
+    pub told_none : snap_user ≡ snapshot_user owner → None ≡ first_to snap_user records path (length records) → None ≡ node_at (snapshots_to owner records (length records)) path
     told_none same h =
         sym (told owner records is path (length records)
         ∙ ap (λ o. option_and_then (shown_node owner records path) (first_to o records path (length records))) (sym same)

@@ -7,8 +7,8 @@ use Rattle.std.proofs.lemmas.Slice.Eq.{bytes_eq-Decides, slice_eq-Decides}
 use Rattle.up_names.specs.PathNames.{PathName, cut, is_under}
 use Rattle.up_answers.specs.Calendar.{moment_elements}
 use Rattle.up_answers.specs.SnapshotTrees.{moved}
-use Rattle.up_replay.specs.Fits.{root_of, snapshot_user}
-use Rattle.up_replay.proofs.Paths.{cut_whole}
+use Rattle.up_log_tree.specs.Fits.{root_of, snapshot_user}
+use Rattle.up_log_tree.proofs.Paths.{cut_whole}
 use Rattle.up_snap.specs.Shown.{old_path, shown_root}
 use Rattle.up_snap.proofs.MomentLemmas.{moment_same}
 
@@ -32,8 +32,8 @@ pub root_moved : (owner : List ℕ) (time : ℕ) → moved time (root_of owner) 
 root_moved owner time = ap (λ es. record { owner = snapshot_user owner; elements = es }) (append-nil (moment_elements time))
 
 -- a path at or below the root has at least four elements, and begins with those of the moment
-pub record IsBelow (shower : List ℕ) (time : ℕ) (path : PathName) : Type 0 where
-  pub owned : path.owner ≡ shower
+pub record IsBelow (snap_user : List ℕ) (time : ℕ) (path : PathName) : Type 0 where
+  pub owned : path.owner ≡ snap_user
   pub front : take 4 path.elements ≡ moment_elements time
   pub size : 4 ≤ length path.elements
 
@@ -44,31 +44,31 @@ four_taken (a ∷ b ∷ []) ys size h = let e : 2 ≡ 4 = ap length h ∙ size i
 four_taken (a ∷ b ∷ c ∷ []) ys size h = let e : 3 ≡ 4 = ap length h ∙ size in absurd (omega (arith, e))
 four_taken (a ∷ b ∷ c ∷ d ∷ xs) ys size h = omega arith
 
-module _ (shower : List ℕ) (time : ℕ) (path : PathName) where
-  pub below_of : is_under path (shown_root shower time) ≡ true → IsBelow shower time path
+module _ (snap_user : List ℕ) (time : ℕ) (path : PathName) where
+  pub below_of : is_under path (shown_root snap_user time) ≡ true → IsBelow snap_user time path
   below_of under =
-      let same = (under-Decides path (shown_root shower time)).0 under in
+      let same = (under-Decides path (shown_root snap_user time)).0 under in
       let front : take 4 path.elements ≡ moment_elements time =
       ap (λ n. take n path.elements) (sym (moment_length time)) ∙ ap (λ (p : PathName). p.elements) same in
       record { owned = ap (λ (p : PathName). p.owner) same; front = front; size = four_taken path.elements (moment_elements time) (moment_length time) front }
 
-  pub below_is : IsBelow shower time path → is_under path (shown_root shower time) ≡ true
+  pub below_is : IsBelow snap_user time path → is_under path (shown_root snap_user time) ≡ true
   below_is is =
-      (under-Decides path (shown_root shower time)).1
+      (under-Decides path (shown_root snap_user time)).1
       (ap (λ n. cut n path) (moment_length time)
       ∙ ap (λ o. record { owner = o; elements = take 4 path.elements }) is.owned
-      ∙ ap (λ es. record { owner = shower; elements = es }) is.front)
+      ∙ ap (λ es. record { owner = snap_user; elements = es }) is.front)
 
   -- a path above the root is one of its fronts
-  pub above_of : is_under (shown_root shower time) path ≡ true → cut (length path.elements) (shown_root shower time) ≡ path
-  above_of under = (under-Decides (shown_root shower time) path).0 under
+  pub above_of : is_under (shown_root snap_user time) path ≡ true → cut (length path.elements) (shown_root snap_user time) ≡ path
+  above_of under = (under-Decides (shown_root snap_user time) path).0 under
 
-  pub above_is : (n : ℕ) → n ≤ 4 → path ≡ cut n (shown_root shower time) → is_under (shown_root shower time) path ≡ true
+  pub above_is : (n : ℕ) → n ≤ 4 → path ≡ cut n (shown_root snap_user time) → is_under (shown_root snap_user time) path ≡ true
   above_is n few is =
       let size : length path.elements ≡ n = ap (λ (p : PathName). length p.elements) is ∙ length-take-le n (moment_elements time) (let e = moment_length time in omega (arith, e, few)) in
-      (under-Decides (shown_root shower time) path).1 (ap (λ k. cut k (shown_root shower time)) size ∙ sym is)
+      (under-Decides (shown_root snap_user time) path).1 (ap (λ k. cut k (shown_root snap_user time)) size ∙ sym is)
 
-  pub above_few : is_under (shown_root shower time) path ≡ true → length path.elements ≤ 4
+  pub above_few : is_under (shown_root snap_user time) path ≡ true → length path.elements ≤ 4
   above_few under =
       let e = ap (λ (p : PathName). length p.elements) (above_of under) in
       go (length path.elements) (moment_elements time) (moment_length time) e
@@ -87,34 +87,34 @@ module _ (shower : List ℕ) (time : ℕ) (path : PathName) where
           more n xs size e = let r = shorter n xs e in omega (arith, r, size)
 
   -- one that is above it and has four elements is the root
-  pub above_whole : is_under (shown_root shower time) path ≡ true → 4 ≤ length path.elements → path ≡ shown_root shower time
+  pub above_whole : is_under (shown_root snap_user time) path ≡ true → 4 ≤ length path.elements → path ≡ shown_root snap_user time
   above_whole under size =
       let few = above_few under in
       let four : length path.elements ≡ 4 = omega (arith, few, size) in
-      sym (above_of under) ∙ ap (λ n. cut n (shown_root shower time)) (four ∙ sym (moment_length time)) ∙ cut_whole (shown_root shower time)
+      sym (above_of under) ∙ ap (λ n. cut n (shown_root snap_user time)) (four ∙ sym (moment_length time)) ∙ cut_whole (shown_root snap_user time)
 
 -- the root is below itself
-pub root_below : (shower : List ℕ) (time : ℕ) → IsBelow shower time (shown_root shower time)
-root_below shower time = record {
+pub root_below : (snap_user : List ℕ) (time : ℕ) → IsBelow snap_user time (shown_root snap_user time)
+root_below snap_user time = record {
   owned = refl;
-  front = ap (λ n. take n (moment_elements time)) (sym (moment_length time)) ∙ ap (λ (p : PathName). p.elements) (cut_whole (shown_root shower time));
+  front = ap (λ n. take n (moment_elements time)) (sym (moment_length time)) ∙ ap (λ (p : PathName). p.elements) (cut_whole (shown_root snap_user time));
   size = let e = moment_length time in omega (arith, e);
 }
 
 -- a path with so many elements on which a snapshot bears is at or below the root
-pub below_if : (shower : List ℕ) (time : ℕ) (path : PathName) → 4 ≤ length path.elements → (is_under path (shown_root shower time) || is_under (shown_root shower time) path) ≡ true →
-    is_under path (shown_root shower time) ≡ true
-below_if shower time path long bears = go (is_under path (shown_root shower time)) refl bears
+pub below_if : (snap_user : List ℕ) (time : ℕ) (path : PathName) → 4 ≤ length path.elements → (is_under path (shown_root snap_user time) || is_under (shown_root snap_user time) path) ≡ true →
+    is_under path (shown_root snap_user time) ≡ true
+below_if snap_user time path long bears = go (is_under path (shown_root snap_user time)) refl bears
   where
-    go : (b : Bool) → is_under path (shown_root shower time) ≡ b → (b || is_under (shown_root shower time) path) ≡ true → is_under path (shown_root shower time) ≡ true
+    go : (b : Bool) → is_under path (shown_root snap_user time) ≡ b → (b || is_under (shown_root snap_user time) path) ≡ true → is_under path (shown_root snap_user time) ≡ true
     go true e h = e
     go false e h =
-        let root : path ≡ shown_root shower time = above_whole shower time path h long in
-        below_is shower time path (subst (IsBelow shower time) (sym root) (root_below shower time))
+        let root : path ≡ shown_root snap_user time = above_whole snap_user time path h long in
+        below_is snap_user time path (subst (IsBelow snap_user time) (sym root) (root_below snap_user time))
 
 -- a path below two roots shows one moment
-pub one_moment : (shower other : List ℕ) (m n : ℕ) (path : PathName) → m < 253402207200 → n < 253402207200 → IsBelow shower m path → IsBelow other n path → m ≡ n
-one_moment shower other m n path low high one two = moment_same m n low high (sym one.front ∙ two.front)
+pub one_moment : (snap_user other : List ℕ) (m n : ℕ) (path : PathName) → m < 253402207200 → n < 253402207200 → IsBelow snap_user m path → IsBelow other n path → m ≡ n
+one_moment snap_user other m n path low high one two = moment_same m n low high (sym one.front ∙ two.front)
 
 -- a path below the root is the old path, moved
 pub moved_back : (owner : List ℕ) (time : ℕ) (path : PathName) → IsBelow (snapshot_user owner) time path → moved time (old_path owner path) ≡ path

@@ -4,7 +4,7 @@ use Rattle.std.specs.Prelude.{ℕ, ◌<◌, nat_le, if◌then◌else◌, List, f
 use Rattle.up_names.specs.Texts.{UserName}
 use Rattle.up_names.specs.PathNames.{PathName}
 use Rattle.up_entry.specs.declared.records.Rec.{Rec}
-use Rattle.up_replay.specs.Snapshots.{snap_at}
+use Rattle.up_log_tree.specs.Snapshots.{snap_at}
 use Rattle.up_snap.specs.Shown.{bears_on}
 use Rattle.up_snap.specs.declared.shown.Shown.{Shown}
 use Rattle.up_snap.specs.declared.standing.Standing.{Standing}
@@ -18,11 +18,11 @@ sooner (Some one) (Some two) = if nat_le one.position two.position then Some one
 
 -- the snapshot of a moment, where it bears on a path
 abbrev pub bearing_at : UserName → List Rec → PathName → ℕ → Option Shown
-bearing_at shower records path time = if bears_on shower path time then option_map (λ position. record { position = position; time = time }) (snap_at records time) else None
+bearing_at snap_user records path time = if bears_on snap_user path time then option_map (λ position. record { position = position; time = time }) (snap_at records time) else None
 
 -- the first among those of these moments
 unfoldable pub least_to : UserName → List Rec → PathName → List ℕ → Option Shown
-least_to shower records path times = fold (λ first time. sooner first (bearing_at shower records path time)) None times
+least_to snap_user records path times = fold (λ first time. sooner first (bearing_at snap_user records path time)) None times
 
 -- a moment that snapshots may have
 abbrev pub IsMoment : ℕ → Type 0

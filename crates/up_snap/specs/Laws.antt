@@ -4,8 +4,8 @@ use Rattle.std.specs.Option.{option_and_then}
 use Rattle.up_names.specs.Texts.{UserName}
 use Rattle.up_names.specs.PathNames.{PathName}
 use Rattle.up_entry.specs.declared.records.Rec.{Rec}
-use Rattle.up_replay.specs.Fits.{IsLog, snapshot_user}
-use Rattle.up_replay.specs.Trees.{node_at}
+use Rattle.up_log_tree.specs.Fits.{IsLog, snapshot_user}
+use Rattle.up_log_tree.specs.Trees.{node_at}
 use Rattle.up_list.specs.Rooted.{IsRooted}
 use Rattle.up_answers.specs.SnapshotTrees.{snapshots_to}
 use Rattle.up_snap.specs.Shown.{first_to, shown_node}

@@ -13,7 +13,7 @@ use Rattle.up_entry.specs.declared.entries.Entry.{Entry}
 use Rattle.up_entry.specs.declared.records.Rec.{Rec}
 use Rattle.up_entry.specs.declared.records.Rec.TheVariants.{Snap}
 use Rattle.up_list.specs.Entries.{entry_of}
-use Rattle.up_replay.specs.Trees.{is_parent, last_element, node_at, tree_at}
+use Rattle.up_log_tree.specs.Trees.{is_parent, last_element, node_at, tree_at}
 use Rattle.up_snap.specs.Firsts.{least_to}
 use Rattle.up_snap.specs.Shown.{is_short, renamed}
 use Rattle.up_snap.specs.declared.shown.Shown.{Shown}
@@ -38,6 +38,6 @@ pub record IsTaken (records : List Rec) (shown : Shown) : Type 0 where
   pub position : shown.position ≡ suc place
 
 -- The paths in a directory on which snapshots of these moments bear, in order, each with the first of them.
-pub record IsNaming (shower : UserName) (records : List Rec) (dir : PathName) (times : List ℕ) (named : List (PathName × Shown)) : Type 0 where
+pub record IsNaming (snap_user : UserName) (records : List Rec) (dir : PathName) (times : List ℕ) (named : List (PathName × Shown)) : Type 0 where
   pub sorted : T (is_sorted path_cmp named)
-  pub each : (q : PathName) → find path_cmp q named ≡ (if is_parent dir q then least_to shower records q times else None)
+  pub each : (q : PathName) → find path_cmp q named ≡ (if is_parent dir q then least_to snap_user records q times else None)

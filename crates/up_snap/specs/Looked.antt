@@ -8,7 +8,7 @@ use Rattle.up_policy.specs.Trees.{owns_snapshots}
 use Rattle.up_rights.specs.RightSets.{Rights}
 use Rattle.up_entry.specs.declared.entries.Entry.{Entry}
 use Rattle.up_entry.specs.declared.records.Rec.{Rec}
-use Rattle.up_replay.specs.Fits.{snapshot_user}
+use Rattle.up_log_tree.specs.Fits.{snapshot_user}
 use Rattle.up_list.specs.Founds.{entry_found}
 use Rattle.up_list.specs.Looks.{Look}
 use Rattle.up_list.specs.Seen.{has_name}
@@ -20,10 +20,10 @@ abbrev pub look_at : UserName → List Rec → UserName → Look
 look_at owner records user = record { owner = snapshot_user owner; tree = snapshots_to owner records (length records); loaded = []; user = user }
 
 -- the user whose tree shows the snapshots of an owner's
-pub record IsShower (owner shower : UserName) : Type 0 where
-  pub named : shower ≡ snapshot_user owner
-  pub owns : owns_snapshots shower ≡ true
-  pub base : base_of shower ≡ owner
+pub record IsSnapUser (owner snap_user : UserName) : Type 0 where
+  pub named : snap_user ≡ snapshot_user owner
+  pub owns : owns_snapshots snap_user ≡ true
+  pub base : base_of snap_user ≡ owner
 
 -- the rights of a user on the snapshot tree of an owner's: read and list for the owner, and none for anyone else
 abbrev pub held_by : UserName → UserName → Rights

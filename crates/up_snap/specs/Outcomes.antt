@@ -4,7 +4,7 @@ use Rattle.std.specs.Str.{bytes_eq}
 use Rattle.up_names.specs.Texts.{UserName}
 use Rattle.up_entry.specs.declared.records.Rec.{Rec}
 use Rattle.up_journal.specs.declared.limits.Limits.{Limits}
-use Rattle.up_replay.specs.Logs.{Log}
+use Rattle.up_log_tree.specs.Logs.{Log}
 use Rattle.up_answers.specs.Answers.{log_owner}
 
 -- a log of these records

@@ -6,31 +6,31 @@ use Rattle.up_names.specs.Texts.{UserName}
 use Rattle.up_names.specs.PathNames.{PathName, canonical, is_under}
 use Rattle.up_entry.specs.declared.records.Rec.{Rec}
 use Rattle.up_entry.specs.declared.records.Rec.TheVariants.{Put, Delete, Snap}
-use Rattle.up_replay.specs.declared.node.Node.{Node}
-use Rattle.up_replay.specs.Trees.{node_at, tree_at}
+use Rattle.up_log_tree.specs.declared.node.Node.{Node}
+use Rattle.up_log_tree.specs.Trees.{node_at, tree_at}
 use Rattle.up_answers.specs.Calendar.{moment_elements}
 use Rattle.up_answers.specs.SnapshotTrees.{made_up}
 use Rattle.up_snap.specs.declared.shown.Shown.{Shown}
 
 -- the root of the snapshot of a moment, in the tree of that snapshot user
 abbrev pub shown_root : UserName → ℕ → PathName
-shown_root shower time = record { owner = shower; elements = moment_elements time }
+shown_root snap_user time = record { owner = snap_user; elements = moment_elements time }
 
 -- a path at or below that root, or above it
 abbrev pub bears_on : UserName → PathName → ℕ → Bool
-bears_on shower path time = is_under path (shown_root shower time) || is_under (shown_root shower time) path
+bears_on snap_user path time = is_under path (shown_root snap_user time) || is_under (shown_root snap_user time) path
 
 -- a record at a position, where it takes a snapshot that bears on a path
 abbrev pub bearing : UserName → PathName → ℕ → Option Rec → Option Shown
-bearing shower path position (Some (Snap time)) = if bears_on shower path time then Some (record { position = position; time = time }) else None
-bearing shower path position (Some (Put entry text)) = None
-bearing shower path position (Some (Delete gone)) = None
-bearing shower path position None = None
+bearing snap_user path position (Some (Snap time)) = if bears_on snap_user path time then Some (record { position = position; time = time }) else None
+bearing snap_user path position (Some (Put entry text)) = None
+bearing snap_user path position (Some (Delete gone)) = None
+bearing snap_user path position None = None
 
 -- the first of the first n records that does
 unfoldable pub first_to : UserName → List Rec → PathName → ℕ → Option Shown
-first_to shower records path zero = None
-first_to shower records path (suc n) = option_or (first_to shower records path n) (bearing shower path (suc n) (slice_get records n))
+first_to snap_user records path zero = None
+first_to snap_user records path (suc n) = option_or (first_to snap_user records path n) (bearing snap_user path (suc n) (slice_get records n))
 
 -- the path that a snapshot shows at a path: the elements behind the four of its moment
 abbrev pub old_path : UserName → PathName → PathName

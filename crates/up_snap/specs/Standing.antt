@@ -5,7 +5,7 @@ use Rattle.up_names.specs.Texts.{UserName}
 use Rattle.up_names.specs.PathNames.{PathName}
 use Rattle.up_entry.specs.declared.records.Rec.{Rec}
 use Rattle.up_entry.specs.declared.records.Rec.TheVariants.{Put, Delete, Snap}
-use Rattle.up_replay.specs.declared.node.Node.{Node}
+use Rattle.up_log_tree.specs.declared.node.Node.{Node}
 use Rattle.up_answers.specs.SnapshotTrees.{made_up}
 use Rattle.up_snap.specs.Shown.{renamed}
 use Rattle.up_snap.specs.declared.old.OldNode.{OldNode}

@@ -11,7 +11,8 @@
 //! changes, those that stand there now and those that stood there once.
 //!
 //! [`snap_step`] answers a request on the snapshot tree: exactly what `answer` of `up_answers` says, whatever was loaded or fetched. A
-//! snapshot is added exactly where the reply is its position. [`snap_path`] is where it is shown.
+//! snapshot is added exactly where the reply is its position. [`snap_asked`] answers so a request that was read before. [`snap_path`] is
+//! where a snapshot is shown.
 #![tactic(auto)]
 
 mod laws;
@@ -20,8 +21,8 @@ mod look;
 mod moments;
 mod old;
 mod outcome;
-mod shower;
 mod shown;
+mod snap_user;
 mod standing;
 mod step;
 mod written;
@@ -29,7 +30,7 @@ mod written;
 pub use laws::{first_snapshots_show, snapshot_trees_are_rooted};
 pub use look::SnapLook;
 pub use moments::root_at;
-pub use shower::snap_path;
 pub use shown::Shown;
+pub use snap_user::snap_path;
 pub use standing::item_at;
 pub use step::{snap_asked, snap_step};

@@ -8,10 +8,10 @@ ghost use Rattle.up_names.specs.PathNames.{cut, is_under};
 ghost use Rattle.up_names.specs.PathOrder.{path_cmp};
 ghost use Rattle.up_list.specs.Entries.{entries_in, entry_at};
 ghost use Rattle.up_list.specs.Founds.{entry_found};
-ghost use Rattle.up_replay.specs.Fits.{snapshot_user};
-ghost use Rattle.up_replay.specs.Snapshots.{snapshots_of};
-ghost use Rattle.up_nodes.specs.Slots.{named_paths};
-ghost use Rattle.up_replay.specs.Trees.{is_parent, last_element};
+ghost use Rattle.up_log_tree.specs.Fits.{snapshot_user};
+ghost use Rattle.up_log_tree.specs.Snapshots.{snapshots_of};
+ghost use Rattle.up_mem_tree.specs.Slots.{named_paths};
+ghost use Rattle.up_log_tree.specs.Trees.{is_parent, last_element};
 ghost use Rattle.up_answers.specs.SnapshotTrees.{snapshots_to};
 ghost use Rattle.up_snap.specs.Firsts.{IsMoment, sooner};
 ghost use Rattle.up_snap.specs.Listed.{IsNaming, IsTaken, kept_entry, short_path};
@@ -27,25 +27,25 @@ use std::alloc::{AllocError, Global};
 use up_entry::Entry;
 use up_list::Found;
 use up_maps::OrderedMap;
+use up_mem_tree::MemTree;
 use up_names::{NameFault, Path, User};
-use up_nodes::MemTree;
 
 /// The items in a directory of the snapshot tree, in order of paths.
 pub(crate) fn items_in<'a>(
     alloc: Global,
     tree: &MemTree,
-    shower: &User,
+    snap_user: &User,
     dir: &Path,
 ) -> Result<Vec<Found<'a>>, AllocError>
-    requires { shower.now ≡ snapshot_user tree.now.owner }
+    requires { snap_user.now ≡ snapshot_user tree.now.owner }
     ensures { IfOk result (λ found. map entry_found found.items
         ≡ entries_in (snapshots_to tree.now.owner tree.now.log (length tree.now.log)) dir.now) }
 {
     if dir.len() < 4 {
-        return made_items(alloc, tree, shower, dir);
+        return made_items(alloc, tree, snap_user, dir);
     }
     let _records = tree.position();
-    match first_to(alloc, tree, shower, dir)? {
+    match first_to(alloc, tree, snap_user, dir)? {
         Some(shown) => kept_items(alloc, tree, dir, shown),
         None => Ok(Vec::new(alloc)),
     }
@@ -181,15 +181,15 @@ fn last_element(path: &Path) -> &str
 fn made_items<'a>(
     alloc: Global,
     tree: &MemTree,
-    shower: &User,
+    snap_user: &User,
     dir: &Path,
 ) -> Result<Vec<Found<'a>>, AllocError>
-    requires shower { shower.now ≡ snapshot_user tree.now.owner }
+    requires snap_user { snap_user.now ≡ snapshot_user tree.now.owner }
     requires short { length dir.now.elements < 4 }
     ensures { IfOk result (λ found. map entry_found found.items
         ≡ entries_in (snapshots_to tree.now.owner tree.now.log (length tree.now.log)) dir.now) }
 {
-    let names = names_in(alloc, tree, shower, dir)?;
+    let names = names_in(alloc, tree, snap_user, dir)?;
     made_under(alloc, tree, dir, &names)
 }
 
@@ -241,11 +241,11 @@ fn made_item<'a>(
 fn names_in(
     alloc: Global,
     tree: &MemTree,
-    shower: &User,
+    snap_user: &User,
     dir: &Path,
 ) -> Result<OrderedMap<Path, Shown>, AllocError>
     requires { length dir.now.elements < 4 }
-    ensures { IfOk result (λ names. IsNaming shower.now tree.now.log dir.now
+    ensures { IfOk result (λ names. IsNaming snap_user.now tree.now.log dir.now
         (keys_of (snapshots_of tree.now.log)) names.entries) }
 {
     let _records = tree.position();
@@ -254,7 +254,7 @@ fn names_in(
         let Some(time) = tree.snap_time(i) else {
             return Ok(names);
         };
-        add_name(alloc, tree, shower, dir, time, &mut names)?;
+        add_name(alloc, tree, snap_user, dir, time, &mut names)?;
     }
     // No log has so many records.
     Err(AllocError)
@@ -264,7 +264,7 @@ fn names_in(
 fn add_name(
     alloc: Global,
     tree: &MemTree,
-    shower: &User,
+    snap_user: &User,
     dir: &Path,
     time: u64,
     names: &mut OrderedMap<Path, Shown>,
@@ -272,13 +272,13 @@ fn add_name(
     requires moment { IsMoment time }
     requires short { length dir.now.elements < 4 }
     ensures { OnOk result ((times : List ℕ)
-        → IsNaming shower.now tree.now.log dir.now times names.old.entries
-        → IsNaming shower.now tree.now.log dir.now (times ++ time ∷ []) names.new.entries) }
+        → IsNaming snap_user.now tree.now.log dir.now times names.old.entries
+        → IsNaming snap_user.now tree.now.log dir.now (times ++ time ∷ []) names.new.entries) }
 {
     if !may_bear(dir, time) {
         return Ok(());
     }
-    let root = root_at(alloc, shower, time)?;
+    let root = root_at(alloc, snap_user, time)?;
     let Some(position) = tree.snap_at(time) else {
         return Ok(());
     };

@@ -5,11 +5,11 @@ ghost use Rattle.up_list.specs.Entries.{entry_at, entry_on_way};
 ghost use Rattle.up_list.specs.Founds.{entry_found};
 ghost use Rattle.up_list.specs.Seen.{has_name};
 ghost use Rattle.up_list.specs.Reads.{file_text};
-ghost use Rattle.up_replay.specs.Fits.{snapshot_user};
-ghost use Rattle.up_replay.specs.Rights.{access_node};
-ghost use Rattle.up_replay.specs.Trees.{node_at};
+ghost use Rattle.up_log_tree.specs.Fits.{snapshot_user};
+ghost use Rattle.up_log_tree.specs.Rights.{access_node};
+ghost use Rattle.up_log_tree.specs.Trees.{node_at};
 ghost use Rattle.up_answers.specs.SnapshotTrees.{snapshots_to};
-ghost use Rattle.up_snap.specs.Looked.{IsShower, first_named, held_by, look_at};
+ghost use Rattle.up_snap.specs.Looked.{IsSnapUser, first_named, held_by, look_at};
 
 use crate::listing::{front_of, items_in};
 use crate::standing::{item_at, standing_at};
@@ -18,8 +18,8 @@ use std::marker::Model;
 use up_bytes::Bytes;
 use up_entry::Entry;
 use up_list::{Found, Onlooker, path_made};
+use up_mem_tree::MemTree;
 use up_names::{Path, User};
-use up_nodes::MemTree;
 use up_rights::{Right, RightSet};
 
 /// A user before the snapshot tree of a log. Nothing is loaded for it, and no old tree is made: what stands at a path is read off
@@ -27,28 +27,32 @@ use up_rights::{Right, RightSet};
 #[derive(Drop)]
 pub struct SnapLook<'a> {
     tree: &'a MemTree,
-    shower: &'a User,
+    snap_user: &'a User,
     user: &'a User,
 }
 
 impl<'a> Model for SnapLook<'a> {
     ghost use Rattle.up_list.specs.Looks.{Look};
-    ghost use Rattle.up_snap.specs.Looked.{IsShower, look_at};
+    ghost use Rattle.up_snap.specs.Looked.{IsSnapUser, look_at};
 
     ghost Value = { Look };
 
     ghost view = { λ look. look_at look.tree.now.owner look.tree.now.log look.user.now };
 
-    ghost invariant = { λ look. IsShower look.tree.now.owner look.shower.now };
+    ghost invariant = { λ look. IsSnapUser look.tree.now.owner look.snap_user.now };
 }
 
 impl<'a> SnapLook<'a> {
-    /// A user before the snapshot tree of this tree, whose owner is the snapshot user `shower`.
-    pub fn new(tree: &'a MemTree, shower: &'a User, user: &'a User) -> SnapLook<'a>
-        requires { IsShower tree.now.owner shower.now }
+    /// A user before the snapshot tree of this tree, whose owner is the snapshot user `snap_user`.
+    pub fn new(tree: &'a MemTree, snap_user: &'a User, user: &'a User) -> SnapLook<'a>
+        requires { IsSnapUser tree.now.owner snap_user.now }
         ensures { result ≡ look_at tree.now.owner tree.now.log user.now }
     {
-        SnapLook { tree, shower, user }
+        SnapLook {
+            tree,
+            snap_user,
+            user,
+        }
     }
 }
 
@@ -56,7 +60,7 @@ impl Onlooker for SnapLook<'_> {
     ghost look = { λ look. look };
 
     fn owner(&self) -> &User {
-        self.shower
+        self.snap_user
     }
 
     fn rights(&self, _alloc: Global, _path: &Path) -> Result<RightSet, AllocError> {
@@ -65,12 +69,12 @@ impl Onlooker for SnapLook<'_> {
 
     fn item(&self, alloc: Global, path: &Path) -> Result<Option<Found<'_>>, AllocError> {
         let _records = self.tree.position();
-        item_at(alloc, self.tree, self.shower, path)
+        item_at(alloc, self.tree, self.snap_user, path)
     }
 
     fn item_on_way(&self, alloc: Global, path: &Path) -> Result<Option<Found<'_>>, AllocError> {
         let _records = self.tree.position();
-        item_on_way(alloc, self.tree, self.shower, path)
+        item_on_way(alloc, self.tree, self.snap_user, path)
     }
 
     fn item_in(
@@ -79,15 +83,15 @@ impl Onlooker for SnapLook<'_> {
         dir: &Path,
         name: &str,
     ) -> Result<Option<Found<'_>>, AllocError> {
-        item_named(alloc, self.tree, self.shower, dir, name)
+        item_named(alloc, self.tree, self.snap_user, dir, name)
     }
 
     fn items_in(&self, alloc: Global, dir: &Path) -> Result<Vec<Found<'_>>, AllocError> {
-        items_in(alloc, self.tree, self.shower, dir)
+        items_in(alloc, self.tree, self.snap_user, dir)
     }
 
     fn has_access(&self, alloc: Global, dir: &Path) -> Result<bool, AllocError> {
-        has_access(alloc, self.tree, self.shower, dir)
+        has_access(alloc, self.tree, self.snap_user, dir)
     }
 
     fn governing(&self, _alloc: Global, _path: &Path) -> Result<Option<Found<'_>>, AllocError> {
@@ -96,7 +100,7 @@ impl Onlooker for SnapLook<'_> {
     }
 
     fn text(&self, alloc: Global, path: &Path) -> Result<Option<Bytes>, AllocError> {
-        text_at(alloc, self.tree, self.shower, path)
+        text_at(alloc, self.tree, self.snap_user, path)
     }
 }
 
@@ -122,26 +126,31 @@ pub(crate) fn is_there(found: Option<Found>) -> bool
 
 /// Whether a directory has an Access file.
 #[tactic(auto, using(crate::proofs::LookLemmas::has_some))]
-fn has_access(alloc: Global, tree: &MemTree, shower: &User, dir: &Path) -> Result<bool, AllocError>
-    requires { shower.now ≡ snapshot_user tree.now.owner }
+fn has_access(
+    alloc: Global,
+    tree: &MemTree,
+    snap_user: &User,
+    dir: &Path,
+) -> Result<bool, AllocError>
+    requires { snap_user.now ≡ snapshot_user tree.now.owner }
     ensures { IfOk result (λ has. has ≡ is_some (access_node
         (snapshots_to tree.now.owner tree.now.log (length tree.now.log)) dir.now)) }
 {
-    Ok(is_there(item_named(alloc, tree, shower, dir, "Access")?))
+    Ok(is_there(item_named(alloc, tree, snap_user, dir, "Access")?))
 }
 
 /// The text of the file at a path.
 fn text_at(
     alloc: Global,
     tree: &MemTree,
-    shower: &User,
+    snap_user: &User,
     path: &Path,
 ) -> Result<Option<Bytes>, AllocError>
-    requires { shower.now ≡ snapshot_user tree.now.owner }
+    requires { snap_user.now ≡ snapshot_user tree.now.owner }
     ensures { IfOk result (λ text. text ≡ file_text (node_at
         (snapshots_to tree.now.owner tree.now.log (length tree.now.log)) path.now)) }
 {
-    match standing_at(alloc, tree, shower, path)? {
+    match standing_at(alloc, tree, snap_user, path)? {
         Some(found) => found.text(),
         None => Ok(None),
     }
@@ -151,16 +160,16 @@ fn text_at(
 fn item_on_way<'a>(
     alloc: Global,
     tree: &MemTree,
-    shower: &User,
+    snap_user: &User,
     path: &Path,
 ) -> Result<Option<Found<'a>>, AllocError>
-    requires { shower.now ≡ snapshot_user tree.now.owner }
+    requires { snap_user.now ≡ snapshot_user tree.now.owner }
     ensures { IfOk result (λ found. option_map entry_found found
         ≡ entry_on_way (snapshots_to tree.now.owner tree.now.log (length tree.now.log)) path.now) }
 {
-    match item_at(alloc, tree, shower, path)? {
+    match item_at(alloc, tree, snap_user, path)? {
         Some(found) => Ok(Some(found)),
-        None => item_above(alloc, tree, shower, path),
+        None => item_above(alloc, tree, snap_user, path),
     }
 }
 
@@ -169,10 +178,10 @@ fn item_on_way<'a>(
 fn item_above<'a>(
     alloc: Global,
     tree: &MemTree,
-    shower: &User,
+    snap_user: &User,
     path: &Path,
 ) -> Result<Option<Found<'a>>, AllocError>
-    requires shower { shower.now ≡ snapshot_user tree.now.owner }
+    requires snap_user { snap_user.now ≡ snapshot_user tree.now.owner }
     requires none { entry_at (snapshots_to tree.now.owner tree.now.log (length tree.now.log)) path.now
         ≡ None }
     ensures { IfOk result (λ found. option_map entry_found found
@@ -183,7 +192,7 @@ fn item_above<'a>(
     let mut high = path.len();
     while low < high {
         let middle = low + low.min((high - low) / 2);
-        if stands_at(alloc, tree, shower, path, middle)? {
+        if stands_at(alloc, tree, snap_user, path, middle)? {
             low = middle + 1;
         } else {
             high = middle;
@@ -193,24 +202,24 @@ fn item_above<'a>(
         return Ok(None);
     }
     let front = front_of(path, low - 1)?;
-    item_at(alloc, tree, shower, &front)
+    item_at(alloc, tree, snap_user, &front)
 }
 
 /// Whether something stands at the prefix with the first `n` elements of a path.
 fn stands_at(
     alloc: Global,
     tree: &MemTree,
-    shower: &User,
+    snap_user: &User,
     path: &Path,
     n: u64,
 ) -> Result<bool, AllocError>
-    requires shower { shower.now ≡ snapshot_user tree.now.owner }
+    requires snap_user { snap_user.now ≡ snapshot_user tree.now.owner }
     requires within { n ≤ length path.now.elements }
     ensures { IfOk result (λ stands. stands ≡ is_some (entry_at
         (snapshots_to tree.now.owner tree.now.log (length tree.now.log)) (cut n path.now))) }
 {
     let front = front_of(path, n)?;
-    let found = item_at(alloc, tree, shower, &front);
+    let found = item_at(alloc, tree, snap_user, &front);
     drop(front);
     Ok(is_there(found?))
 }
@@ -220,18 +229,18 @@ fn stands_at(
 fn item_named<'a>(
     alloc: Global,
     tree: &MemTree,
-    shower: &User,
+    snap_user: &User,
     dir: &Path,
     name: &str,
 ) -> Result<Option<Found<'a>>, AllocError>
-    requires { shower.now ≡ snapshot_user tree.now.owner }
+    requires { snap_user.now ≡ snapshot_user tree.now.owner }
     ensures { IfOk result (λ found. option_map entry_found found
         ≡ entry_at (snapshots_to tree.now.owner tree.now.log (length tree.now.log))
         (extended dir.now name.now)) }
 {
     match path_made(dir.join(name))? {
-        Some(path) => item_at(alloc, tree, shower, &path),
-        None => item_among(alloc, tree, shower, dir, name),
+        Some(path) => item_at(alloc, tree, snap_user, &path),
+        None => item_among(alloc, tree, snap_user, dir, name),
     }
 }
 
@@ -239,17 +248,17 @@ fn item_named<'a>(
 fn item_among<'a>(
     alloc: Global,
     tree: &MemTree,
-    shower: &User,
+    snap_user: &User,
     dir: &Path,
     name: &str,
 ) -> Result<Option<Found<'a>>, AllocError>
-    requires { shower.now ≡ snapshot_user tree.now.owner }
+    requires { snap_user.now ≡ snapshot_user tree.now.owner }
     ensures { IfOk result (λ found. option_map entry_found found
         ≡ entry_at (snapshots_to tree.now.owner tree.now.log (length tree.now.log))
         (extended dir.now name.now)) }
 {
     let _records = tree.position();
-    let items = items_in(alloc, tree, shower, dir)?;
+    let items = items_in(alloc, tree, snap_user, dir)?;
     copy_named(items.as_slice(), dir.len(), name)
 }
 

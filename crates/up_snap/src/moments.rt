@@ -115,12 +115,12 @@ fn with_clock(alloc: Global, dir: Path, time: u64) -> Result<Path, AllocError>
 
 /// The root of the snapshot of a moment, in the tree of this snapshot user.
 #[tactic(auto, unfolding(up_answers::specs::Calendar::moment_elements))]
-pub fn root_at(alloc: Global, shower: &User, time: u64) -> Result<Path, AllocError>
+pub fn root_at(alloc: Global, snap_user: &User, time: u64) -> Result<Path, AllocError>
     requires { time < 253402207200 }
-    ensures { IfOk result (λ path. path ≡ shown_root shower.now time) }
+    ensures { IfOk result (λ path. path ≡ shown_root snap_user.now time) }
 {
     let date = civil_date(time);
-    let root = Path::root(shower.clone()?)?;
+    let root = Path::root(snap_user.clone()?)?;
     let year = with_four_digits(alloc, root, date.year as u64)?;
     let month = with_two_digits(alloc, year, date.month as u64)?;
     let day = with_two_digits(alloc, month, date.day as u64)?;

@@ -1,8 +1,8 @@
 //! What stood at a path after the first records of a log.
 ghost use Rattle.std.specs.Prelude.{◌≡◌, take, option_map, IfOk};
 ghost use Rattle.std.specs.Option.{option_copied};
-ghost use Rattle.up_replay.specs.Changes.{last_change};
-ghost use Rattle.up_replay.specs.Trees.{node_at, tree_at};
+ghost use Rattle.up_log_tree.specs.Changes.{last_change};
+ghost use Rattle.up_log_tree.specs.Trees.{node_at, tree_at};
 ghost use Rattle.up_snap.specs.Shown.{old_path};
 ghost use Rattle.up_snap.specs.Standing.{node_of, put_by};
 
@@ -10,8 +10,8 @@ use crate::moments::within;
 use std::alloc::{AllocError, Global};
 use up_bytes::Bytes;
 use up_entry::{Entry, Rec};
+use up_mem_tree::MemTree;
 use up_names::{Path, User};
-use up_nodes::MemTree;
 
 /// What a record has put at a path: its entry, and the text of a control file.
 #[derive(Clone, Copy)]

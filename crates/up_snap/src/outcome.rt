@@ -5,20 +5,20 @@ ghost use Rattle.up_journal.specs.declared.limits.Limits.{Limits};
 ghost use Rattle.up_list.specs.Asking.{owner_asked};
 ghost use Rattle.up_list.specs.Changes.{right_to_put};
 ghost use Rattle.up_names.specs.PathOrder.{path_eq};
-ghost use Rattle.up_replay.specs.Fits.{Fits, root_of, snapshot_user};
-ghost use Rattle.up_replay.specs.Logs.{Log};
-ghost use Rattle.up_replay.specs.Snapshots.{snap_at};
-ghost use Rattle.up_replay.specs.Trees.{node_at, tree_of};
+ghost use Rattle.up_log_tree.specs.Fits.{Fits, root_of, snapshot_user};
+ghost use Rattle.up_log_tree.specs.Logs.{Log};
+ghost use Rattle.up_log_tree.specs.Snapshots.{snap_at};
+ghost use Rattle.up_log_tree.specs.Trees.{node_at, tree_of};
 ghost use Rattle.up_snap.specs.Firsts.{IsMoment};
-ghost use Rattle.up_snap.specs.Looked.{IsShower, look_at};
+ghost use Rattle.up_snap.specs.Looked.{IsSnapUser, look_at};
 ghost use Rattle.up_snap.specs.Outcomes.{log_with};
 
 use crate::look::is_there;
 use std::alloc::{AllocError, Global};
 use up_entry::{Entry, Kind, Rec, What};
-use up_list::{Asked, Onlooker, check, glob_for, group_text, lookup, which_access};
+use up_list::{Onlooker, ReadRequest, check, glob_for, group_text, lookup, which_access};
+use up_mem_tree::MemTree;
 use up_names::{Path, User};
-use up_nodes::MemTree;
 use up_rights::Right;
 use up_wire::Reply;
 
@@ -31,10 +31,10 @@ pub(crate) fn outcome_for<O: Onlooker>(
     alloc: Global,
     tree: &MemTree,
     look: &O,
-    asked: &Asked,
+    asked: &ReadRequest,
     now: u64,
 ) -> Result<Led, AllocError>
-    requires shower { IsShower tree.now.owner (owner_asked asked.now) }
+    requires snap_user { IsSnapUser tree.now.owner (owner_asked asked.now) }
     requires seen { O.look look.now
         ≡ look_at tree.now.owner tree.now.log (O.look look.now).user }
     requires moment { IsMoment now }
@@ -44,13 +44,13 @@ pub(crate) fn outcome_for<O: Onlooker>(
     ensures fits { IfOk result (λ led. IfOk led (Fits tree.now.owner tree.now.log)) }
 {
     match asked {
-        Asked::Lookup(path) => Ok(Err(lookup(alloc, look, path)?)),
-        Asked::WhichAccess(path) => Ok(Err(which_access(alloc, look, path)?)),
-        Asked::GroupText(path) => Ok(Err(group_text(alloc, look, path)?)),
-        Asked::Glob(pattern) => Ok(Err(glob_for(alloc, look, pattern)?)),
-        Asked::Watch(_, _) => Ok(Err(Reply::Invalid(What::SnapshotWatch))),
-        Asked::Delete(path) => Ok(Err(deleted(alloc, look, path)?)),
-        Asked::Put(put) => taken(alloc, tree, look, &put.entry, now),
+        ReadRequest::Lookup(path) => Ok(Err(lookup(alloc, look, path)?)),
+        ReadRequest::WhichAccess(path) => Ok(Err(which_access(alloc, look, path)?)),
+        ReadRequest::GroupText(path) => Ok(Err(group_text(alloc, look, path)?)),
+        ReadRequest::Glob(pattern) => Ok(Err(glob_for(alloc, look, pattern)?)),
+        ReadRequest::Watch(_, _) => Ok(Err(Reply::Invalid(What::SnapshotWatch))),
+        ReadRequest::Delete(path) => Ok(Err(deleted(alloc, look, path)?)),
+        ReadRequest::Put(put) => taken(alloc, tree, look, &put.entry, now),
     }
 }
 
@@ -75,7 +75,7 @@ fn taken<O: Onlooker>(
     entry: &Entry,
     now: u64,
 ) -> Result<Led, AllocError>
-    requires shower { IsShower tree.now.owner (O.look look.now).owner }
+    requires snap_user { IsSnapUser tree.now.owner (O.look look.now).owner }
     requires owned { entry.now.name.owner ≡ (O.look look.now).owner }
     requires moment { IsMoment now }
     ensures led { (limits : Limits) → IfOk result (λ led. led
@@ -124,14 +124,14 @@ fn is_taker(path: &Path) -> bool
 
 /// A snapshot of the tree as it is; or a refusal, where the tree has no root, or a snapshot of the same second is there.
 #[tactic(auto, unfolding(up_answers::specs::SnapshotReplies::snapshot_record), using(crate::proofs::OutcomeLemmas::snap_fits))]
-fn snapshot_record(tree: &MemTree, shower: &User, now: u64) -> Result<Led, AllocError>
-    requires shower { IsShower tree.now.owner shower.now }
+fn snapshot_record(tree: &MemTree, snap_user: &User, now: u64) -> Result<Led, AllocError>
+    requires snap_user { IsSnapUser tree.now.owner snap_user.now }
     requires moment { IsMoment now }
     ensures led { (limits : Limits) → IfOk result (λ led. led
         ≡ snapshot_record (log_with tree.now.owner limits tree.now.log) now) }
     ensures fits { IfOk result (λ led. IfOk led (Fits tree.now.owner tree.now.log)) }
 {
-    let _text = shower.text();
+    let _text = snap_user.text();
     let _records = tree.position();
     if has_no_root(tree)? {
         return Ok(Err(Reply::NotExist));

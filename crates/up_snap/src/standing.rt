@@ -3,8 +3,8 @@ ghost use Rattle.std.specs.Prelude.{◌≡◌, ◌<◌, ◌≤◌, ◌||◌, Som
 ghost use Rattle.up_list.specs.Entries.{entry_at, entry_of};
 ghost use Rattle.up_list.specs.Founds.{entry_found};
 ghost use Rattle.up_list.specs.Reads.{file_text};
-ghost use Rattle.up_replay.specs.Fits.{snapshot_user};
-ghost use Rattle.up_replay.specs.Trees.{node_at, tree_at};
+ghost use Rattle.up_log_tree.specs.Fits.{snapshot_user};
+ghost use Rattle.up_log_tree.specs.Trees.{node_at, tree_at};
 ghost use Rattle.up_answers.specs.SnapshotTrees.{made_up, snapshots_to};
 ghost use Rattle.up_names.specs.Texts.{UserName};
 ghost use Rattle.up_names.specs.PathNames.{PathName, is_under};
@@ -22,8 +22,8 @@ use up_bytes::Bytes;
 use up_entry::{Attr, Entry, Kind};
 use up_list::Found;
 use up_lists::Items;
+use up_mem_tree::MemTree;
 use up_names::{Path, User};
-use up_nodes::MemTree;
 
 /// What stands at a path: an item that the tree had then, or a directory that is made up.
 #[derive(Clone, Copy)]
@@ -46,16 +46,16 @@ pub(crate) fn earlier(first: Option<Shown>, other: Shown) -> Shown
 pub(crate) fn first_to(
     alloc: Global,
     tree: &MemTree,
-    shower: &User,
+    snap_user: &User,
     path: &Path,
 ) -> Result<Option<Shown>, AllocError>
     ensures { IfOk result (λ first. first
-        ≡ first_to shower.now tree.now.log path.now (length tree.now.log)) }
+        ≡ first_to snap_user.now tree.now.log path.now (length tree.now.log)) }
 {
     if path.len() < 4 {
-        first_above(alloc, tree, shower, path)
+        first_above(alloc, tree, snap_user, path)
     } else {
-        first_below(alloc, tree, shower, path)
+        first_below(alloc, tree, snap_user, path)
     }
 }
 
@@ -63,11 +63,11 @@ pub(crate) fn first_to(
 fn first_above(
     alloc: Global,
     tree: &MemTree,
-    shower: &User,
+    snap_user: &User,
     path: &Path,
 ) -> Result<Option<Shown>, AllocError>
     ensures { IfOk result (λ first. first
-        ≡ first_to shower.now tree.now.log path.now (length tree.now.log)) }
+        ≡ first_to snap_user.now tree.now.log path.now (length tree.now.log)) }
 {
     let _records = tree.position();
     let mut first = None;
@@ -75,7 +75,7 @@ fn first_above(
         let Some(time) = tree.snap_time(i) else {
             return Ok(first);
         };
-        first = sooner_to(alloc, tree, shower, path, time, first)?;
+        first = sooner_to(alloc, tree, snap_user, path, time, first)?;
     }
     // No log has so many records.
     Err(AllocError)
@@ -85,16 +85,16 @@ fn first_above(
 fn first_below(
     alloc: Global,
     tree: &MemTree,
-    shower: &User,
+    snap_user: &User,
     path: &Path,
 ) -> Result<Option<Shown>, AllocError>
     requires { 4 ≤ length path.now.elements }
     ensures { IfOk result (λ first. first
-        ≡ first_to shower.now tree.now.log path.now (length tree.now.log)) }
+        ≡ first_to snap_user.now tree.now.log path.now (length tree.now.log)) }
 {
     let _records = tree.position();
     match moment_of(path) {
-        Some(time) => sooner_to(alloc, tree, shower, path, time, None),
+        Some(time) => sooner_to(alloc, tree, snap_user, path, time, None),
         None => Ok(None),
     }
 }
@@ -110,16 +110,16 @@ fn bears_on(path: &Path, root: &Path) -> bool
 fn sooner_to(
     alloc: Global,
     tree: &MemTree,
-    shower: &User,
+    snap_user: &User,
     path: &Path,
     time: u64,
     first: Option<Shown>,
 ) -> Result<Option<Shown>, AllocError>
     requires { IsMoment time }
     ensures { IfOk result (λ found. found
-        ≡ sooner first (bearing_at shower.now tree.now.log path.now time)) }
+        ≡ sooner first (bearing_at snap_user.now tree.now.log path.now time)) }
 {
-    let root = root_at(alloc, shower, time)?;
+    let root = root_at(alloc, snap_user, time)?;
     if !bears_on(path, &root) {
         return Ok(first);
     }
@@ -179,16 +179,16 @@ fn is_below(alloc: Global, path: &Path, time: u64) -> Result<bool, AllocError>
 pub(crate) fn standing_at<'a>(
     alloc: Global,
     tree: &'a MemTree,
-    shower: &User,
+    snap_user: &User,
     path: &Path,
 ) -> Result<Option<Standing<'a>>, AllocError>
-    requires { shower.now ≡ snapshot_user tree.now.owner }
+    requires { snap_user.now ≡ snapshot_user tree.now.owner }
     ensures found { IfOk result (λ found. option_map (standing_node tree.now.owner path.now) found
         ≡ node_at (snapshots_to tree.now.owner tree.now.log (length tree.now.log)) path.now) }
     ensures timed { IfOk result (λ found. IfSome found IsTimed) }
 {
     let _records = tree.position();
-    match first_to(alloc, tree, shower, path)? {
+    match first_to(alloc, tree, snap_user, path)? {
         Some(shown) => standing_by(alloc, tree, path, shown),
         None => Ok(None),
     }
@@ -198,14 +198,14 @@ pub(crate) fn standing_at<'a>(
 pub fn item_at<'a>(
     alloc: Global,
     tree: &MemTree,
-    shower: &User,
+    snap_user: &User,
     path: &Path,
 ) -> Result<Option<Found<'a>>, AllocError>
-    requires { shower.now ≡ snapshot_user tree.now.owner }
+    requires { snap_user.now ≡ snapshot_user tree.now.owner }
     ensures { IfOk result (λ found. option_map entry_found found
         ≡ entry_at (snapshots_to tree.now.owner tree.now.log (length tree.now.log)) path.now) }
 {
-    match standing_at(alloc, tree, shower, path)? {
+    match standing_at(alloc, tree, snap_user, path)? {
         Some(found) => Ok(Some(Found::Made(found.entry(alloc, tree.owner(), path)?))),
         None => Ok(None),
     }

@@ -106,7 +106,7 @@ pub(crate) fn moment_of(path: &Path) -> Option<u64>
 /// Whether the root of the snapshot of a moment may be under a path: by its day, where the path is one of a day.
 pub(crate) fn may_bear(path: &Path, time: u64) -> bool
     requires { IsMoment time }
-    ensures { (shower : UserName) → is_under (shown_root shower time) path.now ≡ true
+    ensures { (snap_user : UserName) → is_under (shown_root snap_user time) path.now ≡ true
         → result ≡ true }
 {
     if path.len() == 3 {
@@ -120,7 +120,7 @@ pub(crate) fn may_bear(path: &Path, time: u64) -> bool
 fn is_day_of(path: &Path, time: u64) -> bool
     requires moment { IsMoment time }
     requires size { length path.now.elements ≡ 3 }
-    ensures { (shower : UserName) → is_under (shown_root shower time) path.now ≡ true
+    ensures { (snap_user : UserName) → is_under (shown_root snap_user time) path.now ≡ true
         → result ≡ true }
 {
     match day_of(path) {

@@ -16,15 +16,15 @@ use Rattle.up_entry.specs.declared.records.Rec.TheVariants.{Delete, Put, Snap}
 use Rattle.up_names.specs.PathNames.{PathName}
 use Rattle.up_names.specs.PathOrder.{path_cmp, path_eq}
 use Rattle.up_names.specs.PathOrderLaws.{path_exact}
-use Rattle.up_nodes.proofs.Named.{last_change-none, last_change-push}
-use Rattle.up_replay.proofs.Fronts.{take_next, whole_front}
-use Rattle.up_replay.proofs.Paths.{path_eq_itself, path_eq_turned, some_none}
-use Rattle.up_replay.proofs.Rising.{keys-filter, keys-put, place_of, with_there, without_removed}
-use Rattle.up_replay.proofs.Trees.{has_node, node_at-delete, node_at-empty, node_at-put, node_at-snap, rising_tree, tree_of-push}
-use Rattle.up_replay.specs.Changes.{change_before, changes_some, last_change, path_of_change, record_at}
-use Rattle.up_replay.specs.Fits.{IsLog}
-use Rattle.up_replay.specs.Orders.{are_rising, has_path as has, with_path}
-use Rattle.up_replay.specs.Trees.{Tree, after_record, node_at, tree_of}
+use Rattle.up_mem_tree.proofs.Named.{last_change-none, last_change-push}
+use Rattle.up_log_tree.proofs.Fronts.{take_next, whole_front}
+use Rattle.up_log_tree.proofs.Paths.{path_eq_itself, path_eq_turned, some_none}
+use Rattle.up_log_tree.proofs.Rising.{keys-filter, keys-put, place_of, with_there, without_removed}
+use Rattle.up_log_tree.proofs.Trees.{has_node, node_at-delete, node_at-empty, node_at-put, node_at-snap, rising_tree, tree_of-push}
+use Rattle.up_log_tree.specs.Changes.{change_before, changes_some, last_change, path_of_change, record_at}
+use Rattle.up_log_tree.specs.Fits.{IsLog}
+use Rattle.up_log_tree.specs.Orders.{are_rising, has_path as has, with_path}
+use Rattle.up_log_tree.specs.Trees.{Tree, after_record, node_at, tree_of}
 use Rattle.up_storm.specs.Logs.{is_put, put_at, stood_before}
 
 -- ---- lists of paths

@@ -9,7 +9,7 @@ use Rattle.up_names.specs.Texts.{Text}
 use Rattle.up_storm.specs.Telling.{IsFew, all_counted, both_counted, none_counted, record_words, records_text, sessions_text, total}
 use Rattle.up_storm.specs.declared.session.Said.{Said}
 use Rattle.up_storm.specs.declared.tally.Tally.{Tally}
-use Rattle.up_replay.specs.Changes.{record_at}
+use Rattle.up_log_tree.specs.Changes.{record_at}
 use Rattle.up_text.specs.Entries.{entry_words}
 use Rattle.up_text.specs.Lines.{behind_spaces, spaced}
 use Rattle.up_text.specs.Replies.{done_words, further_words, reply_lines, reply_words}

@@ -60,11 +60,13 @@ wished k wish.Lookup file = request.Lookup (file_text k file)
 wished k wish.LookElsewhere file = request.Lookup (file_text (k + 2) file)
 wished k wish.Glob file = request.Glob (pattern_text k)
 
+-- the request that session k asks by what was drawn
 abbrev pub request_of : ℕ → Draw → Request
 request_of k draw = wished k draw.wish draw.file
 
 -- ---- and the script line that asks it, without the session's number
 
+-- the script line by which session k asks it, without the session's number
 abbrev pub wished_line : ℕ → Wish → ℕ → Text
 wished_line k wish.Put file = codes "file " ++ (file_text k file ++ codes " 1 0 0 - -")
 wished_line k wish.Delete file = codes "delete " ++ file_text k file
@@ -72,5 +74,6 @@ wished_line k wish.Lookup file = codes "lookup " ++ file_text k file
 wished_line k wish.LookElsewhere file = codes "lookup " ++ file_text (k + 2) file
 wished_line k wish.Glob file = codes "glob " ++ pattern_text k
 
+-- the script line by which session k asks what was drawn
 abbrev pub line_of : ℕ → Draw → Text
 line_of k draw = wished_line k draw.wish draw.file

@@ -14,7 +14,8 @@ next_number x = (x * 6364136223846793005 + 1442695040888963407) % 2 ^ 64
 
 -- kinds 0 to 3 put, and each other one asks something else
 abbrev pub wish_of : ℕ → Wish
-wish_of kind = if nat_lt kind 4 then Put else if kind == 4 then Delete else if kind == 5 then Lookup else if kind == 6 then LookElsewhere else Glob
+wish_of kind =
+    if nat_lt kind 4 then Put else if kind == 4 then Delete else if kind == 5 then Lookup else if kind == 6 then LookElsewhere else Glob
 
 -- what a number draws: its first three bits are the kind, and the next four the number of the file
 abbrev pub drawn_of : ℕ → Draw

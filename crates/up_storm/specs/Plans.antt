@@ -10,6 +10,7 @@ use Rattle.up_text.specs.Numbers.{num_of}
 abbrev pub is_within : Plan → Bool
 is_within plan = nat_le 1 plan.sessions && (nat_le plan.sessions 32 && nat_le plan.requests 4096)
 
+-- a plan, where it keeps these bounds
 abbrev pub bounded : Plan → Option Plan
 bounded plan = if is_within plan then Some plan else None
 

@@ -40,29 +40,33 @@ root_of owner = record { who = owner; what = put_of owner (owner ++ codes "/") 1
 abbrev pub whole_block : Text → Block
 whole_block text = record { location = record { endpoint = Local; reference = sha256 text }; offset = 0; size = length text; packdata = [] }
 
--- both owners do
+-- the two owners each put the root of their tree
 abbrev pub roots : List Wanted
 roots = root_of (codes "a@storm.example") ∷ root_of (codes "b@storm.example") ∷ []
 
--- For session k the owner of its tree puts its directory, has the text of its Access file kept as a block, and puts the Access file.
+-- for session k the owner of its tree puts its directory
 abbrev pub directory_of : ℕ → Wanted
 directory_of k = record { who = owner_text k; what = put_of (owner_text k) (directory_text k) 1 [] }
 
+-- for session k the owner of its tree has the text of its Access file kept as a block
 abbrev pub block_of : ℕ → Wanted
 block_of k = record { who = owner_text k; what = request.StorePut (access_text k) }
 
+-- for session k the owner of its tree puts the Access file, whose block is that text
 abbrev pub access_of : ℕ → Wanted
-access_of k = record { who = owner_text k; what = put_of (owner_text k) (directory_text k ++ codes "/Access") 0 (whole_block (access_text k) ∷ []) }
+access_of k =
+    record { who = owner_text k; what = put_of (owner_text k) (directory_text k ++ codes "/Access") 0 (whole_block (access_text k) ∷ []) }
 
+-- what is asked for session k: its directory, the block, and the Access file
 abbrev pub prepares : ℕ → List Wanted
 prepares k = directory_of k ∷ block_of k ∷ access_of k ∷ []
 
--- and so for the n sessions from k on
+-- what is asked for the n sessions from k on, one after the other
 abbrev pub prepares_from : ℕ → ℕ → List Wanted
 prepares_from k zero = []
 prepares_from k (suc n) = prepares k ++ prepares_from (k + 1) n
 
--- first both owners, and then for each session
+-- all that prepares a host for so many sessions: first what both owners ask, and then what is asked for each session
 abbrev pub preparing : ℕ → List Wanted
 preparing sessions = roots ++ prepares_from 0 sessions
 
@@ -79,20 +83,23 @@ pub record IsOpened {D : Type 0} (disks : disk.Ghosts D) (host : HostState D) : 
   pub opens : OpensHost disks storm_limits (codes "storm") operator (codes "a@storm.example" ∷ codes "b@storm.example" ∷ []) given host
 
 -- Calls were made of a host, one after the other; no disk failed, and memory was there.
-pub record HasAskedAll {D L : Type 0} (disks : disk.Ghosts D) (loader : Ghosts L) (none : L) (opened : HostState D) (calls : List Call) (host : HostState D) : Type 0 where
+pub record HasAskedAll {D L : Type 0} (disks : disk.Ghosts D) (loader : Ghosts L) (none : L)
+    (opened : HostState D) (calls : List Call) (host : HostState D) : Type 0 where
   pub after : L
   pub events : List Event
   pub history : IsHistory disks loader opened none calls host after events
   pub sound : list_any (λ (event : Event). is_fault event.reply) events ≡ false
 
 -- all that prepares a host was asked of it
-pub record HasPrepared {D L : Type 0} (disks : disk.Ghosts D) (loader : Ghosts L) (none : L) (sessions : ℕ) (opened host : HostState D) : Type 0 where
+pub record HasPrepared {D L : Type 0} (disks : disk.Ghosts D) (loader : Ghosts L)
+    (none : L) (sessions : ℕ) (opened host : HostState D) : Type 0 where
   pub calls : List Call
   pub wanted : EachPair IsWanted (preparing sessions) calls
   pub asked : HasAskedAll disks loader none opened calls host
 
 -- a host that was opened and prepared
-pub record IsPrepared {D L : Type 0} (disks : disk.Ghosts D) (loader : Ghosts L) (none : L) (sessions : ℕ) (host : HostState D) : Type 0 where
+pub record IsPrepared {D L : Type 0} (disks : disk.Ghosts D) (loader : Ghosts L)
+    (none : L) (sessions : ℕ) (host : HostState D) : Type 0 where
   pub opened : HostState D
   pub is_opened : IsOpened disks opened
   pub prepared : HasPrepared disks loader none sessions opened host

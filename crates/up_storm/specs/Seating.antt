@@ -36,10 +36,12 @@ module _ {D L : Type 0} where
   abbrev pub AreBegun : L → ℕ → ℕ → Seats D → List (Session D L) → Seats D → Type 0
   AreBegun none seed k seats [] left = left ≡ seats
   AreBegun none seed k seats (v ∷ more) left =
-      (rest : Seats D) × AreFirsts seats rest × AreSeconds seats v.seats × SeatsAdd rest v.seats seats × IsBegun none seed k v × AreBegun none seed (k + 1) rest more left
+      (rest : Seats D) × AreFirsts seats rest × AreSeconds seats v.seats × SeatsAdd rest v.seats seats
+      × IsBegun none seed k v × AreBegun none seed (k + 1) rest more left
 
   -- one more session was begun behind the others
-  pub record HasBegun (none : L) (shared : Shared D) (seed k : ℕ) (seats : Seats D) (before : List (Session D L)) (rest : Seats D) (after : List (Session D L)) : Type 0 where
+  pub record HasBegun (none : L) (shared : Shared D) (seed k : ℕ) (seats : Seats D)
+      (before : List (Session D L)) (rest : Seats D) (after : List (Session D L)) : Type 0 where
     pub session : Session D L
     pub whole : after ≡ before ++ session ∷ []
     pub first : AreFirsts seats rest
@@ -64,7 +66,7 @@ pub record IsRead {D : Type 0} (all : Seats D) (place : ℕ) (log : List Rec) : 
   pub begins : Begins seat.seat.seen log
   pub every : HasEvery seat.seat (length log)
 
--- and what is printed of it was made
+-- a log was read through the joined seats, and what is printed of it was made
 pub record HasRead {D : Type 0} (full : Bool) (all : Seats D) (place : ℕ) (read : LogRead) : Type 0 where
   pub log : List Rec
   pub is_read : IsRead all place log
@@ -72,7 +74,8 @@ pub record HasRead {D : Type 0} (full : Bool) (all : Seats D) (place : ℕ) (rea
 
 -- The sessions of a plan were begun, from the seats of the host's first caller. Each has run its requests, while the others ran theirs, and
 -- ended with no fault. Their seats were joined, and what they say is left.
-pub record HasEnded {D L : Type 0} (loader : Ghosts L) (none : L) (shared : Shared D) (plan : Plan) (seats all : Seats D) (said : List Said) : Type 0 where
+pub record HasEnded {D L : Type 0} (loader : Ghosts L) (none : L) (shared : Shared D)
+    (plan : Plan) (seats all : Seats D) (said : List Said) : Type 0 where
   pub begun : List (Session D L)
   pub left : Seats D
   pub begins : AreBegun none plan.seed 0 seats begun left

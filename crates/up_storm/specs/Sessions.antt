@@ -24,8 +24,8 @@ is_fault reply.Io = true
 is_fault reply.OutOfMemory = true
 is_fault other = false
 
--- One session: its seats at the host, whom it asks for groups of other owners, its user, the number from which its next request is drawn, what it will print, its replies by their
--- kinds, and whether a disk failed it or memory was wanting.
+-- One session: its seats at the host, whom it asks for groups of other owners, its user, the number from which its next request is drawn,
+-- what it will print, its replies by their kinds, and whether a disk failed it or memory was wanting.
 pub record Session (D L : Type 0) : Type 0 where
   pub seats : Seats D
   pub peers : L
@@ -35,7 +35,7 @@ pub record Session (D L : Type 0) : Type 0 where
   pub tally : Tally
   pub failed : Bool
 
--- what it says once it has ended
+-- what a session says once it has ended
 abbrev pub said_of : {D L : Type 0} → Session D L → Said
 said_of w = record { text = w.text; tally = w.tally }
 
@@ -54,7 +54,8 @@ module _ {D L : Type 0} (loader : Ghosts L) (shared : Shared D) where
   -- reply is counted is told.
   pub record HasAsked (full : Bool) (k : ℕ) (v w : Session D L) : Type 0 where
     pub event : Event
-    pub answered : IsAnswered v.seats v.peers (record { user = v.user; request = request_of k (drawn_of (next_number v.number)) }) event w.seats w.peers
+    pub answered : IsAnswered v.seats v.peers
+        (record { user = v.user; request = request_of k (drawn_of (next_number v.number)) }) event w.seats w.peers
     pub sound : is_fault event.reply ≡ false
     pub user : w.user ≡ v.user
     pub number : w.number ≡ next_number v.number

@@ -42,7 +42,8 @@ pub record IsStorm {D L : Type 0} (disks : disk.Ghosts D) (loader : Ghosts L) (n
 
 -- What `upspin storm` prints and answers for a plan, unless memory is wanting: the text of a storm, and 0; after a fault of the sink a
 -- front of it.
-pub record Means {D L : Type 0} (disks : disk.Ghosts D) (loader : Ghosts L) (none : L) (plan : Plan) (old new : Option Text) (status : ℕ) : Type 0 where
+pub record Means {D L : Type 0} (disks : disk.Ghosts D) (loader : Ghosts L)
+    (none : L) (plan : Plan) (old new : Option Text) (status : ℕ) : Type 0 where
   pub text : Text
   pub storm : IsStorm disks loader none plan text
   pub answers : AnswersWith old new (record { text = text; status = 0 }) status

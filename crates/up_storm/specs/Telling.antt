@@ -6,7 +6,7 @@ use Rattle.up_entry.specs.declared.records.Rec.TheVariants.{Delete, Put, Snap}
 use Rattle.up_calls.specs.declared.event.Event.{Event}
 use Rattle.up_names.specs.PathNames.{canonical}
 use Rattle.up_names.specs.Texts.{Text}
-use Rattle.up_replay.specs.Trees.{tree_of}
+use Rattle.up_log_tree.specs.Trees.{tree_of}
 use Rattle.up_storm.specs.Asked.{line_of}
 use Rattle.up_storm.specs.declared.generator.Draw.{Draw}
 use Rattle.up_storm.specs.declared.plan.Plan.{Plan}
@@ -25,7 +25,7 @@ use Rattle.up_wire.specs.declared.replies.Reply.TheVariants as reply
 abbrev pub none_counted : Tally
 none_counted = record { ok = 0; notexist = 0; private = 0 }
 
--- one reply more
+-- one reply more was counted, if it is of one of the three kinds
 abbrev pub counted : Tally → Reply → Tally
 counted t (reply.Ok what) = record t { ok = t.ok + 1 }
 counted t reply.NotExist = record t { notexist = t.notexist + 1 }
@@ -36,11 +36,11 @@ counted t other = t
 abbrev pub total : Tally → ℕ
 total t = t.ok + t.notexist + t.private
 
--- at most so many
+-- at most so many replies were counted
 abbrev pub IsFew : ℕ → Tally → Type 0
 IsFew n t = total t ≤ n
 
--- those of two sessions
+-- the replies of two sessions, counted together
 abbrev pub both_counted : Tally → Tally → Tally
 both_counted t u = record { ok = t.ok + u.ok; notexist = t.notexist + u.notexist; private = t.private + u.private }
 
@@ -51,7 +51,7 @@ abbrev pub call_text : ℕ → Draw → Event → Text
 call_text k draw event =
     numbered k (line_of k draw) ++ (codes "@" ++ (decimal event.position ++ (codes " " ++ all_numbered k (reply_lines event.reply))))
 
--- it is told where all is printed
+-- what is told of a call: nothing but where all is printed
 abbrev pub told : Bool → ℕ → Draw → Event → Text
 told full k draw event = if full then call_text k draw event else []
 
@@ -84,12 +84,14 @@ tree_line owner log = numbers_line owner (length log) (length (tree_of log))
 
 -- `ok N notexist N private N`
 abbrev pub tally_line : Tally → Text
-tally_line t = ended (codes "ok " ++ (decimal t.ok ++ (codes " notexist " ++ (decimal t.notexist ++ (codes " private " ++ decimal t.private)))))
+tally_line t =
+    ended (codes "ok " ++ (decimal t.ok ++ (codes " notexist " ++ (decimal t.notexist ++ (codes " private " ++ decimal t.private)))))
 
 -- how many sessions there were, and how many requests they made together
 abbrev pub heading : Plan → Text
 heading plan = ended (codes "sessions " ++ decimal plan.sessions) ++ ended (codes "requests " ++ decimal (plan.sessions * plan.requests))
 
+-- the summary: how much was asked, the two trees by their logs, and how many replies of each kind there were
 abbrev pub summary_text : Plan → List Rec → List Rec → Tally → Text
 summary_text plan first second t =
     heading plan ++ ((tree_line (codes "a@storm.example") first ++ tree_line (codes "b@storm.example") second) ++ tally_line t)
@@ -101,15 +103,17 @@ abbrev pub sessions_text : ℕ → List Said → Text
 sessions_text k [] = []
 sessions_text k (said ∷ more) = (ended (codes "session " ++ decimal k) ++ said.text) ++ sessions_text (k + 1) more
 
+-- how many replies of each kind all sessions had together
 abbrev pub all_counted : List Said → Tally
 all_counted [] = none_counted
 all_counted (said ∷ more) = both_counted said.tally (all_counted more)
 
--- behind the summary the two logs, and what each session says
+-- what is printed behind the summary where all is asked for: the two logs, and what each session says
 abbrev pub full_text : List Rec → List Rec → List Said → Text
 full_text first second said =
     log_text (codes "a@storm.example") first ++ (log_text (codes "b@storm.example") second ++ sessions_text 0 said)
 
+-- all that is printed: the summary, and the rest where it is asked for
 abbrev pub storm_text : Plan → List Rec → List Rec → List Said → Text
 storm_text plan first second said =
     summary_text plan first second (all_counted said) ++ (if plan.full then full_text first second said else [])

@@ -1,8 +1,8 @@
 //! The logs of a storm are read, once its sessions have ended.
 ghost use Rattle.std.specs.Prelude.{◌≡◌, ◌<◌, ◌+◌, ◌^◌, ◌++◌, ◌∷◌, [], codes, decimal, length, take, IfOk, OnOk};
 ghost use Rattle.up_entry.specs.declared.records.Rec.TheVariants as rec;
-ghost use Rattle.up_replay.specs.Fits.{IsLog};
-ghost use Rattle.up_replay.specs.Trees.{tree_of};
+ghost use Rattle.up_log_tree.specs.Fits.{IsLog};
+ghost use Rattle.up_log_tree.specs.Trees.{tree_of};
 ghost use Rattle.up_storm.specs.Logs.{IsLogRead, ReadsLog, stood_before};
 ghost use Rattle.up_storm.specs.Telling.{record_words, records_text};
 ghost use Rattle.up_text.specs.Entries.{entry_words};

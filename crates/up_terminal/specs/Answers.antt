@@ -29,7 +29,7 @@ pub data Did : Type 0 where
   Put : Result ℕ ClientFault → Did
   Got : Result (List ℕ) ClientFault → Did
 
--- the text that is printed
+-- the text that is printed of what a line did
 abbrev pub said : Did → Text
 said Did.Nothing = []
 said Did.BadPath = ended (codes "invalid name")
@@ -47,12 +47,13 @@ replied None = Err stop.AskFault
 replied (Some reply.OutOfMemory) = Err stop.OutOfMemory
 replied (Some given) = Ok (Did.Replied given)
 
--- and of what came of a put or get
+-- what is said of a put, by its result; where no answer came, and for want of memory, the run ends
 abbrev pub put_said : Result ℕ ClientFault → Came
 put_said (Err client.Failed) = Err stop.AskFault
 put_said (Err client.OutOfMemory) = Err stop.OutOfMemory
 put_said result = Ok (Did.Put result)
 
+-- what is said of a get, by its result; where no answer came, and for want of memory, the run ends
 abbrev pub got_said : Result (List ℕ) ClientFault → Came
 got_said (Err client.Failed) = Err stop.AskFault
 got_said (Err client.OutOfMemory) = Err stop.OutOfMemory
@@ -70,9 +71,11 @@ module _ {S : Type 0} (answers : S → Request → Option Reply → S → Type 0
   -- what the client does: nothing where the path does not parse; else it holds its conversation
   pub data CallCame (a : S) : ClientLine → Came → S → Type 0 where
     bad_path : {call : ClientLine} → call_path call ≡ None → CallCame a call (Ok Did.BadPath) a
-    put : {name bytes : Text} {time sequence : ℤ} {path : PathName} {result : Result ℕ ClientFault} {b : S} → call_path (calls.Put name time sequence bytes) ≡ Some path → Held answers (put_talk user path time sequence bytes) a result b
+    put : {name bytes : Text} {time sequence : ℤ} {path : PathName} {result : Result ℕ ClientFault} {b : S}
+        → call_path (calls.Put name time sequence bytes) ≡ Some path → Held answers (put_talk user path time sequence bytes) a result b
         → CallCame a (calls.Put name time sequence bytes) (put_said result) b
-    got : {name : Text} {path : PathName} {result : Result (List ℕ) ClientFault} {b : S} → call_path (calls.Get name) ≡ Some path → Held answers (get_talk path) a result b
+    got : {name : Text} {path : PathName} {result : Result (List ℕ) ClientFault} {b : S}
+        → call_path (calls.Get name) ≡ Some path → Held answers (get_talk path) a result b
         → CallCame a (calls.Get name) (got_said result) b
     wanting : {call : ClientLine} → CallCame a call (Err stop.OutOfMemory) a
 

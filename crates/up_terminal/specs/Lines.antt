@@ -34,7 +34,7 @@ pub record IsLine (line : Text) : Type 0 where
   pub unbroken : list_any is_line_end line ≡ false
   pub short : length line ≤ input_limit
 
--- and it says something
+-- a line says something at the terminal of a user, and has at most 67,108,864 bytes
 pub record IsGoodLine (user : UserName) (line : Text) : Type 0 where
   pub good : is_some (line_of user line) ≡ true
   pub short : length line ≤ input_limit

@@ -16,7 +16,7 @@ use Rattle.up_terminal.specs.Lines.{IsLine, cut_text, line_of, lines_text}
 use Rattle.up_terminal.specs.declared.stop.LineStop.{LineStop}
 use Rattle.up_terminal.specs.declared.stop.LineStop.TheVariants as stop
 
--- all that is printed
+-- what is printed of all that lines did, in order
 abbrev pub printed : List Did → Text
 printed dids = flat_map said dids
 
@@ -34,7 +34,7 @@ abbrev pub read_limit : ℕ
 read_limit = 2 ^ 40
 
 module _ {S : Type 0} (answers : S → Request → Option Reply → S → Type 0) (user : UserName) where
-  -- a line did something
+  -- a line did something, and did not end the run
   abbrev pub LineDoes : S → Text → Did → S → Type 0
   LineDoes a line did b = LineCame answers user a line (Ok did) b
 
@@ -42,8 +42,10 @@ module _ {S : Type 0} (answers : S → Request → Option Reply → S → Type 0
   -- and the bytes behind these lines, with the text that is written last, and the status.
   pub data Ends (last : S) (number bytes : ℕ) (over : Bool) (rest : Text) : Text → ℕ → S → Type 0 where
     at_end : over ≡ true → rest ≡ [] → Ends last number bytes over rest [] 0 last
-    bad : (line more : Text) → rest ≡ line ++ 10 ∷ more → IsLine line → line_of user line ≡ None → Ends last number bytes over rest (bad_line number) 1 last
-    stopped : (line more : Text) {b : S} (why : LineStop) → rest ≡ line ++ 10 ∷ more → IsLine line → LineCame answers user last line (Err why) b → Ends last number bytes over rest [] (stop_code why) b
+    bad : (line more : Text) → rest ≡ line ++ 10 ∷ more → IsLine line
+        → line_of user line ≡ None → Ends last number bytes over rest (bad_line number) 1 last
+    stopped : (line more : Text) {b : S} (why : LineStop) → rest ≡ line ++ 10 ∷ more → IsLine line
+        → LineCame answers user last line (Err why) b → Ends last number bytes over rest [] (stop_code why) b
     unread : over ≡ false → IsLine rest → Ends last number bytes over rest [] 2 last
     unwritten : Ends last number bytes over rest [] 3 last
     too_long : input_limit < length (before_first is_line_end rest) → Ends last number bytes over rest [] 7 last
@@ -67,7 +69,7 @@ module _ {S : Type 0} (answers : S → Request → Option Reply → S → Type 0
     pub whole : is_cut status ≡ false → Appends old new (printed dids ++ tail)
     pub part : WritesPart old new (printed dids ++ tail)
 
-  -- The same of what was read, which the source lost and counted; where the input has ended, no byte is left.
+  -- What a run did with what it read, which the source lost and counted: its lines were run; where the input has ended, no byte is left.
   pub record Means (left left_now : Option Text) (given given_now : ℕ) (old new : Option Text) (a : S) (status : ℕ) (b : S) : Type 0 where
     pub read : Text
     pub over : Bool

@@ -31,6 +31,7 @@ stopped_code stop.OutOfMemory = 4
 stopped_code stop.TooLong = 7
 stopped_code stop.AskFault = 11
 
+-- the status of a run that went to its end, or stopped for this reason
 abbrev pub code_by : Result (Unit {0}) Stop → ℕ
 code_by (Ok done) = 0
 code_by (Err why) = stopped_code why
@@ -42,7 +43,7 @@ Named number old new (Err stop.WriteFault) = WritesPart old new (bad_line number
 Named number old new (Err stop.OutOfMemory) = new ≡ old
 Named number old new result = ⊥
 
--- the LF that a last line lacks
+-- the LF that a last line lacks, if it lacks one
 abbrev pub behind : Text → Text
 behind [] = []
 behind (b ∷ line) = codes "\n"
@@ -52,7 +53,8 @@ module _ {S : Type 0} (answers : S → Request → Option Reply → S → Type 0
   abbrev pub DoneAndPrinted : Option Text → Option Text → S → TerminalLine → Result (Unit {0}) Stop → S → Type 0
   DoneAndPrinted old new a says (Ok done) b = (did : Did) × (SaysCame answers user a says (Ok did) b × Appends old new (said did))
   DoneAndPrinted old new a says (Err stop.AskFault) b = SaysCame answers user a says (Err stops.AskFault) b × (new ≡ old)
-  DoneAndPrinted old new a says (Err stop.WriteFault) b = (did : Did) × (SaysCame answers user a says (Ok did) b × WritesPart old new (said did))
+  DoneAndPrinted old new a says (Err stop.WriteFault) b =
+      (did : Did) × (SaysCame answers user a says (Ok did) b × WritesPart old new (said did))
   DoneAndPrinted old new a says (Err stop.OutOfMemory) b =
       (SaysCame answers user a says (Err stops.OutOfMemory) b ⊎ ((did : Did) × SaysCame answers user a says (Ok did) b)) × (new ≡ old)
   DoneAndPrinted old new a says result b = ⊥
@@ -81,12 +83,14 @@ module _ {S : Type 0} (answers : S → Request → Option Reply → S → Type 0
     pub count : number ≡ length done + 1
 
   -- Where the call begins while a session runs, whatever it did before, it runs on from there, or it ended.
-  abbrev pub Goes : (held held_now : Option Text) (a : S) (rest : Text) (number : ℕ) (result : Result (Unit {0}) Stop) (b : S) (rest_now : Text) (number_now : ℕ) → Type 0
+  abbrev pub Goes : (held held_now : Option Text) (a : S) (rest : Text) (number : ℕ)
+      (result : Result (Unit {0}) Stop) (b : S) (rest_now : Text) (number_now : ℕ) → Type 0
   Goes held held_now a rest number result b rest_now number_now =
       (start : Option Text) (first : S) (text : Text) (bytes : ℕ) → Running start held first a text rest number
-      → MatchResult result (λ done. Running start held_now first b text rest_now number_now) (λ why. Ran answers user start held_now first text bytes false (stopped_code why) b)
+      → MatchResult result (λ done. Running start held_now first b text rest_now number_now)
+      (λ why. Ran answers user start held_now first text bytes false (stopped_code why) b)
 
-  -- the same where the input has ended: an LF is put behind the bytes that are left
+  -- Where the call begins while a session runs and the input has ended, the session ends: an LF is put behind the bytes that are left.
   abbrev pub Closes : (held held_now : Option Text) (a : S) (rest : Text) (number : ℕ) (result : Result (Unit {0}) Stop) (b : S) → Type 0
   Closes held held_now a rest number result b =
       (start : Option Text) (first : S) (text : Text) (bytes : ℕ) → Running start held first a text rest number

@@ -27,8 +27,8 @@ use Rattle.up_lists.proofs.BeginsLemmas.{Begins-append, Begins-self}
 use Rattle.up_names.specs.PathNames.{PathName, control_of}
 use Rattle.up_names.specs.declared.paths.Control.{Control}
 use Rattle.up_names.specs.declared.paths.Control.TheVariants.{Ordinary, Access, Group}
-use Rattle.up_nodes.proofs.Tested.{fits_test}
-use Rattle.up_replay.specs.Fits.{Fits, TextFits, control_for, fits}
+use Rattle.up_mem_tree.proofs.Tested.{fits_test}
+use Rattle.up_log_tree.specs.Fits.{Fits, TextFits, control_for, fits}
 use Rattle.up_tree.specs.States.{Applies, State, entries_of, fixed_of, record_in, state_of}
 
 -- ---- a record that fits has a spelling

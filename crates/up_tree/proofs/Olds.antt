@@ -2,10 +2,10 @@
 use Rattle.std.proofs.Common.{◌≡◌, ℕ, zero, suc, ◌+◌, ◌<◌, List, [], ◌∷◌, ◌++◌, length, take, None, Some, sym, ap, subst, ◌∙◌, arith}
 use Rattle.std.specs.Prelude.{slice_get}
 use Rattle.up_entry.specs.declared.records.Rec.{Rec}
-use Rattle.up_replay.specs.Changes.{record_at}
-use Rattle.up_replay.specs.Fits.{Fits, IsLog}
-use Rattle.up_replay.proofs.Fronts.{take_next}
-use Rattle.up_replay.proofs.Paths.{some_none}
+use Rattle.up_log_tree.specs.Changes.{record_at}
+use Rattle.up_log_tree.specs.Fits.{Fits, IsLog}
+use Rattle.up_log_tree.proofs.Fronts.{take_next}
+use Rattle.up_log_tree.proofs.Paths.{some_none}
 
 module _ (records : List Rec) (i : ℕ) where
   on : i + 1 ≡ suc i

@@ -14,9 +14,9 @@ use Rattle.up_journal.specs.declared.limits.Limits.{Limits}
 use Rattle.up_journal.proofs.Logs.{opens_log, refuses_read}
 use Rattle.up_journal.proofs.Records.{opened_and_read}
 use Rattle.up_names.specs.Texts.{UserName}
-use Rattle.up_nodes.specs.MemTrees.{TreeLog}
-use Rattle.up_replay.specs.Fits.{fits}
-use Rattle.up_replay.specs.Sizes.{sizes_of}
+use Rattle.up_mem_tree.specs.MemTrees.{TreeLog}
+use Rattle.up_log_tree.specs.Fits.{fits}
+use Rattle.up_log_tree.specs.Sizes.{sizes_of}
 use Rattle.up_tree.specs.States.{IsKept, Opens, disk_after, read_by, record_in, records_in}
 
 -- the tree is the owner's, and of the records of the journal's log

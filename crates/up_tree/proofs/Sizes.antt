@@ -4,8 +4,8 @@ use Rattle.std.proofs.lemmas.List.{length-map}
 use Rattle.std.proofs.lemmas.List.Sums.{sum_by-cons}
 use Rattle.up_entry.specs.declared.records.Rec.{Rec}
 use Rattle.up_journal.specs.Journal as journal
-use Rattle.up_replay.specs.Logs.{bytes_of}
-use Rattle.up_replay.specs.Sizes.{size_of, sizes_of}
+use Rattle.up_log_tree.specs.Logs.{bytes_of}
+use Rattle.up_log_tree.specs.Sizes.{size_of, sizes_of}
 
 sums : (log : List Rec) → sum_by (λ size. size + 37) (sizes_of log) ≡ sum_by (λ rec. size_of rec + 37) log
 sums [] = refl

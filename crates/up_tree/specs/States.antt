@@ -19,10 +19,10 @@ use Rattle.up_journal.specs.declared.fault.OpenFault.{OpenFault}
 use Rattle.up_journal.specs.declared.limits.Limits.{Limits}
 use Rattle.up_journal.specs.declared.fault.OpenWhy.{OpenWhy}
 use Rattle.up_names.specs.Texts.{UserName}
-use Rattle.up_nodes.specs.MemTrees.{TreeLog}
-use Rattle.up_replay.specs.Fits.{fits}
-use Rattle.up_replay.specs.Logs.{Log}
-use Rattle.up_replay.specs.Sizes.{size_of, sizes_of}
+use Rattle.up_mem_tree.specs.MemTrees.{TreeLog}
+use Rattle.up_log_tree.specs.Fits.{fits}
+use Rattle.up_log_tree.specs.Logs.{Log}
+use Rattle.up_log_tree.specs.Sizes.{size_of, sizes_of}
 
 -- the record that a payload spells
 abbrev pub record_in : List ℕ → Option Rec

@@ -1,12 +1,12 @@
 //! The tree as it was after its first records.
 ghost use Rattle.std.specs.Prelude.{◌≡◌, ◌≤◌, ◌<◌, ◌+◌, length, slice_get, take, IfOk, OnOk};
 ghost use Rattle.std.specs.Option.{option_copied};
-ghost use Rattle.up_replay.specs.Trees.{children, node_at, tree_at};
+ghost use Rattle.up_log_tree.specs.Trees.{children, node_at, tree_at};
 
 use std::alloc::AllocError;
 use std::marker::Model;
+use up_mem_tree::{MemTree, Node};
 use up_names::Path;
-use up_nodes::{MemTree, Node};
 
 /// A tree as it was after some first records of its log.
 #[derive(Drop)]
@@ -15,7 +15,7 @@ pub struct Old {
 }
 
 impl Model for Old {
-    ghost use Rattle.up_replay.specs.Trees.{Tree, tree_of};
+    ghost use Rattle.up_log_tree.specs.Trees.{Tree, tree_of};
 
     ghost Value = { Tree };
 

@@ -6,8 +6,8 @@ ghost use Rattle.up_journal.specs.Logs.{log_step};
 ghost use Rattle.up_journal.specs.Opened.{IsDamageOf};
 ghost use Rattle.up_journal.specs.Records.{OnlyPayloads, replay};
 ghost use Rattle.up_policy.specs.Trees.{owns_snapshots};
-ghost use Rattle.up_replay.specs.Fits.{Fits, fits};
-ghost use Rattle.up_replay.specs.Sizes.{sizes_of};
+ghost use Rattle.up_log_tree.specs.Fits.{Fits, fits};
+ghost use Rattle.up_log_tree.specs.Sizes.{sizes_of};
 ghost use Rattle.up_tree.specs.States.{record_in, told};
 
 use std::alloc::{AllocError, Global};
@@ -15,8 +15,8 @@ use up_bytes::FieldFault;
 use up_disk::Disk;
 use up_entry::{Rec, read_rec};
 use up_journal::{Journal, OpenWhy};
+use up_mem_tree::MemTree;
 use up_names::User;
-use up_nodes::MemTree;
 
 /// The record that a payload spells, or `None` where it is none's.
 fn spelled(alloc: Global, payload: &[u8]) -> Result<Option<Rec>, AllocError>

@@ -15,13 +15,13 @@ ghost use Rattle.up_policy.specs.Trees.{owns_snapshots};
 ghost use Rattle.std.specs.Map.{keys_of};
 ghost use Rattle.up_names.specs.PathNames.{cut};
 ghost use Rattle.up_policy.specs.Governors.{first_text, prefixes};
-ghost use Rattle.up_replay.specs.Changes.{change_before, changes_under, record_at};
-ghost use Rattle.up_replay.specs.Snapshots.{snap_at, snapshots_of};
-ghost use Rattle.up_replay.specs.Fits.{Fits, IsLog, fits};
-ghost use Rattle.up_replay.specs.Logs.{bytes_of};
-ghost use Rattle.up_replay.specs.Rights.{facts_of, governing_prefix};
-ghost use Rattle.up_replay.specs.Sizes.{size_of};
-ghost use Rattle.up_replay.specs.Trees.{children, node_at, tree_at, tree_of};
+ghost use Rattle.up_log_tree.specs.Changes.{change_before, changes_under, record_at};
+ghost use Rattle.up_log_tree.specs.Snapshots.{snap_at, snapshots_of};
+ghost use Rattle.up_log_tree.specs.Fits.{Fits, IsLog, fits};
+ghost use Rattle.up_log_tree.specs.Logs.{bytes_of};
+ghost use Rattle.up_log_tree.specs.Rights.{facts_of, governing_prefix};
+ghost use Rattle.up_log_tree.specs.Sizes.{size_of};
+ghost use Rattle.up_log_tree.specs.Trees.{children, node_at, tree_at, tree_of};
 ghost use Rattle.up_tree.specs.States.{Applies, IsKept, Opens, Resolves, disk_after, entries_of, fixed_of, read_by, records_in};
 
 use crate::old::{Old, old_tree};
@@ -36,8 +36,8 @@ use up_entry::{Rec, write_rec};
 use up_group::GroupText;
 use up_journal::{AppendWhy, Journal, Limits, OpenFault, OpenWhy};
 use up_lists::Items;
+use up_mem_tree::{MemTree, Node};
 use up_names::{Path, User};
-use up_nodes::{MemTree, Node};
 
 /// A tree over its log. It is seen as its owner, its limits and the records of its log, each of which fits those before it. After a
 /// fault the last record may be doubtful: a crash then leaves the log, or the log with that record.

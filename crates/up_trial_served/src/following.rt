@@ -2,6 +2,7 @@
 ghost use Rattle.up_journal.specs.Journal.{AreLimits};
 
 use crate::serving::{USERS, clear, port_heard, served};
+use std::hash::RandomState;
 use std::io::{ErrorKind, PipeReader, pipe};
 use std::net::TcpListener;
 use std::sync::Wait;
@@ -10,7 +11,8 @@ use std::time::Clock;
 use std::{fs, io};
 use up_disk::Disks;
 use up_ends::{MemSink, MemSource};
-use up_follower::follow;
+use up_follower::{leader_of, log_of};
+use up_following::follow_run;
 use up_journal::{Journal, Limits, same_heads};
 use up_lists::Items;
 use up_names::{User, parse_user};
@@ -173,13 +175,36 @@ fn pulled(rt: HostRuntime, helper: &str, feed: u16) -> io::Result<String> {
     )?;
     let mut source = source_of(rt, lines);
     let mut sink = MemSink::new(alloc, Items::new(alloc));
-    if follow(rt, words.as_slice(), &mut source, &mut sink) != 0 {
+    if followed(rt, words.as_slice(), &mut source, &mut sink)? != 0 {
         return Err(other());
     }
     match std::str::from_utf8(sink.bytes()) {
         Ok(text) => Ok(String::from_str(alloc, text)?),
         Err(_) => Err(other()),
     }
+}
+
+/// Runs `upspin follow`, and answers its status.
+fn followed(
+    rt: HostRuntime,
+    words: &[String],
+    source: &mut MemSource,
+    sink: &mut MemSink,
+) -> io::Result<u8> {
+    let random = RandomState::new(&rt)?;
+    let Some(mut leader) = leader_of(rt, words)? else {
+        return Err(other());
+    };
+    let mut disks = log_of(&rt, words)?;
+    Ok(follow_run(
+        rt.alloc(),
+        random,
+        words,
+        &mut leader,
+        &mut disks,
+        source,
+        sink,
+    ))
 }
 
 fn source_of(rt: HostRuntime, text: String) -> MemSource {

@@ -22,11 +22,11 @@ use Rattle.up_policy.specs.Loadings.{Loading}
 use Rattle.up_policy.specs.Members.{text_of}
 use Rattle.up_policy.specs.Trees.{AccessTexts, GroupTexts, owns_snapshots}
 use Rattle.up_policy.specs.Verdicts.{grants, is_control, items_for, only_looks, right_test, rights_held, text_decides, without_text}
-use Rattle.up_replay.specs.declared.node.Node.{Node}
-use Rattle.up_replay.specs.Rights.{access_node, access_path, facts_of, governing_prefix, group_paths, rules_of}
-use Rattle.up_replay.specs.Trees.{Tree, tree_at, tree_of}
-use Rattle.up_replay.proofs.Paths.{path_same, some_none, some_same}
-use Rattle.up_nodes.specs.Groups.{HaveSameGroups, StayTexts}
+use Rattle.up_log_tree.specs.declared.node.Node.{Node}
+use Rattle.up_log_tree.specs.Rights.{access_node, access_path, facts_of, governing_prefix, group_paths, rules_of}
+use Rattle.up_log_tree.specs.Trees.{Tree, tree_at, tree_of}
+use Rattle.up_log_tree.proofs.Paths.{path_same, some_none, some_same}
+use Rattle.up_mem_tree.specs.Groups.{HaveSameGroups, StayTexts}
 use Rattle.up_answers.proofs.PutLemmas.{ends_extended}
 use Rattle.up_list.specs.Looks.{Look, rights}
 use Rattle.up_watch.specs.Watching.{Watching, after, now}

@@ -18,11 +18,11 @@ use Rattle.up_names.specs.PathOrderLaws.{path_cmp_eq, path_cmp_total}
 use Rattle.up_entry.specs.Showing.{shown_as}
 use Rattle.up_entry.specs.declared.entries.Entry.{Entry}
 use Rattle.up_wire.specs.declared.replies.WatchEvent.{WatchEvent}
-use Rattle.up_replay.specs.Fits.{HasDirectory}
-use Rattle.up_replay.specs.Trees.{Tree, is_parent, made_of, node_at}
-use Rattle.up_replay.specs.declared.node.Node.{Node}
-use Rattle.up_replay.proofs.Paths.{some_none, some_same}
-use Rattle.up_replay.proofs.Trees.{find-made, made_sorted}
+use Rattle.up_log_tree.specs.Fits.{HasDirectory}
+use Rattle.up_log_tree.specs.Trees.{Tree, is_parent, made_of, node_at}
+use Rattle.up_log_tree.specs.declared.node.Node.{Node}
+use Rattle.up_log_tree.proofs.Paths.{some_none, some_same}
+use Rattle.up_log_tree.proofs.Trees.{find-made, made_sorted}
 use Rattle.up_list.specs.Entries.{entries_in, entry_at, entry_of}
 use Rattle.up_list.specs.Looks.{Look, has_some, rights, shown}
 use Rattle.up_list.specs.Places.{IsOwned}

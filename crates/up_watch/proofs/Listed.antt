@@ -4,7 +4,7 @@ use Rattle.std.specs.Prelude.{if◌then◌else◌, filter, slice_get}
 use Rattle.std.specs.List.{cons_option, filter_map}
 use Rattle.std.proofs.lemmas.List.Elements.{filter-append}
 use Rattle.up_entry.specs.declared.records.Rec.{Rec}
-use Rattle.up_replay.specs.Changes.{positions_of}
+use Rattle.up_log_tree.specs.Changes.{positions_of}
 
 cons_option-append : {X : Type 0} (o : Option X) (xs : List X) → cons_option o [] ++ xs ≡ cons_option o xs
 cons_option-append None xs = refl

@@ -8,14 +8,14 @@ use Rattle.up_names.specs.PathOrder.{path_eq}
 use Rattle.up_entry.specs.declared.entries.Entry.{Entry}
 use Rattle.up_entry.specs.declared.records.Rec.{Rec}
 use Rattle.up_entry.specs.declared.records.Rec.TheVariants.{Put, Delete, Snap}
-use Rattle.up_replay.specs.Changes.{change_before, last_change, path_of_change, record_at}
-use Rattle.up_replay.specs.Fits.{AreFitting, DeleteFits, Fits, IsLog}
-use Rattle.up_replay.specs.Trees.{node_at, tree_at, tree_of}
-use Rattle.up_replay.specs.declared.node.Node.{Node}
-use Rattle.up_replay.proofs.Fronts.{whole_front}
-use Rattle.up_replay.proofs.Paths.{some_none, some_same}
-use Rattle.up_replay.proofs.Trees.{node_at-delete, node_at-empty, node_at-put, node_at-snap, tree_of-push}
-use Rattle.up_nodes.proofs.LogLaws.{front, sequences}
+use Rattle.up_log_tree.specs.Changes.{change_before, last_change, path_of_change, record_at}
+use Rattle.up_log_tree.specs.Fits.{AreFitting, DeleteFits, Fits, IsLog}
+use Rattle.up_log_tree.specs.Trees.{node_at, tree_at, tree_of}
+use Rattle.up_log_tree.specs.declared.node.Node.{Node}
+use Rattle.up_log_tree.proofs.Fronts.{whole_front}
+use Rattle.up_log_tree.proofs.Paths.{some_none, some_same}
+use Rattle.up_log_tree.proofs.Trees.{node_at-delete, node_at-empty, node_at-put, node_at-snap, tree_of-push}
+use Rattle.up_mem_tree.proofs.LogLaws.{front, sequences}
 use Rattle.up_list.specs.Entries.{entry_at, entry_of}
 use Rattle.up_watch.specs.Watching.{entry_put}
 

@@ -15,15 +15,15 @@ use Rattle.up_wire.specs.declared.replies.WatchEvent.{WatchEvent}
 use Rattle.up_wire.specs.declared.replies.Reply.TheVariants.{Invalid}
 use Rattle.up_entry.specs.declared.what.What.TheVariants as what
 use Rattle.up_policy.specs.Loadings.{Loading}
-use Rattle.up_nodes.specs.MemTrees.{TreeLog}
-use Rattle.up_replay.specs.Changes.{changes_some, changes_under, path_of_change, positions_of}
-use Rattle.up_replay.specs.Fits.{HasDirectory, HasPlace, IsLog, PutFits}
-use Rattle.up_replay.specs.Logs.{Limits, Log}
-use Rattle.up_replay.specs.Trees.{Tree, node_at, tree_at}
-use Rattle.up_replay.specs.declared.node.Node.{Node}
-use Rattle.up_replay.proofs.Paths.{some_none, some_same}
-use Rattle.up_replay.proofs.Rooted.{rooted_at}
-use Rattle.up_nodes.proofs.LogLaws.{front}
+use Rattle.up_mem_tree.specs.MemTrees.{TreeLog}
+use Rattle.up_log_tree.specs.Changes.{changes_some, changes_under, path_of_change, positions_of}
+use Rattle.up_log_tree.specs.Fits.{HasDirectory, HasPlace, IsLog, PutFits}
+use Rattle.up_log_tree.specs.Logs.{Limits, Log}
+use Rattle.up_log_tree.specs.Trees.{Tree, node_at, tree_at}
+use Rattle.up_log_tree.specs.declared.node.Node.{Node}
+use Rattle.up_log_tree.proofs.Paths.{some_none, some_same}
+use Rattle.up_log_tree.proofs.Rooted.{rooted_at}
+use Rattle.up_mem_tree.proofs.LogLaws.{front}
 use Rattle.up_list.specs.Rooted.{IsRooted}
 use Rattle.up_list.proofs.BelowLemmas.{parent_is}
 use Rattle.up_list.proofs.FrontLemmas.{owner_of}

@@ -7,7 +7,7 @@ use Rattle.std.proofs.lemmas.List.{take_all}
 use Rattle.up_names.specs.PathNames.{PathName, cut, is_under, parent_of}
 use Rattle.up_names.specs.PathOrder.{path_eq}
 use Rattle.up_names.proofs.PathComparisons.{not_under}
-use Rattle.up_replay.proofs.Paths.{cut_cut, cut_whole, length_cut, parent_is, parent_none, path_other}
+use Rattle.up_log_tree.proofs.Paths.{cut_cut, cut_whole, length_cut, parent_is, parent_none, path_other}
 
 -- a path is under another where its first elements make that one
 under-Decides : (p q : PathName) → Decides (is_under p q) (cut (length q.elements) p ≡ q)

@@ -10,8 +10,8 @@ use Rattle.up_rights.specs.declared.Right.TheVariants.{Read, Write, List as List
 use Rattle.up_rights.specs.RightSets.{Rights}
 use Rattle.up_access.specs.declared.Rule.{Rule}
 use Rattle.up_policy.specs.Verdicts.{text_decides, without_text}
-use Rattle.up_replay.specs.Rights.{access_path, facts_of, group_paths}
-use Rattle.up_replay.specs.Trees.{tree_at}
+use Rattle.up_log_tree.specs.Rights.{access_path, facts_of, group_paths}
+use Rattle.up_log_tree.specs.Trees.{tree_at}
 use Rattle.up_list.specs.Looks.{Look}
 use Rattle.up_watch.specs.declared.decided.Decided.{Decided}
 use Rattle.up_watch.specs.declared.decided.Given.{Given}

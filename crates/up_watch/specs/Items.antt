@@ -4,7 +4,7 @@ use Rattle.std.specs.List.{flat_map}
 use Rattle.std.specs.Option.{option_to_list}
 use Rattle.up_names.specs.PathNames.{PathName}
 use Rattle.up_entry.specs.declared.entries.Entry.{Entry}
-use Rattle.up_replay.specs.Trees.{Tree}
+use Rattle.up_log_tree.specs.Trees.{Tree}
 use Rattle.up_list.specs.Entries.{entries_in, entry_at}
 
 -- the items in these directories, one after the other

@@ -8,9 +8,9 @@ use Rattle.up_entry.specs.declared.entries.Entry.{Entry}
 use Rattle.up_entry.specs.declared.records.Rec.{Rec}
 use Rattle.up_entry.specs.declared.records.Rec.TheVariants.{Put, Delete, Snap}
 use Rattle.up_policy.specs.Loadings.{Loading}
-use Rattle.up_replay.specs.Trees.{tree_at, tree_of}
-use Rattle.up_replay.specs.Logs.{Limits, Log}
-use Rattle.up_nodes.specs.MemTrees.{TreeLog}
+use Rattle.up_log_tree.specs.Trees.{tree_at, tree_of}
+use Rattle.up_log_tree.specs.Logs.{Limits, Log}
+use Rattle.up_mem_tree.specs.MemTrees.{TreeLog}
 use Rattle.up_list.specs.Looks.{Look, has_some, shown}
 use Rattle.up_wire.specs.declared.replies.WatchEvent.{WatchEvent}
 use Rattle.up_answers.specs.Events.{Change, change_at, event_of}

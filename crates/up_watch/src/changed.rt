@@ -5,12 +5,12 @@ ghost use Rattle.up_answers.specs.Events.{change_at};
 ghost use Rattle.up_entry.specs.declared.records.Rec.TheVariants.{Delete};
 ghost use Rattle.up_list.specs.Entries.{entry_at};
 ghost use Rattle.up_names.specs.PathNames.{PathName};
-ghost use Rattle.up_replay.specs.Changes.{record_at};
-ghost use Rattle.up_replay.specs.Trees.{tree_at};
+ghost use Rattle.up_log_tree.specs.Changes.{record_at};
+ghost use Rattle.up_log_tree.specs.Trees.{tree_at};
 ghost use Rattle.up_watch.specs.Watching.{change_of, entry_put};
 
 use up_entry::{Entry, Rec};
-use up_nodes::MemTree;
+use up_mem_tree::MemTree;
 
 /// What a record changes: the entry that it puts, or the one that it deletes.
 #[derive(Drop)]

@@ -4,16 +4,16 @@ ghost use Rattle.std.specs.FinMap.Entries.{put};
 ghost use Rattle.up_list.specs.Looks.{rights};
 ghost use Rattle.up_names.specs.PathOrder.{path_cmp};
 ghost use Rattle.up_policy.specs.Verdicts.{is_control};
-ghost use Rattle.up_replay.specs.Rights.{facts_of, governing_prefix};
-ghost use Rattle.up_replay.specs.Trees.{tree_at};
+ghost use Rattle.up_log_tree.specs.Rights.{facts_of, governing_prefix};
+ghost use Rattle.up_log_tree.specs.Trees.{tree_at};
 ghost use Rattle.up_watch.specs.Decided.{AreDecided, IsGiven, given_in, rights_by};
 ghost use Rattle.up_watch.specs.Watching.{Watching, after};
 
 use crate::watcher::Reader;
 use std::alloc::{AllocError, Global};
 use up_maps::OrderedMap;
+use up_mem_tree::MemTree;
 use up_names::{Control, Path};
-use up_nodes::MemTree;
 use up_rights::RightSet;
 
 /// The rights that a text gave in the tree as it was after the first `at` records.

@@ -8,8 +8,8 @@ use crate::decided::Decided;
 use std::alloc::{AllocError, Global};
 use std::marker::Model;
 use up_list::MemView;
+use up_mem_tree::MemTree;
 use up_names::{Path, User};
-use up_nodes::MemTree;
 use up_policy::{Loaded, rights_of};
 use up_rights::RightSet;
 
@@ -56,7 +56,7 @@ impl<'a> Reader<'a> {
     }
 
     /// The user's rights on a path in the tree as it was directly after record `n`.
-    #[tactic(auto, unfolding(up_list::specs::Looks::rights, up_replay::specs::Rights::facts_of))]
+    #[tactic(auto, unfolding(up_list::specs::Looks::rights, up_log_tree::specs::Rights::facts_of))]
     pub(crate) fn rights_after(
         &self,
         alloc: Global,

@@ -1,8 +1,8 @@
 //! The reply to Watch.
 ghost use Rattle.std.specs.Prelude.{◌≡◌, ◌≢◌, IfOk, pos};
 ghost use Rattle.up_answers.specs.Watches.{items_under, watch_reply, watched};
-ghost use Rattle.up_replay.specs.Logs.{Limits as Bounds};
-ghost use Rattle.up_replay.specs.Trees.{tree_of};
+ghost use Rattle.up_log_tree.specs.Logs.{Limits as Bounds};
+ghost use Rattle.up_log_tree.specs.Trees.{tree_of};
 ghost use Rattle.up_tree.specs.States.{log_of};
 ghost use Rattle.up_wire.specs.Bounds.{bounded};
 ghost use Rattle.up_wire.specs.declared.replies.Reply.TheVariants.{OutOfMemory};
@@ -16,8 +16,8 @@ use up_disk::Disk;
 use up_entry::What;
 use up_list::{TreeLook, check};
 use up_lists::Items;
+use up_mem_tree::MemTree;
 use up_names::{Path, User};
-use up_nodes::MemTree;
 use up_policy::Loaded;
 use up_tree::TreeState;
 use up_wire::{Done, Reply, WatchEvent, bounded};
@@ -37,31 +37,15 @@ pub fn watch<D: Disk>(
         ≡ bounded (watch_reply (log_of state.now) loaded.now user.now path.now sequence) }
 {
     match watch_in(alloc, state.memory(), loaded, user, path, sequence) {
-        Ok(reply) => reply,
+        Ok(reply) => bounded(reply),
         Err(AllocError) => Reply::OutOfMemory,
     }
 }
 
-/// The reply to Watch of a path of a tree in memory: what happened under it above a sequence, or what there is. It looks at no
-/// limit of the log.
-pub fn watch_in(
-    alloc: Global,
-    tree: &MemTree,
-    loaded: &Loaded,
-    user: &User,
-    path: &Path,
-    sequence: i64,
-) -> Result<Reply, AllocError>
-    requires { path.now.owner ≡ tree.now.owner }
-    ensures { (limits : Bounds) → IfOk result (λ reply. reply
-        ≡ bounded (watch_reply (log_in tree.now limits) loaded.now user.now path.now sequence)) }
-{
-    Ok(bounded(reply_to(alloc, tree, loaded, user, path, sequence)?))
-}
-
-/// The reply, however long it is.
+/// The reply to Watch of a path of a tree in memory, however long it is: what happened under it above a sequence, or what there is. It
+/// looks at no limit of the log.
 #[tactic(auto, unfolding(up_answers::specs::Watches::watch_reply))]
-fn reply_to(
+pub fn watch_in(
     alloc: Global,
     tree: &MemTree,
     loaded: &Loaded,

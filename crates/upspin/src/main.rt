@@ -3,6 +3,7 @@
 #![tactic(auto)]
 
 mod asking;
+mod following;
 mod reports;
 mod scripts;
 mod storms;
@@ -14,8 +15,7 @@ use std::process::ExitCode;
 use std::sync::Wait;
 use std::thread::Threads;
 use std::time::Clock;
-use up_ends::{StdSink, StdSource};
-use up_follower::follow;
+use up_ends::StdSink;
 use up_helper::{sign_run, verify_run};
 use up_server::serve;
 
@@ -34,13 +34,6 @@ fn helper_status(rt: &HostRuntime, words: &[String]) -> Option<u8> {
     }
 }
 
-/// Runs `upspin follow`, and answers its status.
-fn follow_status(rt: HostRuntime, words: &[String]) -> u8 {
-    let mut source = StdSource::new(rt.stdin());
-    let mut sink = StdSink::new(rt.stdout());
-    follow(rt, words, &mut source, &mut sink)
-}
-
 /// Runs a command, and answers its status.
 fn status_of<R: Threads + Wait + Clock + Sync>(
     threads: &R,
@@ -53,7 +46,7 @@ fn status_of<R: Threads + Wait + Clock + Sync>(
         Command::Storm => storms::storm_status(threads, rt, words),
         Command::Client => asking::client_status(&rt, words),
         Command::Copy => asking::copy_status(&rt, words),
-        Command::Follow => follow_status(rt, words),
+        Command::Follow => following::follow_status(rt, words),
         Command::Audit => reports::audit_status(&rt, words),
         Command::Share => reports::share_status(&rt, words),
         Command::Can => scripts::can_status(&rt, words),

@@ -4,20 +4,18 @@ ghost use Rattle.up_journal.specs.Journal.{AreLimits};
 
 use super::on_journal::{Running, add_open_fault};
 use super::watched::Watched;
-use super::{add_counted, on_disk, on_journal, on_keys, on_ledger, on_store};
+use super::{add_counted, on_disk, on_journal, on_keys, on_store};
 use std::alloc::Global;
 use up_blocks::Blocks;
 use up_case_lines::{Answer, Fault, Words};
 use up_journal::{Journal, Limits, OpenFault};
 use up_keys::Keys;
-use up_ledger::Ledger;
 
-/// A disk, or a journal, a ledger, a store or a key server's log on it.
+/// A disk, or a journal, a store or a key server's log on it.
 #[derive(Drop)]
 pub enum Stage {
     Disk(Watched),
     Journal(Running),
-    Ledger(Ledger<Watched>),
     Store(Blocks<Watched>),
     Keys(Keys<Watched>),
 }
@@ -50,7 +48,6 @@ impl Stage {
         match self {
             Stage::Disk(_) => Ok(false),
             Stage::Journal(running) => on_journal::turn(alloc, running, words, answer),
-            Stage::Ledger(ledger) => on_ledger::turn(ledger, words, answer),
             Stage::Store(store) => on_store::turn(alloc, store, words, answer),
             Stage::Keys(keys) => on_keys::turn(alloc, keys, words, answer),
         }
@@ -60,7 +57,6 @@ impl Stage {
         match self {
             Stage::Disk(disk) => disk,
             Stage::Journal(running) => running.journal.into_disk(),
-            Stage::Ledger(ledger) => ledger.into_disk(),
             Stage::Store(store) => store.into_disk(),
             Stage::Keys(keys) => keys.into_disk(),
         }
@@ -116,7 +112,6 @@ fn limits(records: u64, device: u64, largest: u64) -> Limits
 #[derive(Clone, Copy)]
 enum Service {
     Journal,
-    Ledger,
     Store,
     Keys,
 }
@@ -125,7 +120,6 @@ enum Service {
 fn service_of(keyword: &str) -> Option<Service> {
     match keyword {
         "open" => Some(Service::Journal),
-        "ledger" => Some(Service::Ledger),
         "store" => Some(Service::Store),
         "keys" => Some(Service::Keys),
         _ => None,
@@ -168,7 +162,6 @@ fn opened(
             journal: Journal::open(alloc, disk, limits)?,
             limits,
         }),
-        Service::Ledger => Stage::Ledger(Ledger::open(alloc, disk, with_room(limits, 11))?),
         Service::Store => {
             Stage::Store(Blocks::open(alloc, disk, with_room(limits, on_store::LARGEST))?)
         }
@@ -181,7 +174,6 @@ fn add_opened(stage: &Stage, answer: &mut Answer) {
     match stage {
         Stage::Disk(_) => {}
         Stage::Journal(running) => add_counted("open", running.journal.len(), answer),
-        Stage::Ledger(ledger) => add_counted("ledger", ledger.len(), answer),
         Stage::Store(store) => add_counted("store", store.position(), answer),
         Stage::Keys(keys) => add_counted("keys", keys.position(), answer),
     }

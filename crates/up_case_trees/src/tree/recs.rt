@@ -6,7 +6,7 @@ use up_case_logs::add_appended;
 use up_disk::MemDisk;
 use up_entry::{Attr, Entry, Kind, Rec, read_rec, rec_size};
 use up_lists::Items;
-use up_nodes::fits_is_told_by_rules;
+use up_mem_tree::fits_is_told_by_rules;
 use up_tree::TreeState;
 
 /// Does a command that adds a record, or that settles the log.

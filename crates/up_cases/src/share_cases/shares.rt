@@ -99,7 +99,7 @@ impl Stage {
         }
     }
 
-    #[tactic(auto, unfolding(up_replay::specs::Rights::facts_of))]
+    #[tactic(auto, unfolding(up_log_tree::specs::Rights::facts_of))]
     fn readers(&self, alloc: Global, path: &str, answer: &mut Answer) -> Result<(), Fault> {
         // That the owner is no snapshot user is told here.
         let _records = self.tree.position();

@@ -44,6 +44,7 @@ loop-line-preserved g c =
     record {
       runs = Runs-more (g.K.Sink.held c.args.sink.now) (g.K.Sink.held c.loop-line.sink) (g.K.Sink.held c.print.new.sink) c.loop-line.gathered.items c.print.new.gathered.items c.in-Some-2.reply.now more later (run_of c.args.lines.now) c.loop-line.invariant.runs same c.in_ok-print.ensures.ok;
       later = omega (arith, c.print.ensures.later);
+      written = c.print.ensures.quiet.stays (λ is. cc) ∙ c.loop-line.invariant.written;
       counted = omega (arith, c.in-Some.ensures.shorter);
     }
 

@@ -16,6 +16,7 @@ loop-line-init g c =
     record {
       telling = subst (λ xs. Telling all all held held xs 0) (sym c.new-gathered.ensures.items) (Telling-none all held);
       later = omega arith;
+      written = refl;
       counted = omega arith;
       kind = refl;
     }
@@ -46,6 +47,7 @@ loop-line-preserved g c =
     record {
       telling = subst (λ code. Telling all more (g.K.Sink.held c.args.sink.now) (g.K.Sink.held c.flush.new.sink) c.flush.new.gathered.items code) (sym c.status_behind-status.ensures) (flushed after c.in_ok-flush.ensures.ok);
       later = omega (arith, c.loop-line.invariant.later, c.flush.ensures.later);
+      written = c.flush.ensures.quiet.stays (λ is. cc) ∙ c.loop-line.invariant.written;
       counted = omega (arith, c.loop-line.invariant.counted, c.in-Some.ensures.shorter);
       kind = subst (IsOneOf (0 ∷ 1 ∷ [])) (sym c.status_behind-status.ensures) (kind_behind (code_of c.loop-line.status) c.in_ok-good.good c.loop-line.invariant.kind);
     }

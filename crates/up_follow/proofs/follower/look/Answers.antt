@@ -1,6 +1,6 @@
 -- A request that only looks is answered, and changes nothing.
 use Rattle.std.proofs.Common.{[], subst}
-use Rattle.up_adding.specs.Steps.{IsTold}
+use Rattle.up_commit.specs.Steps.{IsTold}
 use Rattle.up_answers.specs.Answers.{answer}
 use Rattle.up_answers.specs.Fetching.{Fetched}
 use Rattle.up_follow.proofs.ReadLemmas.{read_steps}

@@ -1,6 +1,6 @@
 use Rattle.std.proofs.Common.{sym, ◌∙◌}
 use Rattle.up_lists.proofs.Causes.{HasCause-same, StaysUnless-same}
-use Rattle.up_nodes.proofs.Tested.{fits_rules}
+use Rattle.up_mem_tree.proofs.Tested.{fits_rules}
 use Rattle.up_follow.proofs.TakingLemmas.{strange_not_io, takes_strange, takes_text, unfit_none}
 use Rattle.up_follow.proofs.taking.add_fitting.Goals as goal
 

@@ -1,9 +1,9 @@
 -- Each exit of the loop, by the invariant and what the last call wrote.
-use Rattle.std.proofs.Common.{◌≡◌, [], ◌∷◌, subst, ap, arith}
+use Rattle.std.proofs.Common.{◌≡◌, [], ◌∷◌, subst, ap, arith, refl}
 use Rattle.std.proofs.lemmas.Result.{err_from_is_err_and}
 use Rattle.up_text.specs.Lines.{script_lines}
 use Rattle.up_following.specs.FollowTurns.{world}
-use Rattle.up_following.proofs.RunLemmas.{Followed-end, Followed-fault, Followed-turned, Followed-unwritten, Running, Running-none, Running-turned}
+use Rattle.up_following.proofs.RunLemmas.{Followed-end, Followed-fault, Followed-turned, Followed-unwritten, Running, Running-none, Running-turned, still_written}
 use Rattle.up_following.proofs.run.run_each.Goals as goal
 
 pub loop-line-init : goal.loop-line-init
@@ -12,6 +12,7 @@ loop-line-init g c =
     record {
       running = Running-none g.D.Disk g.F.Feed (g.K.Sink.held c.args.sink.now) c.new-gathered.result.items first (script_lines c.args.lines.now) c.new-gathered.ensures.items;
       later = omega arith;
+      written = refl;
       counted = omega arith;
       tie = g.met.F.Feed.same c.args.feed.now;
     }
@@ -27,6 +28,7 @@ loop-line-preserved g c =
       running = Running-turned g.D.Disk g.F.Feed (g.K.Sink.held c.args.sink.now) (g.K.Sink.held c.loop-line.sink) (g.K.Sink.held c.flush.new.sink) c.loop-line.gathered.items c.run_line.new.out.items c.flush.new.gathered.items first before after (script_lines c.args.lines.now)
           c.in-Some.line.now (script_lines c.in-Some.after.now) c.loop-line.number c.run_line.result here c.run_line.ensures.came c.in-Ok.is c.in_ok-flush-in-Ok.ensures.ok;
       later = omega (arith, c.loop-line.invariant.later, c.flush.ensures.later);
+      written = still_written (g.K.Sink.faults c.args.sink.now) (g.K.Sink.faults c.loop-line.sink) (g.K.Sink.faults c.flush.new.sink) c.flush.result c.in_ok-flush-in-Ok.was c.flush.ensures.quiet c.loop-line.invariant.written;
       counted = omega (arith, c.loop-line.invariant.counted, c.in-Some.ensures.shorter);
       tie = g.met.F.Feed.joined c.args.feed.now c.loop-line.feed c.run_line.new.feed c.loop-line.invariant.tie c.run_line.ensures.tie;
     }

@@ -1,6 +1,6 @@
 use Rattle.std.proofs.Common.{◌≡◌, ap, sym, ◌∙◌, Some}
 use Rattle.std.specs.Option.{option_and_then, option_copied, option_map}
-use Rattle.up_replay.specs.Trees.{tree_of}
+use Rattle.up_log_tree.specs.Trees.{tree_of}
 use Rattle.up_list.specs.Checks.{first_link, ways}
 use Rattle.up_list.specs.Entries.{if_link}
 use Rattle.up_list.specs.States.{name_of}

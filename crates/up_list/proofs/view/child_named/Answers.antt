@@ -1,7 +1,7 @@
 use Rattle.std.proofs.Common.{sym, ap, ◌∙◌, arith}
 use Rattle.std.proofs.lemmas.Option.{slice_get_past}
 use Rattle.std.specs.Option.{option_copied}
-use Rattle.up_replay.specs.Trees.{children, tree_of}
+use Rattle.up_log_tree.specs.Trees.{children, tree_of}
 use Rattle.up_list.specs.Seen.{has_name}
 use Rattle.up_list.proofs.FewLemmas.{children_few}
 use Rattle.up_list.proofs.ViewLemmas.{child_stands, named_here, named_none, named_on, rooted_log}

@@ -1,6 +1,6 @@
 use Rattle.std.proofs.Common.{◌≡◌, None, length, take}
 use Rattle.std.specs.Prelude.{find}
-use Rattle.up_replay.specs.Trees.{tree_of}
+use Rattle.up_log_tree.specs.Trees.{tree_of}
 use Rattle.up_list.specs.Entries.{entries_in}
 use Rattle.up_list.specs.Seen.{has_name}
 use Rattle.up_list.proofs.view.child_named.Given as goal

@@ -1,7 +1,7 @@
 use Rattle.std.proofs.Common.{◌∷◌, [], map, sym, ap, ◌∙◌}
 use Rattle.std.proofs.lemmas.List.{map-append}
 use Rattle.std.specs.Option.{option_copied}
-use Rattle.up_replay.specs.Trees.{tree_of}
+use Rattle.up_log_tree.specs.Trees.{tree_of}
 use Rattle.up_list.specs.Founds.{entry_found}
 use Rattle.up_list.proofs.ViewLemmas.{child_stands, items_end, items_on, rooted_log}
 use Rattle.up_list.proofs.view.items_of.Goals as goal

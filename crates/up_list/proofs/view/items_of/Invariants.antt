@@ -1,5 +1,5 @@
 use Rattle.std.proofs.Common.{◌≡◌, map, take}
-use Rattle.up_replay.specs.Trees.{tree_of}
+use Rattle.up_log_tree.specs.Trees.{tree_of}
 use Rattle.up_list.specs.Entries.{entries_in}
 use Rattle.up_list.specs.Founds.{entry_found}
 use Rattle.up_list.proofs.view.items_of.Given as goal

@@ -1,7 +1,7 @@
 use Rattle.std.proofs.Common.{◌+◌, ◌-◌, ap, sym, ◌∙◌, arith}
 use Rattle.std.specs.Option.{option_copied, option_map}
 use Rattle.up_list.specs.Entries.{entry_of}
-use Rattle.up_replay.specs.Trees.{tree_of}
+use Rattle.up_log_tree.specs.Trees.{tree_of}
 use Rattle.up_list.proofs.ViewLemmas.{halves_down, halves_end, halves_up, on_way}
 use Rattle.up_list.proofs.view.standing_above.Goals as goal
 

@@ -1,6 +1,6 @@
 use Rattle.std.proofs.Common.{◌-◌, length}
 use Rattle.std.specs.Option.{option_copied}
-use Rattle.up_replay.specs.Trees.{tree_of}
+use Rattle.up_log_tree.specs.Trees.{tree_of}
 use Rattle.up_list.proofs.ViewLemmas.{Halves}
 use Rattle.up_list.proofs.view.standing_above.Given as goal
 

@@ -1,5 +1,5 @@
 use Rattle.std.proofs.Common.{◌≡◌, refl, sym, ◌∙◌, None}
-use Rattle.up_replay.specs.Rights.{access_node}
+use Rattle.up_log_tree.specs.Rights.{access_node}
 use Rattle.up_list.specs.Deciding.{AreGovernedAlike, IsDecided}
 use Rattle.up_list.proofs.BelowLemmas.{below_failed, decided_below, governed_alike, no_some, nothing_decided}
 use Rattle.up_list.proofs.walk.rights_below.Goals as goal

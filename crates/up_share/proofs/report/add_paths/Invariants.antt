@@ -1,5 +1,5 @@
 use Rattle.std.proofs.Common.{◌≡◌, take}
-use Rattle.up_replay.specs.Trees.{tree_of}
+use Rattle.up_log_tree.specs.Trees.{tree_of}
 use Rattle.up_share.specs.Known.{paths_in}
 use Rattle.up_share.proofs.report.add_paths.Given as goal
 

@@ -1,5 +1,5 @@
 use Rattle.std.proofs.Common.{◌≡◌, sym, subst}
-use Rattle.up_replay.specs.Trees.{Tree, after_record}
+use Rattle.up_log_tree.specs.Trees.{Tree, after_record}
 use Rattle.up_share.specs.Known.{paths_in}
 use Rattle.up_share.proofs.PathLemmas.{entered_delete, entered_put}
 use Rattle.up_share.proofs.ToldLemmas.{on_ok}

@@ -1,6 +1,6 @@
 use Rattle.std.proofs.Common.{ap, ◌∙◌, arith, length, slice_get}
 use Rattle.std.specs.Map.{keys_of}
-use Rattle.up_replay.specs.Trees.{tree_of}
+use Rattle.up_log_tree.specs.Trees.{tree_of}
 use Rattle.up_share.proofs.KnownLemmas.{told_all, told_next, unread_all}
 use Rattle.up_share.proofs.report.tell_paths.Goals as goal
 

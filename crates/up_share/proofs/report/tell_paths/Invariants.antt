@@ -1,4 +1,4 @@
-use Rattle.up_replay.specs.Trees.{tree_of}
+use Rattle.up_log_tree.specs.Trees.{tree_of}
 use Rattle.up_share.proofs.KnownLemmas.{ToldSoFar}
 use Rattle.up_share.proofs.report.tell_paths.Given as goal
 

@@ -1,6 +1,6 @@
 use Rattle.std.proofs.Common.{ℕ, List, ◌++◌, codes, ap, ◌∙◌}
 use Rattle.up_names.specs.PathNames.{canonical}
-use Rattle.up_replay.specs.Trees.{tree_of}
+use Rattle.up_log_tree.specs.Trees.{tree_of}
 use Rattle.up_text.specs.Words.{coded}
 use Rattle.up_share.proofs.KnownLemmas.{told_ungoverned}
 use Rattle.up_share.proofs.ToldLemmas.{on_ok}

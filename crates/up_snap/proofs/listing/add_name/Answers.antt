@@ -12,16 +12,16 @@ use Rattle.up_snap.proofs.listing.add_name.Goals as goal
 
 pub returns-then-not-may_bear : goal.returns-then-not-may_bear
 returns-then-not-may_bear c times naming =
-    naming_less c.args.shower.now c.args.dir.now c.args.time c.args.tree.now.log times _ naming c.requires.short
-    (not_so (is_under (shown_root c.args.shower.now c.args.time) c.args.dir.now) c.may_bear.result (c.may_bear.ensures c.args.shower.now) c.if-not-may_bear.true)
+    naming_less c.args.snap_user.now c.args.dir.now c.args.time c.args.tree.now.log times _ naming c.requires.short
+    (not_so (is_under (shown_root c.args.snap_user.now c.args.time) c.args.dir.now) c.may_bear.result (c.may_bear.ensures c.args.snap_user.now) c.if-not-may_bear.true)
 
 pub returns-in_default : goal.returns-in_default
 returns-in_default c times naming =
-    naming_without c.args.shower.now c.args.dir.now c.args.time c.args.tree.now.log times _ naming (sym c.snap_at.ensures ∙ c.in_default.is)
+    naming_without c.args.snap_user.now c.args.dir.now c.args.time c.args.tree.now.log times _ naming (sym c.snap_at.ensures ∙ c.in_default.is)
 
 pub returns-then-not-is_under : goal.returns-then-not-is_under
 returns-then-not-is_under c times naming =
-    naming_less c.args.shower.now c.args.dir.now c.args.time c.args.tree.now.log times _ naming c.requires.short
+    naming_less c.args.snap_user.now c.args.dir.now c.args.time c.args.tree.now.log times _ naming c.requires.short
     (ap (λ r. is_under r c.args.dir.now) (sym c.in_ok-root.ensures) ∙ (sym c.is_under.ensures ∙ c.if-not-is_under.true))
 
 pub front_of-requires : goal.front_of-requires
@@ -34,13 +34,13 @@ front_of-requires c =
 
 pub returns : goal.returns
 returns c =
-    let shower = c.args.shower.now in
+    let snap_user = c.args.snap_user.now in
     let dir = c.args.dir.now in
     let some = sooner_some (find path_cmp c.in_ok-name.name c.args.names.now.entries) (record { position = c.in-Some.position; time = c.args.time }) in
     on_ok_weaker c.put_first.result
     (λ put times naming.
-    subst (IsNaming shower c.args.tree.now.log dir _) (sym (put some.0 some.1))
-    (naming_more shower dir c.args.time c.args.tree.now.log times _ naming c.requires.short
+    subst (IsNaming snap_user c.args.tree.now.log dir _) (sym (put some.0 some.1))
+    (naming_more snap_user dir c.args.time c.args.tree.now.log times _ naming c.requires.short
     (ap (λ r. is_under r dir) (sym c.in_ok-root.ensures) ∙ (sym c.is_under.ensures ∙ c.if-not-is_under.false))
     c.in-Some.position (sym c.snap_at.ensures ∙ c.in-Some.is) c.in_ok-name.name
     (c.in_ok-name.ensures ∙ ap (λ n. cut (n + 1) c.in_ok-root.root) c.len.ensures ∙ ap (cut (length dir.elements + 1)) c.in_ok-root.ensures)

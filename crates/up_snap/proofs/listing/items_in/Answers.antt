@@ -1,6 +1,6 @@
 use Rattle.std.proofs.Common.{length, map, ap, sym, ◌∙◌, arith}
 use Rattle.up_list.specs.Founds.{entry_found}
-use Rattle.up_replay.specs.Fits.{snapshot_user}
+use Rattle.up_log_tree.specs.Fits.{snapshot_user}
 use Rattle.up_snap.specs.Shown.{first_to}
 use Rattle.up_snap.proofs.KeptLemmas.{first_below, first_taken}
 use Rattle.up_snap.proofs.MadeLemmas.{nothing_listed}

@@ -1,7 +1,7 @@
 use Rattle.std.proofs.Common.{map, ap, ◌∙◌}
 use Rattle.std.proofs.lemmas.Result.{IfOk-weaker}
 use Rattle.up_list.specs.Founds.{entry_found}
-use Rattle.up_replay.specs.Fits.{snapshot_user}
+use Rattle.up_log_tree.specs.Fits.{snapshot_user}
 use Rattle.up_snap.specs.Shown.{old_path}
 use Rattle.up_snap.proofs.KeptLemmas.{kept_done}
 use Rattle.up_snap.proofs.UnderLemmas.{below_of}

@@ -1,8 +1,8 @@
 use Rattle.std.proofs.Common.{filter, map, ap, sym, ◌∙◌}
 use Rattle.std.specs.Option.{option_copied, option_map}
 use Rattle.up_list.specs.Founds.{entry_found}
-use Rattle.up_nodes.specs.Slots.{named_paths}
-use Rattle.up_replay.specs.Trees.{is_parent}
+use Rattle.up_mem_tree.specs.Slots.{named_paths}
+use Rattle.up_log_tree.specs.Trees.{is_parent}
 use Rattle.up_snap.specs.Listed.{kept_entry}
 use Rattle.up_snap.proofs.ListedLemmas.{made_all, made_step}
 use Rattle.up_snap.proofs.listing.kept_under.Goals as goal

@@ -1,8 +1,8 @@
 use Rattle.std.proofs.Common.{◌≡◌, filter, map, take}
 use Rattle.std.specs.List.{filter_map}
 use Rattle.up_list.specs.Founds.{entry_found}
-use Rattle.up_nodes.specs.Slots.{named_paths}
-use Rattle.up_replay.specs.Trees.{is_parent}
+use Rattle.up_mem_tree.specs.Slots.{named_paths}
+use Rattle.up_log_tree.specs.Trees.{is_parent}
 use Rattle.up_snap.specs.Listed.{kept_entry}
 use Rattle.up_snap.proofs.listing.kept_under.Given as goal
 

@@ -2,7 +2,7 @@ use Rattle.std.proofs.Common.{ap, sym, ◌∙◌, refl}
 use Rattle.std.specs.Option.{option_copied, option_map}
 use Rattle.std.proofs.lemmas.Result.{IfOk-weaker}
 use Rattle.up_list.specs.Entries.{entry_of}
-use Rattle.up_replay.specs.Fits.{snapshot_user}
+use Rattle.up_log_tree.specs.Fits.{snapshot_user}
 use Rattle.up_snap.proofs.StandingLemmas.{first_moment, first_position, told_none, told_some}
 use Rattle.up_snap.proofs.listing.made_item.Goals as goal
 

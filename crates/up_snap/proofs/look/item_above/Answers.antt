@@ -1,7 +1,7 @@
 use Rattle.std.proofs.Common.{◌+◌, length, ap, sym, ◌∙◌, arith}
 use Rattle.std.proofs.lemmas.Result.{IfOk-weaker}
 use Rattle.up_list.specs.Entries.{entry_at}
-use Rattle.up_replay.specs.Fits.{snapshot_user}
+use Rattle.up_log_tree.specs.Fits.{snapshot_user}
 use Rattle.up_answers.specs.SnapshotTrees.{snapshots_to}
 use Rattle.up_snap.proofs.LookLemmas.{way_down, way_from, way_none, way_some}
 use Rattle.up_snap.proofs.PlacedLemmas.{shown_rooted}

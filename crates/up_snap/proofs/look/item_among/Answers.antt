@@ -4,7 +4,7 @@ use Rattle.std.proofs.lemmas.Result.{IfOk-weaker}
 use Rattle.up_list.specs.Founds.{entry_found}
 use Rattle.up_list.specs.Seen.{has_name}
 use Rattle.up_list.proofs.ViewLemmas.{named_is}
-use Rattle.up_replay.specs.Fits.{snapshot_user}
+use Rattle.up_log_tree.specs.Fits.{snapshot_user}
 use Rattle.up_answers.specs.SnapshotTrees.{snapshots_to}
 use Rattle.up_snap.specs.Looked.{first_named}
 use Rattle.up_snap.proofs.LookLemmas.{first_is_named}

@@ -14,9 +14,9 @@ returns-clause-dated c time moment front =
     (c.two_at-day.ensures.value ∙ (ap (λ text. two_at text 0) c.element_at-2.ensures ∙ day_read path time moment front))
 
 pub returns-clause-read : goal.returns-clause-read
-returns-clause-read c shower time moment under =
+returns-clause-read c snap_user time moment under =
     let path = c.args.path.now in
-    let front = front_below path shower time under in
+    let front = front_below path snap_user time under in
     c.day_number.ensures.read (time / 86400) (days_few path time moment front)
     (ap (λ n. n * 100 + c.two_at-2.result) c.two_at.ensures.value
     ∙ (ap (λ n. two_at c.element_at-year.result.now 0 * 100 + n) c.two_at-2.ensures.value

@@ -1,5 +1,5 @@
 use Rattle.std.proofs.Common.{sym, ◌∙◌}
-use Rattle.up_nodes.proofs.Tested.{fits_rules}
+use Rattle.up_mem_tree.proofs.Tested.{fits_rules}
 use Rattle.up_tree.proofs.replay.add_fitting.Goals as goal
 
 pub add-requires : goal.add-requires

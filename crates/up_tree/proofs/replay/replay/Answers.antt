@@ -2,7 +2,7 @@ use Rattle.std.proofs.Common.{ℕ, List, [], subst}
 use Rattle.up_journal.specs.Logs.{log_step}
 use Rattle.up_journal.specs.Opened.{IsDamageOf}
 use Rattle.up_journal.specs.Records.{replay}
-use Rattle.up_replay.specs.Fits.{fits}
+use Rattle.up_log_tree.specs.Fits.{fits}
 use Rattle.up_tree.specs.States.{record_in}
 use Rattle.up_tree.proofs.replay.replay.Goals as goal
 

@@ -5,8 +5,8 @@ use Rattle.up_journal.specs.Logs.{log_step}
 use Rattle.up_journal.specs.Records.{replay}
 use Rattle.up_journal.specs.declared.fault.ReadWhy.TheVariants as read_why
 use Rattle.up_journal.proofs.Records.{next_damaged, next_read, read_all, payload_read, size_seen, take_next}
-use Rattle.up_replay.specs.Fits.{fits}
-use Rattle.up_replay.specs.Sizes.{sizes_of}
+use Rattle.up_log_tree.specs.Fits.{fits}
+use Rattle.up_log_tree.specs.Sizes.{sizes_of}
 use Rattle.up_tree.specs.States.{record_in}
 use Rattle.up_tree.proofs.Sizes.{none_left}
 use Rattle.up_tree.proofs.Damages.{memory_damage, read_damage}

@@ -3,8 +3,8 @@ use Rattle.up_lists.specs.Counts.{HasCause, StaysUnless}
 use Rattle.up_journal.specs.Journal.{gate_behind}
 use Rattle.up_journal.specs.Logs.{log_step}
 use Rattle.up_journal.specs.Records.{OnlyPayloads, ReadUpTo}
-use Rattle.up_replay.specs.Fits.{fits}
-use Rattle.up_replay.specs.Sizes.{sizes_of}
+use Rattle.up_log_tree.specs.Fits.{fits}
+use Rattle.up_log_tree.specs.Sizes.{sizes_of}
 use Rattle.up_tree.specs.States.{record_in}
 use Rattle.up_tree.proofs.replay.take_all.Given as goal
 

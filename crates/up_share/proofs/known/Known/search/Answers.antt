@@ -1,8 +1,8 @@
 use Rattle.std.proofs.Common.{refl, ap, ◌∙◌}
 use Rattle.up_list.specs.Seen.{Seen}
 use Rattle.up_names.specs.PathOrder.{path_cmp}
-use Rattle.up_replay.specs.Rights.{facts_of, group_paths}
-use Rattle.up_replay.specs.Trees.{tree_of}
+use Rattle.up_log_tree.specs.Rights.{facts_of, group_paths}
+use Rattle.up_log_tree.specs.Trees.{tree_of}
 use Rattle.up_share.specs.Orders.{with_keys}
 use Rattle.up_share.specs.Readers.{lacking}
 use Rattle.up_share.proofs.KnownLemmas.{after_search}

@@ -13,4 +13,4 @@ returns-clause-rooted c =
 pub returns-clause-found : goal.returns-clause-found
 returns-clause-found c =
     subst (λ (l : Look). None ≡ governing_file l c.args._path.now) c.self.view_is
-    (nothing_governs c.self.inside.tree.now.owner c.self.inside.shower.now c.self.inside.tree.now.log c.self.inside.user.now c.self.invariant c.args._path.now)
+    (nothing_governs c.self.inside.tree.now.owner c.self.inside.snap_user.now c.self.inside.tree.now.log c.self.inside.user.now c.self.invariant c.args._path.now)

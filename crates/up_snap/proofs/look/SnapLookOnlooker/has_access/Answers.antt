@@ -1,6 +1,6 @@
 use Rattle.std.proofs.Common.{◌≡◌, subst}
 use Rattle.std.specs.Prelude.{IfOk, is_some}
-use Rattle.up_replay.specs.Rights.{access_node}
+use Rattle.up_log_tree.specs.Rights.{access_node}
 use Rattle.up_list.specs.Looks.{Look}
 use Rattle.up_snap.proofs.look.SnapLookOnlooker.has_access.Goals as goal
 

@@ -7,4 +7,4 @@ use Rattle.up_snap.proofs.look.SnapLookOnlooker.rights.Goals as goal
 pub returns : goal.returns
 returns c =
     subst (λ (l : Look). c.held_by.result ≡ rights l c.args._path.now) c.self.view_is
-    (c.held_by.ensures ∙ (ap (held_by c.self.inside.user.now) c.owner.ensures ∙ rights_at c.self.inside.tree.now.owner c.self.inside.shower.now c.self.inside.tree.now.log c.self.inside.user.now c.self.invariant c.args._path.now))
+    (c.held_by.ensures ∙ (ap (held_by c.self.inside.user.now) c.owner.ensures ∙ rights_at c.self.inside.tree.now.owner c.self.inside.snap_user.now c.self.inside.tree.now.log c.self.inside.user.now c.self.invariant c.args._path.now))

@@ -1,6 +1,6 @@
 use Rattle.std.proofs.Common.{◌≡◌, subst}
 use Rattle.std.specs.Prelude.{IfOk}
-use Rattle.up_replay.specs.Trees.{node_at}
+use Rattle.up_log_tree.specs.Trees.{node_at}
 use Rattle.up_list.specs.Reads.{file_text}
 use Rattle.up_list.specs.Looks.{Look}
 use Rattle.up_snap.proofs.look.SnapLookOnlooker.text.Goals as goal

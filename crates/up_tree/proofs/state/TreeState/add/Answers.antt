@@ -6,7 +6,7 @@ use Rattle.up_lists.proofs.Causes.{HasCause-weaker}
 use Rattle.up_journal.specs.Logs.{KeepsLog}
 use Rattle.up_journal.specs.declared.fault.AppendWhy.{AppendWhy}
 use Rattle.up_journal.specs.declared.fault.AppendWhy.TheVariants as append
-use Rattle.up_replay.specs.Fits.{Fits, fits}
+use Rattle.up_log_tree.specs.Fits.{Fits, fits}
 use Rattle.up_tree.specs.States.{Applies, State, record_in, state_of}
 use Rattle.up_tree.proofs.Applying.{applied, err_is, log_entered, no_memory, not_applied, read_again, spelled_rec}
 use Rattle.up_tree.proofs.state.TreeState.add.Given.{Over}

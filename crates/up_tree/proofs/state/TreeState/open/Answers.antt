@@ -1,5 +1,5 @@
 use Rattle.up_journal.proofs.Logs.{refuses_opened}
-use Rattle.up_replay.specs.Fits.{fits}
+use Rattle.up_log_tree.specs.Fits.{fits}
 use Rattle.up_tree.specs.States.{record_in}
 use Rattle.up_tree.proofs.Opening.{is_replayed, kept_by, opened_by, opens_by, refuses_by}
 use Rattle.up_tree.proofs.state.TreeState.open.Goals as goal

@@ -1,6 +1,6 @@
 use Rattle.up_entry.specs.Spelling as spelling
 use Rattle.up_journal.proofs.Logs.{keeps_doubtful, keeps_safe}
-use Rattle.up_replay.specs.Fits.{fits}
+use Rattle.up_log_tree.specs.Fits.{fits}
 use Rattle.up_tree.specs.States.{record_in}
 use Rattle.up_tree.proofs.state.TreeState.position.Goals as goal
 

@@ -2,7 +2,7 @@ use Rattle.std.proofs.Common.{refl, sym, ◌∙◌}
 use Rattle.up_entry.specs.Spelling as spelling
 use Rattle.up_journal.specs.Logs.{KeepsLog, ResolvesLog, log_state}
 use Rattle.up_journal.proofs.Logs.{resolves_log}
-use Rattle.up_replay.specs.Fits.{fits}
+use Rattle.up_log_tree.specs.Fits.{fits}
 use Rattle.up_tree.specs.States.{record_in, records_in}
 use Rattle.up_tree.proofs.state.TreeState.resolve.Given.{Over}
 use Rattle.up_tree.proofs.state.TreeState.resolve.Goals as goal

@@ -1,7 +1,7 @@
 use Rattle.std.proofs.Common.{◌≡◌, Some, false, ap, sym, ◌∙◌}
 use Rattle.up_policy.specs.Trees.{owns_snapshots}
-use Rattle.up_replay.specs.Rights.{governing_prefix}
-use Rattle.up_replay.specs.Trees.{tree_at}
+use Rattle.up_log_tree.specs.Rights.{governing_prefix}
+use Rattle.up_log_tree.specs.Trees.{tree_at}
 use Rattle.up_watch.specs.Watching.{after}
 use Rattle.up_watch.proofs.DecidedLemmas.{decided_already, rights_in}
 use Rattle.up_watch.proofs.decided.Decided.rights_after.Goals as goal

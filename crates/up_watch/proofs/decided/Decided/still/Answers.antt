@@ -1,5 +1,5 @@
 use Rattle.std.proofs.Common.{sym, subst, ap, ◌∙◌}
-use Rattle.up_nodes.specs.Groups.{StayTexts}
+use Rattle.up_mem_tree.specs.Groups.{StayTexts}
 use Rattle.up_watch.proofs.DecidedLemmas.{decided_still}
 use Rattle.up_watch.proofs.decided.Decided.still.Goals as goal
 

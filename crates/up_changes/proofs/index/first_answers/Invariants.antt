@@ -1,7 +1,0 @@
-use Rattle.std.proofs.Common.{drop}
-use Rattle.up_changes.specs.Places.{AreFirst}
-use Rattle.up_changes.proofs.index.first_answers.Given as goal
-
--- with what is left behind them
-abbrev pub invariant-loop-pair : goal.invariant-loop-pair
-invariant-loop-pair l = AreFirst l.answers.entries (drop l.pair-index l.fetched) l.fetched

@@ -1,0 +1,31 @@
+use Rattle.std.proofs.Common.{get_or, refl, ap, ◌∙◌, arith}
+use Rattle.std.specs.List.{flat_map}
+use Rattle.std.proofs.lemmas.List.{take_all}
+use Rattle.std.proofs.lemmas.Option.{slice_get-get_or}
+use Rattle.up_policy.specs.Reached.{with_paths}
+use Rattle.up_foreign.specs.Foreign.{needed_in, places_at}
+use Rattle.up_foreign.proofs.EventLemmas.{own_at, position_next}
+use Rattle.up_foreign.proofs.TimesLemmas.{both_none}
+use Rattle.up_foreign.proofs.needed.note_positions.Goals as goal
+
+-- none yet
+pub loop-position-init : goal.loop-position-init
+loop-position-init c = (both_none c.args.tree.now c.args.loaded.now c.new-times.result c.args.names.now c.new-times.ensures.current c.new-times.ensures.past, refl)
+
+pub note_record-requires-clause-change : goal.note_record-requires-clause-change
+note_record-requires-clause-change c = own_at c.args.tree.now c.args.positions.now c.loop-position.position-index 0 c.requires c.loop-position-test.true
+
+-- one position more
+pub loop-position-preserved : goal.loop-position-preserved
+loop-position-preserved c = (
+  c.in_ok-note_record.ensures.noted,
+  position_next (needed_in c.args.tree.now.owner c.args.loaded.now) c.args.tree.now.log c.args.positions.now c.loop-position.position-index (get_or c.args.positions.now c.loop-position.position-index 0)
+      c.args.names.now c.loop-position.names c.note_record.new.names (slice_get-get_or c.args.positions.now c.loop-position.position-index 0 c.loop-position-test.true) c.loop-position.invariant.1 c.in_ok-note_record.ensures.added,
+)
+
+-- all of them
+pub returns : goal.returns
+returns c =
+    c.loop-position.invariant.1
+    ∙ ap (λ ns. with_paths c.args.names.now (flat_map (needed_in c.args.tree.now.owner c.args.loaded.now) (flat_map (places_at c.args.tree.now.log) ns)))
+    (take_all c.loop-position.position-index c.args.positions.now (omega (arith, c.loop-position-test.false)))

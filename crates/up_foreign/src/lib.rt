@@ -1,0 +1,17 @@
+//! Which groups of other owners have to be loaded for a request.
+//!
+//! [`foreign`] over a tree and its log, and [`foreign_in`] over a tree in memory, give exactly the needed groups: those that are reached
+//! from the texts that govern the places at which the request looks (`up_answers/specs/Needs.antt`), without those that have an answer;
+//! [`foreign_asked`] does so for a request that was read before.
+//!
+//! A Glob looks at each item that its pattern can match, a Watch at the path of each record above its sequence that is under the watched
+//! path: in the tree as it is, and in the tree directly after the record. These records are found by their positions. A text that governs
+//! many of these places is searched once in the tree as it is, and in the trees before once, and again only where it or a Group file has
+//! changed since (`noted.rt`); each further place costs a look at the path.
+#![tactic(auto)]
+
+mod items;
+mod needed;
+mod noted;
+
+pub use needed::{foreign, foreign_asked, foreign_in};

@@ -1,7 +1,0 @@
--- The log of a tree in memory. This project's own.
-use Rattle.up_nodes.specs.MemTrees.{TreeLog}
-use Rattle.up_replay.specs.Logs.{Limits, Log}
-
--- its log, with limits that it does not keep
-abbrev pub log_over : Limits → TreeLog → Log
-log_over limits tree = record { owner = tree.owner; limits = limits; records = tree.log }

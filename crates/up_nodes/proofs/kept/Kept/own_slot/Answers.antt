@@ -1,4 +1,0 @@
-use Rattle.up_nodes.proofs.kept.Kept.own_slot.Goals as goal
-
-pub returns : goal.returns
-returns c = c.slot_with.ensures c.args.path.now c.id_of.ensures

@@ -1,5 +1,0 @@
-use Rattle.up_nodes.proofs.LogLaws.{told_by_rules}
-use Rattle.up_nodes.proofs.laws.fits_is_told_by_rules.Goals as goal
-
-pub returns : goal.returns
-returns c = told_by_rules
