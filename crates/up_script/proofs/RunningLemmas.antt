@@ -141,6 +141,7 @@ module _ {D P V C N : Type 0} (who : Parties D P V C N) (limits : Limits) where
         helper = λ is. absurd (cc);
         disk = λ is. absurd (cc);
         stays = h.stays;
+        blank = h.fit.blank;
       }
 
   -- no more could be written, or gathered: behind any number of lines
@@ -162,6 +163,7 @@ module _ {D P V C N : Type 0} (who : Parties D P V C N) (limits : Limits) where
     helper = λ is. absurd (let e : true ≡ is_cut 5 = sym cut ∙ ap is_cut is in cc);
     disk = λ is. absurd (let e : true ≡ is_cut 6 = sym cut ∙ ap is_cut is in cc);
     stays = h.stays;
+    blank = h.fit.blank;
   }
 
   helper_of : (why : LineStop) (status : ℕ) → status ≡ stop_code why → status ≡ 5 → why ≡ stop.HelperFault
@@ -210,6 +212,7 @@ module _ {D P V C N : Type 0} (who : Parties D P V C N) (limits : Limits) where
             let cut : is_cut status ≡ false = ap is_cut six in
             Rose-after (faults_in who.disks a.state) (faults_in who.disks b.state) (faults_in who.disks c.state) h.disks facts.disks (facts.disk_rose (came_as why stop.DiskFault (disk_of why status (code cut) six)));
         stays = all_then who.disks a.state b.state c.state h.stays facts.stays;
+        blank = h.fit.blank;
       }
 
   -- ---- by what the calls of the loop answer

@@ -1,7 +1,8 @@
 -- What a whole script means: from one world to another, what each line did there, what is printed, and how it ends. This project's own.
 use Rattle.std.specs.Prelude.{◌≡◌, ◌<◌, ◌-◌, ◌^◌, ◌≤◌, ◌⊎◌, ℕ, ◌+◌, ◌==◌, ◌||◌, Bool, false, List, [], ◌∷◌, ◌++◌, length, Option, Result, Ok, Err}
-use Rattle.std.specs.List.{flat_map, sum_by}
+use Rattle.std.specs.List.{AllByRecursion, flat_map, sum_by}
 use Rattle.std.specs.Io.KnownBytes.{Appends}
+use Rattle.up_disk.specs.Leaving.{IsBlank}
 use Rattle.up_ends.specs.Writing.{WritesPart}
 use Rattle.up_lists.specs.Counts.{Rose}
 use Rattle.up_lists.specs.Runs.{Run}
@@ -71,8 +72,10 @@ module _ {D P V C N : Type 0} (who : Parties D P V C N) (limits : Limits) where
     -- a fault of the verifier or of a disk has its cause
     pub helper : status ≡ 5 → Rose (who.verifiers.faults a.around.verifier) (who.verifiers.faults b.around.verifier)
     pub disk : status ≡ 6 → Rose (faults_in who.disks a.state) (faults_in who.disks b.state)
-    -- each disk stays in its place, and settled, or its count rose
+    -- each disk stays in its place, tells its content as before, and is settled, or its count rose
     pub stays : AllStayIn who.disks a.state b.state
+    -- behind the lines that were done the disks that no host has are blank
+    pub blank : AllByRecursion (IsBlank who.disks) last.state.free
 
 -- ---- what comes of a call
 
