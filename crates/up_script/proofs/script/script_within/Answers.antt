@@ -21,7 +21,7 @@ returns-in-Ok-clause-disk_fault g c = means_disk _ _ _ _ _ _ _ _ _ _ (λ status.
 -- a script with which nothing is wrong and under which nothing fails
 pub returns-in-Ok-clause-complete : goal.returns-in-Ok-clause-complete
 returns-in-Ok-clause-complete g c source sink helper disk =
-    read_whole _ _ _ _ _ _ _ _ _ _ _ (means_read _ _ c.deref.result.now c.in-Ok.input.items _ _ _ _ _ _ _ _ c.deref.ensures.value c.in-Ok.ensures.bytes c.run_script.ensures.means) c.run_script.ensures.status c.run_script.ensures.cause sink helper disk
+    read_whole _ _ _ _ _ _ _ _ _ _ _ _ (means_read _ _ c.deref.result.now c.in-Ok.input.items _ _ _ _ _ _ _ _ c.deref.ensures.value c.in-Ok.ensures.bytes c.run_script.ensures.means) c.run_script.ensures.status c.run_script.ensures.cause sink helper disk
 
 pub returns-in-Err-clause-complete : goal.returns-in-Err-clause-complete
 returns-in-Err-clause-complete g c source sink helper disk =
