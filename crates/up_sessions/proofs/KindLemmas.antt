@@ -1,5 +1,5 @@
 -- A host answers what was done by something of the kind that was asked for.
-use Rattle.std.proofs.Common.{◌≡◌, ◌⊎◌, ℕ, zero, suc, ◌+◌, Bool, true, false, not, ◌&&◌, ◌||◌, List, [], ◌∷◌, ◌++◌, length, inl, inr, refl, sym, ap, subst, ◌∙◌, Option, Some, None, Result, Ok, Err, bytes_eq, unwrap_or}
+use Rattle.std.proofs.Common.{◌≡◌, ◌⊎◌, ℕ, zero, suc, ◌+◌, Bool, true, false, not, ◌&&◌, ◌||◌, List, [], ◌∷◌, ◌++◌, length, take, inl, inr, refl, sym, ap, subst, ◌∙◌, Option, Some, None, Result, Ok, Err, bytes_eq, unwrap_or}
 use Rattle.std.specs.Prelude.{if◌then◌else◌, ℤ, nat_lt, ⊤, is_none, is_some, ◌==◌}
 use Rattle.std.specs.List.{list_any}
 use Rattle.std.specs.Option.{option_and_then, option_map, option_or}
@@ -510,8 +510,12 @@ call_kind operator a b q e (Outcome.Refused refused at plain own) = of_none q.re
 call_kind operator a b q e (Outcome.ByTree owner v w passed asked before after (inl answered)) =
     subst (OfKind q.request) (sym answered.0.reply.reply) (tree_kind _ q.user e.moment e.loaded e.fetched q.request)
 call_kind operator a b q e (Outcome.ByTree owner v w passed asked before after (inr failed)) = failed_kind q.request e.reply failed.0.io
-call_kind operator a b q e (Outcome.ByStore passed asked plain (inl answered)) = store_kind q.request _ answered.added _ e.reply (store_to operator q.user q.request _ _) answered.reply
+call_kind operator a b q e (Outcome.ByStore passed asked plain (inl answered)) =
+    store_kind q.request (take e.position b.store.seen) answered.added (store_leads operator q.user q.request b.store.fixed (take e.position b.store.seen)) e.reply
+    (store_to operator q.user q.request b.store.fixed (take e.position b.store.seen)) answered.reply
 call_kind operator a b q e (Outcome.ByStore passed asked plain (inr failed)) = failed_kind q.request e.reply failed.io
-call_kind operator a b q e (Outcome.ByKeys passed asked plain (inl answered)) = keys_kind q.request answered.added _ e.reply (keys_to q.user q.request _ _) answered.reply
+call_kind operator a b q e (Outcome.ByKeys passed asked plain (inl answered)) =
+    keys_kind q.request answered.added (key_leads q.user q.request b.keys.fixed (take e.position b.keys.seen)) e.reply
+    (keys_to q.user q.request b.keys.fixed (take e.position b.keys.seen)) answered.reply
 call_kind operator a b q e (Outcome.ByKeys passed asked plain (inr failed)) = failed_kind q.request e.reply failed.io
 call_kind operator a b q e (Outcome.Wanting none own) = subst (OfKind q.request) (sym none) tt

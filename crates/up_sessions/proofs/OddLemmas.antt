@@ -17,6 +17,7 @@ use Rattle.up_entry.specs.declared.entries.Kind.{Kind}
 use Rattle.up_entry.specs.declared.entries.Kind.TheVariants as kinds
 use Rattle.up_log_tree.specs.Trees.{is_link}
 use Rattle.up_names.specs.PathNames.{PathName, canonical}
+use Rattle.up_refs.specs.References.{text_of}
 use Rattle.up_sessions.proofs.KindLemmas.{IsBytes, IsChange, IsFileEntry, IsReference, KindIn, OfKind}
 use Rattle.up_wire.specs.declared.replies.Done.{Done}
 use Rattle.up_wire.specs.declared.replies.Done.TheVariants as dones
@@ -99,7 +100,7 @@ bytes_come (dones.Key known) kind = absurd kind
 
 fetched_comes : (endpoint : Endpoint) (i : ℕ) (block : Block) → ComesTo (Comes Any) (fetched_at endpoint i block)
 fetched_comes endpoints.Local i block =
-    after (λ reply kind. at_end (then_even IsBytes Any (outcome reply) (λ d. bytes_in d >>= λ bytes. fitting i block bytes) (outcome_comes IsBytes reply _ (λ d k. k) kind)
+    after (λ reply kind. at_end (then_even IsBytes Any (outcome reply) (λ d. bytes_in d >>= λ bytes. fitting i block bytes) (outcome_comes IsBytes reply (requests.Get (text_of block.location.reference)) (λ d k. k) kind)
     (λ d k. then_even Any Any (bytes_in d) (λ bytes. fitting i block bytes) (bytes_come d k) (λ bytes any. fitting_comes i block bytes))))
 fetched_comes (endpoints.Address address) i block = at_end tt
 
@@ -162,7 +163,7 @@ position_comes (dones.Key known) kind = absurd kind
 
 stored_comes : (piece : List ℕ) → ComesTo (Comes Any) (stored piece)
 stored_comes piece =
-    after (λ reply kind. at_end (then_even IsReference Any (outcome reply) (λ d. reference_in d >>= λ given. if bytes_eq given (sha256 piece) then Ok given else Err (client.Corrupt (sha256 piece) given)) (outcome_comes IsReference reply _ (λ d k. k) kind)
+    after (λ reply kind. at_end (then_even IsReference Any (outcome reply) (λ d. reference_in d >>= λ given. if bytes_eq given (sha256 piece) then Ok given else Err (client.Corrupt (sha256 piece) given)) (outcome_comes IsReference reply (requests.StorePut piece) (λ d k. k) kind)
     (λ d k. then_even Any Any (reference_in d) (λ given. if bytes_eq given (sha256 piece) then Ok given else Err (client.Corrupt (sha256 piece) given)) (reference_comes d k)
     (λ given any. either_comes Any (bytes_eq given (sha256 piece)) (Ok given) (Err (client.Corrupt (sha256 piece) given)) tt tt))))
 
