@@ -214,6 +214,7 @@ pub fn script_within<
 }
 
 /// Runs a script that was read whole, and answers the status with which that ended. All disks are back in their places then.
+#[tactic(auto, using(crate::proofs::ScriptRunLemmas::means_run))]
 fn run_script<D: Disk + Drop, P: Loader, K: Sink, V: Verifier, C: Clock, N: Nonces>(
     alloc: Global,
     random: RandomState,
