@@ -1,7 +1,6 @@
 -- The disks that no host has, behind each kind of line.
-use Rattle.std.proofs.Common.{◌≡◌, ◌+◌, ℕ, zero, suc, List, [], ◌∷◌, ◌++◌, length, take, drop, Option, Some, None, Result, Ok, Err, refl, sym, ap, subst, ◌∙◌}
+use Rattle.std.proofs.Common.{◌≡◌, ◌+◌, ℕ, zero, suc, List, [], ◌∷◌, ◌++◌, length, take, drop, Option, Some, None, Ok, Err, refl, sym, ap, subst, ◌∙◌}
 use Rattle.std.specs.List.{AllByRecursion}
-use Rattle.up_client.specs.declared.fault.ClientFault.{ClientFault}
 use Rattle.up_disk.specs.Leaving.{IsBlank}
 use Rattle.up_host.specs.Alone.{HostState}
 use Rattle.up_journal.specs.declared.limits.Limits.{Limits}

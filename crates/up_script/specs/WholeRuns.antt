@@ -7,7 +7,7 @@ use Rattle.up_journal.specs.declared.limits.Limits.{Limits}
 use Rattle.up_lists.specs.Runs.{Run}
 use Rattle.up_names.specs.Texts.{Text}
 use Rattle.up_sessions.specs.Handing.{all_disks}
-use Rattle.up_sessions.specs.Worlds.{Around, Hosts, Parties, World, faults_of}
+use Rattle.up_sessions.specs.Worlds.{Around, Hosts, Parties, faults_of}
 use Rattle.up_text.specs.Lines.{script_lines}
 use Rattle.up_script.specs.ScriptAnswers.{among}
 use Rattle.up_script.specs.ScriptRuns.{LineDoes, io_lines, printed}

@@ -1,12 +1,12 @@
 -- A client that is answered by what it asked for never tells of an odd reply.
-use Rattle.std.proofs.Common.{◌≡◌, ◌≢◌, ◌+◌, ℕ, ℤ, zero, suc, Bool, true, false, not, ◌==◌, nat_lt, if◌then◌else◌, List, [], ◌∷◌, ◌++◌, length, Option, Some, None, Result, Ok, Err, refl, subst}
+use Rattle.std.proofs.Common.{◌≡◌, ◌≢◌, ◌+◌, ℕ, ℤ, zero, suc, Bool, true, false, not, ◌==◌, nat_lt, if◌then◌else◌, List, [], ◌∷◌, ◌++◌, length, Option, Some, None, Result, Ok, Err, subst}
 use Rattle.std.specs.Str.{bytes_eq}
 use Rattle.sha2.specs.Sha256.{sha256}
 use Rattle.up_client.specs.Getting.{blocks_in, fetched_at, fetching, file_blocks, fitting, get_talk, joined_blocks, look_up_at, reading}
 use Rattle.up_client.specs.Links.{following, leads_to, led, short}
 use Rattle.up_client.specs.Putting.{block_at, entering, pieces_of, put_file_at, put_talk, stored, storing}
 use Rattle.up_client.specs.Replies.{◌>>=◌, bytes_in, outcome, position_in, reference_in}
-use Rattle.up_client.specs.Talks.{Held, Talking, and_then, asking, done, ended, heard, reply_to, unanswered, wanting}
+use Rattle.up_client.specs.Talks.{Held, Talking, and_then, asking, done, ended, heard, unanswered, wanting}
 use Rattle.up_client.specs.declared.fault.ClientFault.{ClientFault}
 use Rattle.up_client.specs.declared.fault.ClientFault.TheVariants as client
 use Rattle.up_entry.specs.declared.entries.Block.{Block}

@@ -8,7 +8,7 @@ use Rattle.up_entry.specs.declared.puts.PutEntry.{PutEntry}
 use Rattle.up_entry.specs.declared.what.What.TheVariants as what
 use Rattle.up_list.specs.Asking.{asked_of}
 use Rattle.up_list.specs.declared.asking.ReadRequest.{ReadRequest}
-use Rattle.up_list.specs.declared.asking.ReadRequest.TheVariants.{Lookup, WhichAccess, GroupText, Delete, Put, Glob, Watch}
+use Rattle.up_list.specs.declared.asking.ReadRequest.TheVariants.{Lookup, Put}
 use Rattle.up_names.specs.PathNames.{PathName}
 use Rattle.up_wire.specs.declared.requests.Request.{Request}
 use Rattle.up_wire.specs.declared.requests.Request.TheVariants as request
