@@ -114,9 +114,9 @@ joined_comes : (blocks : List Block) → ComesTo (Comes Any) (joined_blocks bloc
 joined_comes blocks = then_comes Any Any (fetching 0 blocks []) _ (fetching_comes 0 blocks []) (λ read any. at_end tt)
 
 kind_comes : (kind : Kind) (entry : Entry) → is_link kind ≡ false → Comes Any (file_blocks kind entry)
-kind_comes kinds.Link entry no = absurd (cc)
-kind_comes kinds.Directory entry no = tt
-kind_comes kinds.File entry no =
+kind_comes kinds.Link entry plain = absurd (cc)
+kind_comes kinds.Directory entry plain = tt
+kind_comes kinds.File entry plain =
     either_comes Any entry.attr.incomplete (Err client.NoRead) (if not (entry.packing == 1) then Err (client.Opaque entry.packing) else Ok entry.blocks) tt
     (either_comes Any (not (entry.packing == 1)) (Err (client.Opaque entry.packing)) (Ok entry.blocks) tt tt)
 
