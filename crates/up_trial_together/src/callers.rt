@@ -73,7 +73,7 @@ fn callers_at(
     Ok(callers)
 }
 
-#[tactic(auto, using(crate::proofs::CallerLemmas::each_more))]
+// One more of them.
 fn add_caller(
     alloc: Global,
     shared: &Shared<HostDisk>,
@@ -85,9 +85,13 @@ fn add_caller(
     ensures sits { AreSeats shared.now seats.new }
     ensures each { OnOk result (All (λ caller. AreSeats shared.now caller.seats) callers.new.items) }
 {
-    let seats = shared.split(alloc, seats)?;
-    let events = Vec::new(alloc);
-    callers.push(Caller { seats, events })?;
+    let Ok(other) = shared.split(alloc, seats) else {
+        return Err(AllocError);
+    };
+    callers.push(Caller {
+        seats: other,
+        events: Vec::new(alloc),
+    })?;
     Ok(())
 }
 

@@ -44,8 +44,8 @@ const SHARED: [Line; 9] = [
     ),
 ];
 
-/// Whether every reply to four callers of 1,000 requests each, who ask at once, is that of a host that is not shared, whose log has the records up
-/// to the reply's position.
+/// Whether every reply to four callers of 1,000 requests each, who ask at once, is that of a host that is not shared, whose log has the
+/// records up to the reply's position.
 pub fn are_right<R: Threads + Wait + Sync>(
     rt: &R,
     alloc: Global,

@@ -2,8 +2,8 @@
 //!
 //! What no clause can say is tried here: that a caller of one tree does not wait for a caller of another, that groups and blocks are
 //! loaded outside of the turn of the tree that is asked, and that one caller sees what another was told. A thread that waits for another
-//! does so for some turns at most, so that a trial in which one caller holds another up fails, and does not hang. At last four callers ask at
-//! once, and every reply is held against that of a host that is not shared.
+//! does so for some turns at most, so that a trial in which one caller holds another up fails, and does not hang. At last four callers
+//! ask at once, and every reply is held against that of a host that is not shared.
 //!
 //! The program prints how each trial came out; its status is 1 where one could not be made.
 #![tactic(auto)]

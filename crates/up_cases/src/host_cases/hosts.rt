@@ -7,35 +7,40 @@ use crate::host_cases::direct::direct_line;
 use crate::host_cases::lines::{enrol_line, key_line, text_line};
 use crate::host_cases::opening::{add_sizes, host_over, new_host};
 use crate::host_cases::peers::{Has, Kind, Told, ask_peer, ask_with, has_of, kind_of, tree};
+use crate::host_cases::sharing::Lines;
 use crate::host_cases::stopping::{Asked, add_images};
 use crate::host_cases::talking::{failing_line, many_line, prefixes_line, talk_line};
 use crate::host_cases::waiting::waits_line;
-use crate::host_cases::words::cut;
+use crate::host_cases::words::{cut, cut_asks};
 use std::alloc::Global;
 use std::hash::RandomState;
 use std::mem;
+use std::sync::Wait;
 use up_case_lines::{Answer, Fault, Topic, Words, user_of};
 use up_disk::{Disks, MemDisk};
 use up_host::{Host, TreePeer};
 
-/// The hosts that stand.
+/// The hosts that stand. What one is asked is asked of a shared one too, and a line that this answers otherwise says so.
 #[derive(Drop)]
-pub struct Hosts {
+pub struct Hosts<'a, R: Wait> {
+    rt: &'a R,
     random: RandomState,
     named: Vec<Named>,
 }
 
-/// A host, and its name.
+/// A host, its name, and the lines about it, where they can be asked of a shared one.
 #[derive(Drop)]
 struct Named {
     name: String,
     host: Host<MemDisk>,
+    lines: Option<Lines>,
 }
 
-impl Hosts {
+impl<'a, R: Wait> Hosts<'a, R> {
     /// No host. Names are hashed with these keys.
-    pub fn new(alloc: Global, random: RandomState) -> Hosts {
+    pub fn new(rt: &'a R, alloc: Global, random: RandomState) -> Hosts<'a, R> {
         Hosts {
+            rt,
             random,
             named: Vec::new(alloc),
         }
@@ -86,7 +91,11 @@ impl Hosts {
 
     fn add(&mut self, alloc: Global, name: &str, host: Host<MemDisk>) -> Result<(), Fault> {
         match name.to_string(alloc) {
-            Ok(name) => self.push(Named { name, host }),
+            Ok(name) => self.push(Named {
+                name,
+                host,
+                lines: None,
+            }),
             Err(_) => {
                 drop(host);
                 Err(Fault::OutOfMemory)
@@ -106,12 +115,13 @@ impl Hosts {
 }
 
 fn host_in(named: Named) -> Host<MemDisk> {
-    let Named { name, host } = named;
+    let Named { name, host, lines } = named;
     drop(name);
+    drop(lines);
     host
 }
 
-impl Topic for Hosts {
+impl<'a, R: Wait> Topic for Hosts<'a, R> {
     fn turn(&mut self, alloc: Global, line: &str, answer: &mut Answer) -> Result<(), Fault> {
         let mut words = Words::new(line);
         match words.word()? {
@@ -126,7 +136,7 @@ impl Topic for Hosts {
     }
 }
 
-impl Hosts {
+impl<'a, R: Wait> Hosts<'a, R> {
     // `host NAME OPERATOR OWNERS PLACE:CALL,CALL ..`: a host over empty disks.
     fn host_line(
         &mut self,
@@ -137,7 +147,69 @@ impl Hosts {
         let name = words.word()?;
         self.forget(name);
         let host = new_host(alloc, self.random, words, answer)?;
-        self.keep(alloc, name, host)
+        self.keep(alloc, name, host)?;
+        self.begin(alloc, name, words)
+    }
+
+    // The line that opened a host, if it stands, is the first of its lines.
+    fn begin(&mut self, alloc: Global, name: &str, words: Words<'_>) -> Result<(), Fault> {
+        let Some(place) = self.place(name) else {
+            return Ok(());
+        };
+        let mut lines = Lines::new(alloc);
+        let added = lines.add(alloc, "host", words);
+        self.named[place].lines = Some(lines);
+        added
+    }
+
+    // Says where a host that is shared answers otherwise than what was answered here.
+    fn compare(
+        &mut self,
+        alloc: Global,
+        keyword: &str,
+        name: &str,
+        words: Words<'_>,
+        text: &str,
+        answer: &mut Answer,
+    ) -> Result<(), Fault> {
+        if let Some(other) = self.shared_answer(alloc, keyword, name, words)? {
+            if other.as_str() != text {
+                answer.part();
+                answer.word("but shared");
+                answer.word(other.as_str());
+            }
+            drop(other);
+        }
+        Ok(())
+    }
+
+    // What a host that is shared answers to this line, where all lines of the host can be asked of it.
+    fn shared_answer(
+        &mut self,
+        alloc: Global,
+        keyword: &str,
+        name: &str,
+        words: Words<'_>,
+    ) -> Result<Option<String>, Fault> {
+        if keyword == "key" || keyword == "text" {
+            return Ok(None);
+        }
+        let (rt, random) = (self.rt, self.random);
+        let Some(place) = self.place(name) else {
+            return Ok(None);
+        };
+        let Some(lines) = &mut self.named[place].lines else {
+            return Ok(None);
+        };
+        if !lines.takes(keyword, words) {
+            self.named[place].lines = None;
+            return Ok(None);
+        }
+        lines.add(alloc, keyword, words)?;
+        if keyword == "enrol" {
+            return Ok(None);
+        }
+        Ok(Some(lines.answer(rt, alloc, random)?))
     }
 
     // `again NAME OPERATOR OWNERS`: a host over the disks of the host of this name, which it handed back.
@@ -194,20 +266,43 @@ impl Hosts {
         answer: &mut Answer,
     ) -> Result<(), Fault> {
         let mut told = Vec::new(alloc);
-        let asked = self.ask_told(alloc, &mut words, &mut told, answer);
+        let name = words.word()?;
+        let mut alone = Answer::new(alloc);
+        let asked = self.ask_told(alloc, name, words, &mut told, &mut alone);
         drop(told);
-        asked
+        self.told(alloc, "with", name, words, asked, alone, answer)
+    }
+
+    // Adds what was answered, and whether a host that is shared answers otherwise.
+    fn told(
+        &mut self,
+        alloc: Global,
+        keyword: &str,
+        name: &str,
+        words: Words<'_>,
+        asked: Result<(), Fault>,
+        alone: Answer,
+        answer: &mut Answer,
+    ) -> Result<(), Fault> {
+        let text = alone.finish()?;
+        answer.push(text.as_str());
+        let compared = match asked {
+            Ok(()) => self.compare(alloc, keyword, name, words, text.as_str(), answer),
+            Err(fault) => Err(fault),
+        };
+        drop(text);
+        compared
     }
 
     // Tells the peers, and asks the host that has them, which takes them.
     fn ask_told(
         &mut self,
         alloc: Global,
-        words: &mut Words<'_>,
+        name: &str,
+        words: Words<'_>,
         told: &mut Vec<Told>,
         answer: &mut Answer,
     ) -> Result<(), Fault> {
-        let name = words.word()?;
         let (peers, asks) = cut_asks(words.some()?)?;
         self.add_all(alloc, peers, told)?;
         let told = mem::replace(told, Vec::new(alloc));
@@ -303,7 +398,21 @@ impl Hosts {
         mut words: Words<'_>,
         answer: &mut Answer,
     ) -> Result<(), Fault> {
-        let host = self.get(words.word()?)?;
+        let name = words.word()?;
+        let mut alone = Answer::new(alloc);
+        let asked = self.alone(alloc, keyword, name, words, &mut alone);
+        self.told(alloc, keyword, name, words, asked, alone, answer)
+    }
+
+    fn alone(
+        &mut self,
+        alloc: Global,
+        keyword: &str,
+        name: &str,
+        words: Words<'_>,
+        answer: &mut Answer,
+    ) -> Result<(), Fault> {
+        let host = self.get(name)?;
         match keyword {
             "enrol" => enrol_line(alloc, host, words, answer),
             "key" => key_line(alloc, host, words, answer),
@@ -333,9 +442,4 @@ fn peer_of(alloc: Global, host: Host<MemDisk>, asker: &str) -> Result<TreePeer<M
             Err(fault)
         }
     }
-}
-
-// What stands before the first ` : `, and behind it.
-fn cut_asks(words: &str) -> Result<(&str, &str), Fault> {
-    words.split_once(" : ").ok_or(Fault::BadLine)
 }
