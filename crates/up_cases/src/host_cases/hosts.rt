@@ -7,7 +7,7 @@ use crate::host_cases::direct::direct_line;
 use crate::host_cases::lines::{enrol_line, key_line, text_line};
 use crate::host_cases::opening::{add_sizes, host_over, new_host};
 use crate::host_cases::peers::{Has, Kind, Told, ask_peer, ask_with, has_of, kind_of, tree};
-use crate::host_cases::sharing::Lines;
+use crate::host_cases::sharing::{Line, Lines};
 use crate::host_cases::stopping::{Asked, add_images};
 use crate::host_cases::talking::{failing_line, many_line, prefixes_line, talk_line};
 use crate::host_cases::waiting::waits_line;
@@ -28,12 +28,12 @@ pub struct Hosts<'a, R: Wait> {
     named: Vec<Named>,
 }
 
-/// A host, its name, and the lines about it, where they can be asked of a shared one.
+/// A host, its name, and the lines about it.
 #[derive(Drop)]
 struct Named {
     name: String,
     host: Host<MemDisk>,
-    lines: Option<Lines>,
+    lines: Lines,
 }
 
 impl<'a, R: Wait> Hosts<'a, R> {
@@ -94,7 +94,7 @@ impl<'a, R: Wait> Hosts<'a, R> {
             Ok(name) => self.push(Named {
                 name,
                 host,
-                lines: None,
+                lines: Lines::none(alloc),
             }),
             Err(_) => {
                 drop(host);
@@ -153,26 +153,39 @@ impl<'a, R: Wait> Hosts<'a, R> {
 
     // The line that opened a host, if it stands, is the first of its lines.
     fn begin(&mut self, alloc: Global, name: &str, words: Words<'_>) -> Result<(), Fault> {
-        let Some(place) = self.place(name) else {
-            return Ok(());
-        };
-        let mut lines = Lines::new(alloc);
-        let added = lines.add(alloc, "host", words);
-        self.named[place].lines = Some(lines);
-        added
+        match self.place(name) {
+            Some(place) => self.named[place].lines.begin(alloc, words),
+            None => Ok(()),
+        }
     }
 
-    // Says where a host that is shared answers otherwise than what was answered here.
+    // Adds what was answered, and what a host that is shared answers otherwise.
+    fn told(
+        &mut self,
+        alloc: Global,
+        line: Line<'_>,
+        asked: Result<(), Fault>,
+        alone: Answer,
+        answer: &mut Answer,
+    ) -> Result<(), Fault> {
+        let text = alone.finish()?;
+        answer.push(text.as_str());
+        let compared = match asked {
+            Ok(()) => self.compare(alloc, line, text.as_str(), answer),
+            Err(fault) => Err(fault),
+        };
+        drop(text);
+        compared
+    }
+
     fn compare(
         &mut self,
         alloc: Global,
-        keyword: &str,
-        name: &str,
-        words: Words<'_>,
+        line: Line<'_>,
         text: &str,
         answer: &mut Answer,
     ) -> Result<(), Fault> {
-        if let Some(other) = self.shared_answer(alloc, keyword, name, words)? {
+        if let Some(other) = self.shared_answer(alloc, line)? {
             if other.as_str() != text {
                 answer.part();
                 answer.word("but shared");
@@ -183,33 +196,13 @@ impl<'a, R: Wait> Hosts<'a, R> {
         Ok(())
     }
 
-    // What a host that is shared answers to this line, where all lines of the host can be asked of it.
-    fn shared_answer(
-        &mut self,
-        alloc: Global,
-        keyword: &str,
-        name: &str,
-        words: Words<'_>,
-    ) -> Result<Option<String>, Fault> {
-        if keyword == "key" || keyword == "text" {
-            return Ok(None);
-        }
+    // What a host that is shared answers to this line, where it can be asked.
+    fn shared_answer(&mut self, alloc: Global, line: Line<'_>) -> Result<Option<String>, Fault> {
         let (rt, random) = (self.rt, self.random);
-        let Some(place) = self.place(name) else {
-            return Ok(None);
-        };
-        let Some(lines) = &mut self.named[place].lines else {
-            return Ok(None);
-        };
-        if !lines.takes(keyword, words) {
-            self.named[place].lines = None;
-            return Ok(None);
+        match self.place(line.name) {
+            Some(place) => self.named[place].lines.answer(rt, alloc, random, line),
+            None => Ok(None),
         }
-        lines.add(alloc, keyword, words)?;
-        if keyword == "enrol" {
-            return Ok(None);
-        }
-        Ok(Some(lines.answer(rt, alloc, random)?))
     }
 
     // `again NAME OPERATOR OWNERS`: a host over the disks of the host of this name, which it handed back.
@@ -270,28 +263,12 @@ impl<'a, R: Wait> Hosts<'a, R> {
         let mut alone = Answer::new(alloc);
         let asked = self.ask_told(alloc, name, words, &mut told, &mut alone);
         drop(told);
-        self.told(alloc, "with", name, words, asked, alone, answer)
-    }
-
-    // Adds what was answered, and whether a host that is shared answers otherwise.
-    fn told(
-        &mut self,
-        alloc: Global,
-        keyword: &str,
-        name: &str,
-        words: Words<'_>,
-        asked: Result<(), Fault>,
-        alone: Answer,
-        answer: &mut Answer,
-    ) -> Result<(), Fault> {
-        let text = alone.finish()?;
-        answer.push(text.as_str());
-        let compared = match asked {
-            Ok(()) => self.compare(alloc, keyword, name, words, text.as_str(), answer),
-            Err(fault) => Err(fault),
+        let line = Line {
+            keyword: "with",
+            name,
+            words,
         };
-        drop(text);
-        compared
+        self.told(alloc, line, asked, alone, answer)
     }
 
     // Tells the peers, and asks the host that has them, which takes them.
@@ -399,21 +376,26 @@ impl<'a, R: Wait> Hosts<'a, R> {
         answer: &mut Answer,
     ) -> Result<(), Fault> {
         let name = words.word()?;
+        let line = Line {
+            keyword,
+            name,
+            words,
+        };
         let mut alone = Answer::new(alloc);
-        let asked = self.alone(alloc, keyword, name, words, &mut alone);
-        self.told(alloc, keyword, name, words, asked, alone, answer)
+        let asked = self.host_answer(alloc, line, &mut alone);
+        self.told(alloc, line, asked, alone, answer)
     }
 
-    fn alone(
+    // What the host itself answers.
+    fn host_answer(
         &mut self,
         alloc: Global,
-        keyword: &str,
-        name: &str,
-        words: Words<'_>,
+        line: Line<'_>,
         answer: &mut Answer,
     ) -> Result<(), Fault> {
-        let host = self.get(name)?;
-        match keyword {
+        let host = self.get(line.name)?;
+        let words = line.words;
+        match line.keyword {
             "enrol" => enrol_line(alloc, host, words, answer),
             "key" => key_line(alloc, host, words, answer),
             "text" => text_line(alloc, host, words, answer),

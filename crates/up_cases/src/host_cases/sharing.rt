@@ -16,55 +16,98 @@ use up_host::Host;
 use up_peer::Peers;
 use up_shared::{Seats, Shared};
 
-/// The lines about a host since it was opened, as long as no line was among them that is not asked of a host that is shared.
+/// A line about the host of a name: its keyword, the name, and the words behind it.
+#[derive(Clone, Copy)]
+pub struct Line<'a> {
+    pub keyword: &'a str,
+    pub name: &'a str,
+    pub words: Words<'a>,
+}
+
+/// The lines about a host since it was opened, as long as each of them can be asked of a host that is shared.
 #[derive(Drop)]
 pub struct Lines {
     lines: Vec<String>,
+    goes_on: bool,
     asks: bool,
 }
 
 impl Lines {
-    /// No line yet.
-    pub fn new(alloc: Global) -> Lines {
+    /// No lines, of a host that was opened otherwise than by a line.
+    pub fn none(alloc: Global) -> Lines {
         Lines {
             lines: Vec::new(alloc),
+            goes_on: false,
             asks: false,
         }
     }
 
-    /// Whether a line with these words behind the host's name can stand behind those that there are. The host is shared before the first
-    /// one that asks, and no peer is a whole host.
-    pub fn takes(&self, keyword: &str, words: Words<'_>) -> bool {
-        match keyword {
-            "enrol" => !self.asks,
-            "ask" => true,
-            "with" => !words.rest().unwrap_or("").contains("/host:"),
-            _ => false,
-        }
+    /// The line that opens the host has these words behind the name.
+    pub fn begin(&mut self, alloc: Global, words: Words<'_>) -> Result<(), Fault> {
+        self.goes_on = true;
+        self.add(alloc, "host", words)
     }
 
-    /// Adds the words behind the host's name, of a line that opens the host, enrols or asks.
-    pub fn add(&mut self, alloc: Global, keyword: &str, words: Words<'_>) -> Result<(), Fault> {
-        let rest = words.some()?;
-        self.lines.push(format!(in alloc; "{keyword} {rest}")?)?;
-        self.asks = self.asks || keyword == "ask" || keyword == "with";
-        Ok(())
-    }
-
-    /// What the last line is answered by a host that is shared.
+    /// What a host that is shared answers to this line, if it asks, and all lines before it can be asked of that host.
     pub fn answer<R: Wait>(
-        &self,
+        &mut self,
         rt: &R,
         alloc: Global,
         random: RandomState,
-    ) -> Result<String, Fault> {
-        let host = host_of(alloc, random, self.lines.as_slice())?;
-        let (shared, mut seats) = host.into_shared(alloc)?;
-        let answered = answer_all(rt, alloc, &shared, &mut seats, self.lines.as_slice());
-        drop(seats);
-        drop(shared);
-        answered
+        line: Line<'_>,
+    ) -> Result<Option<String>, Fault> {
+        if !self.takes(line) {
+            return Ok(None);
+        }
+        self.add(alloc, line.keyword, line.words)?;
+        if !self.asks {
+            return Ok(None);
+        }
+        Ok(Some(last_answer(rt, alloc, random, self.lines.as_slice())?))
     }
+
+    // Whether a line is one of those that are asked once more. A key or a text is looked for in a host that is not shared alone, and changes
+    // nothing; no record is enrolled in a host once it is shared, and none of its peers is a whole host.
+    fn takes(&mut self, line: Line<'_>) -> bool {
+        match line.keyword {
+            "key" | "text" => false,
+            "enrol" => self.goes_on_where(!self.asks),
+            "ask" => self.asks_where(true),
+            "with" => self.asks_where(!line.words.rest().unwrap_or("").contains("/host:")),
+            _ => self.goes_on_where(false),
+        }
+    }
+
+    fn asks_where(&mut self, fits: bool) -> bool {
+        self.asks = true;
+        self.goes_on_where(fits)
+    }
+
+    fn goes_on_where(&mut self, fits: bool) -> bool {
+        self.goes_on = self.goes_on && fits;
+        self.goes_on
+    }
+
+    fn add(&mut self, alloc: Global, keyword: &str, words: Words<'_>) -> Result<(), Fault> {
+        let rest = words.some()?;
+        self.lines.push(format!(in alloc; "{keyword} {rest}")?)?;
+        Ok(())
+    }
+}
+
+// What the last line is answered by a host that is shared.
+fn last_answer<R: Wait>(
+    rt: &R,
+    alloc: Global,
+    random: RandomState,
+    lines: &[String],
+) -> Result<String, Fault> {
+    let host = host_of(alloc, random, lines)?;
+    let (shared, mut seats) = host.into_shared(alloc)?;
+    let answered = shared_answer(rt, alloc, &shared, &mut seats, lines);
+    drop(seats);
+    drop(shared);
+    answered
 }
 
 // The host that the first line opens, with those that enrol.
@@ -110,7 +153,7 @@ fn enrol_one(alloc: Global, host: &mut Host<MemDisk>, line: &str) -> Result<(), 
 }
 
 // Asks all lines that ask, and gives the last answer.
-fn answer_all<R: Wait>(
+fn shared_answer<R: Wait>(
     rt: &R,
     alloc: Global,
     shared: &Shared<MemDisk>,
@@ -120,10 +163,10 @@ fn answer_all<R: Wait>(
     requires { AreSeats shared.now seats.old }
 {
     let mut caller = Caller { rt, shared, seats };
-    last_answer(alloc, &mut caller, lines)
+    ask_all(alloc, &mut caller, lines)
 }
 
-fn last_answer<S: Served>(alloc: Global, host: &mut S, lines: &[String]) -> Result<String, Fault> {
+fn ask_all<S: Served>(alloc: Global, host: &mut S, lines: &[String]) -> Result<String, Fault> {
     let mut last = String::new(alloc);
     for line in lines {
         last = answer_of(alloc, host, line.as_str())?;
