@@ -21,18 +21,18 @@ const THREADS: usize = 8;
 
 /// A caller's seats, and what came of its requests.
 #[derive(Drop)]
-pub struct Caller {
-    seats: Seats<HostDisk>,
+pub struct Caller<'d> {
+    seats: Seats<HostDisk<'d>>,
     pub events: Vec<Event>,
 }
 
 /// Shares a host between as many callers as there are plans, which all ask at once.
-pub fn ask_at_once<R: Threads + Wait + Sync>(
+pub fn ask_at_once<'d, R: Threads + Wait + Sync>(
     rt: &R,
     alloc: Global,
-    host: Host<HostDisk>,
+    host: Host<HostDisk<'d>>,
     plans: &[Plan<'_>],
-) -> Result<Vec<Caller>, AllocError> {
+) -> Result<Vec<Caller<'d>>, AllocError> {
     let (shared, mut seats) = host.into_shared(alloc)?;
     let came = share(rt, alloc, &shared, &mut seats, plans);
     drop(seats);
@@ -40,13 +40,13 @@ pub fn ask_at_once<R: Threads + Wait + Sync>(
     came
 }
 
-fn share<R: Threads + Wait + Sync>(
+fn share<'d, R: Threads + Wait + Sync>(
     rt: &R,
     alloc: Global,
-    shared: &Shared<HostDisk>,
-    seats: &mut Seats<HostDisk>,
+    shared: &Shared<HostDisk<'d>>,
+    seats: &mut Seats<HostDisk<'d>>,
     plans: &[Plan<'_>],
-) -> Result<Vec<Caller>, AllocError>
+) -> Result<Vec<Caller<'d>>, AllocError>
     requires { AreSeats shared.now seats.old }
 {
     let mut callers = callers_at(alloc, shared, seats, plans.len())?;
@@ -56,12 +56,12 @@ fn share<R: Threads + Wait + Sync>(
 
 // So many callers, each with seats that were split off from these.
 #[tactic(auto, using(crate::proofs::CallerLemmas::none_each))]
-fn callers_at(
+fn callers_at<'d>(
     alloc: Global,
-    shared: &Shared<HostDisk>,
-    seats: &mut Seats<HostDisk>,
+    shared: &Shared<HostDisk<'d>>,
+    seats: &mut Seats<HostDisk<'d>>,
     count: usize,
-) -> Result<Vec<Caller>, AllocError>
+) -> Result<Vec<Caller<'d>>, AllocError>
     requires { AreSeats shared.now seats.old }
     ensures { IfOk result (λ callers.
         All (λ caller. AreSeats shared.now caller.seats) callers.items) }
@@ -74,11 +74,11 @@ fn callers_at(
 }
 
 // One more of them.
-fn add_caller(
+fn add_caller<'d>(
     alloc: Global,
-    shared: &Shared<HostDisk>,
-    seats: &mut Seats<HostDisk>,
-    callers: &mut Vec<Caller>,
+    shared: &Shared<HostDisk<'d>>,
+    seats: &mut Seats<HostDisk<'d>>,
+    callers: &mut Vec<Caller<'d>>,
 ) -> Result<(), AllocError>
     requires sits { AreSeats shared.now seats.old }
     requires each { All (λ caller. AreSeats shared.now caller.seats) callers.old.items }
@@ -96,12 +96,12 @@ fn add_caller(
 }
 
 // Runs all callers at once, each by the plan at its place.
-fn run_all<R: Threads + Wait + Sync>(
+fn run_all<'d, R: Threads + Wait + Sync>(
     rt: &R,
     alloc: Global,
-    shared: &Shared<HostDisk>,
+    shared: &Shared<HostDisk<'d>>,
     plans: &[Plan<'_>],
-    callers: &mut [Caller],
+    callers: &mut [Caller<'d>],
 )
     requires { All (λ caller. AreSeats shared.now caller.seats) callers.old }
 {
@@ -109,17 +109,17 @@ fn run_all<R: Threads + Wait + Sync>(
         rt,
         callers,
         THREADS,
-        &|k, caller: &mut Caller| caller.run(rt, alloc, shared, plans, k),
+        &|k, caller: &mut Caller<'d>| caller.run(rt, alloc, shared, plans, k),
     );
 }
 
-impl Caller {
+impl<'d> Caller<'d> {
     // Asks what the plan at a place has.
     fn run<R: Wait>(
         &mut self,
         rt: &R,
         alloc: Global,
-        shared: &Shared<HostDisk>,
+        shared: &Shared<HostDisk<'d>>,
         plans: &[Plan<'_>],
         k: usize,
     )
@@ -148,7 +148,7 @@ impl Caller {
         &mut self,
         rt: &R,
         alloc: Global,
-        shared: &Shared<HostDisk>,
+        shared: &Shared<HostDisk<'d>>,
         others: &mut Others<'_>,
         plan: &Plan<'_>,
     )
@@ -164,7 +164,7 @@ impl Caller {
         &mut self,
         rt: &R,
         alloc: Global,
-        shared: &Shared<HostDisk>,
+        shared: &Shared<HostDisk<'d>>,
         others: &mut Others<'_>,
         session: &Session,
         request: &Request,

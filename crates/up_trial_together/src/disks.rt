@@ -3,37 +3,36 @@ ghost use Rattle.std.specs.Prelude.{◌≡◌, ◌+◌, length, IfOk, OnOk};
 
 use crate::waits::WaitsInSync;
 use std::alloc::{AllocError, Global};
-use std::sync::Arc;
 use std::sync::atomic::AtomicU64;
 use up_disk::{Disks, HookDisk, MemDisk};
 use up_lists::Items;
 
-pub type HostDisk = HookDisk<WaitsInSync>;
+pub type HostDisk<'a> = HookDisk<WaitsInSync<'a>>;
 
-/// Empty disks, of two trees, a store and keys. That of the first tree waits in each sync while the flag is armed.
-pub fn empty_disks(
+/// Empty disks, of two trees, a store and keys. That of the first tree waits in each sync while the first flag is armed, the others while
+/// the second one is.
+pub fn empty_disks<'a>(
     alloc: Global,
-    flag: &Arc<AtomicU64, Global>,
-) -> Result<Disks<HostDisk>, AllocError>
+    first: &'a AtomicU64,
+    others: &'a AtomicU64,
+) -> Result<Disks<HostDisk<'a>>, AllocError>
     ensures { IfOk result (λ disks. length disks.disks ≡ 4) }
 {
-    let never = Arc::new(alloc, AtomicU64::new(0))?;
     let mut disks = Disks::new(alloc);
-    add_disk(alloc, &mut disks, flag)?;
-    add_disk(alloc, &mut disks, &never)?;
-    add_disk(alloc, &mut disks, &never)?;
-    add_disk(alloc, &mut disks, &never)?;
+    add_disk(alloc, &mut disks, first)?;
+    add_disk(alloc, &mut disks, others)?;
+    add_disk(alloc, &mut disks, others)?;
+    add_disk(alloc, &mut disks, others)?;
     Ok(disks)
 }
 
-fn add_disk(
+fn add_disk<'a>(
     alloc: Global,
-    disks: &mut Disks<HostDisk>,
-    flag: &Arc<AtomicU64, Global>,
+    disks: &mut Disks<HostDisk<'a>>,
+    flag: &'a AtomicU64,
 ) -> Result<(), AllocError>
     ensures { OnOk result (length disks.new.disks ≡ length disks.old.disks + 1) }
 {
-    let flag = Arc::try_clone(flag)?;
     let disk = MemDisk::new(alloc, Items::new(alloc));
     disks.push(HookDisk::new(disk, WaitsInSync { flag }))?;
     Ok(())

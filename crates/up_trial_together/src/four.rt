@@ -1,8 +1,8 @@
 //! Four callers at once on two trees.
-use crate::callers::ask_at_once;
-use crate::hosts::{Line, plain_host};
+use crate::callers::{Caller, ask_at_once};
+use crate::hosts::{Line, host_with};
 use crate::judging::right_replies;
-use crate::plans::{Part, Plan};
+use crate::plans::{Part, Plan, add_plan, plan_with};
 use crate::users::{request_of, session_of};
 use std::alloc::{AllocError, Global};
 use std::hash::RandomState;
@@ -51,22 +51,48 @@ pub fn are_right<R: Threads + Wait + Sync>(
     alloc: Global,
     random: RandomState,
 ) -> Result<bool, AllocError> {
-    let flag = AtomicU64::new(0);
-    let plans = four_plans(alloc, &flag)?;
-    let host = plain_host(alloc, random, SHARED.as_slice())?;
-    let came = ask_at_once(rt, alloc, host, plans.as_slice())?;
-    let mut alone = plain_host(alloc, random, SHARED.as_slice())?;
-    let right = right_replies(alloc, &mut alone, plans.as_slice(), came.as_slice());
-    Ok(right == 4 * ASKS)
+    let never = AtomicU64::new(0);
+    let plans = four_plans(alloc, &never)?;
+    let right = right_among(rt, alloc, random, &never, plans.as_slice());
+    drop(plans);
+    Ok(right? == 4 * ASKS)
+}
+
+// How many replies are right to callers who ask by these plans at once.
+fn right_among<R: Threads + Wait + Sync>(
+    rt: &R,
+    alloc: Global,
+    random: RandomState,
+    never: &AtomicU64,
+    plans: &[Plan<'_>],
+) -> Result<u64, AllocError> {
+    let host = host_with(alloc, random, never, never, SHARED.as_slice())?;
+    let came = ask_at_once(rt, alloc, host, plans)?;
+    let right = right_against(alloc, random, never, plans, came.as_slice());
+    drop(came);
+    right
+}
+
+// How many are those of a host of its own, which begins as theirs did.
+fn right_against(
+    alloc: Global,
+    random: RandomState,
+    never: &AtomicU64,
+    plans: &[Plan<'_>],
+    callers: &[Caller<'_>],
+) -> Result<u64, AllocError> {
+    let mut alone = host_with(alloc, random, never, never, SHARED.as_slice())?;
+    let right = right_replies(alloc, &mut alone, plans, callers);
+    drop(alone);
+    Ok(right)
 }
 
 // Callers 0 and 2 ask as Ann, 1 and 3 as Bob.
 fn four_plans(alloc: Global, flag: &AtomicU64) -> Result<Vec<Plan<'_>>, AllocError> {
     let mut plans = Vec::new(alloc);
-    plans.push(plan_of(alloc, flag, ANN, BOB)?)?;
-    plans.push(plan_of(alloc, flag, BOB, ANN)?)?;
-    plans.push(plan_of(alloc, flag, ANN, BOB)?)?;
-    plans.push(plan_of(alloc, flag, BOB, ANN)?)?;
+    for (who, other) in [(ANN, BOB), (BOB, ANN), (ANN, BOB), (BOB, ANN)] {
+        add_plan(&mut plans, plan_of(alloc, flag, who, other))?;
+    }
     Ok(plans)
 }
 
@@ -78,13 +104,8 @@ fn plan_of<'a>(
     other: &str,
 ) -> Result<Plan<'a>, AllocError> {
     let session = session_of(alloc, who)?;
-    let requests = requests_of(alloc, session.user(), who, other)?;
-    Ok(Plan {
-        session,
-        requests,
-        flag,
-        part: Part::None,
-    })
+    let requests = requests_of(alloc, session.user(), who, other);
+    plan_with(session, requests, flag, Part::None)
 }
 
 fn requests_of(

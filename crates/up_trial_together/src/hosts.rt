@@ -6,7 +6,6 @@ use crate::users::{HOST, request_of, session_of, user_named};
 use crate::waits::Others;
 use std::alloc::{AllocError, Global};
 use std::hash::RandomState;
-use std::sync::Arc;
 use std::sync::atomic::AtomicU64;
 use up_calls::Event;
 use up_host::Host;
@@ -30,14 +29,15 @@ const WIDE: Limits = Limits {
 pub type Line = (&'static str, &'static str);
 
 /// A host of the trees of Ann and Bob that was asked these lines and answered each with Ok. The disk of Ann's tree waits in each sync
-/// while the flag is armed.
-pub fn host_with(
+/// while the first flag is armed, the others while the second one is.
+pub fn host_with<'a>(
     alloc: Global,
     random: RandomState,
-    flag: &Arc<AtomicU64, Global>,
+    first: &'a AtomicU64,
+    others: &'a AtomicU64,
     lines: &[Line],
-) -> Result<Host<HostDisk>, AllocError> {
-    let mut host = open_host(alloc, random, flag)?;
+) -> Result<Host<HostDisk<'a>>, AllocError> {
+    let mut host = open_host(alloc, random, first, others)?;
     match ask_lines(alloc, &mut host, lines) {
         Ok(()) => Ok(host),
         Err(failed) => {
@@ -47,18 +47,12 @@ pub fn host_with(
     }
 }
 
-/// The same, of which no disk waits.
-pub fn plain_host(
-    alloc: Global,
-    random: RandomState,
-    lines: &[Line],
-) -> Result<Host<HostDisk>, AllocError> {
-    let never = Arc::new(alloc, AtomicU64::new(0))?;
-    host_with(alloc, random, &never, lines)
-}
-
 // Asks all lines. An `Err` is a reply that is not Ok, or want of memory.
-fn ask_lines(alloc: Global, host: &mut Host<HostDisk>, lines: &[Line]) -> Result<(), AllocError> {
+fn ask_lines(
+    alloc: Global,
+    host: &mut Host<HostDisk<'_>>,
+    lines: &[Line],
+) -> Result<(), AllocError> {
     for (who, line) in lines.iter().copied() {
         ask_line(alloc, host, who, line)?;
     }
@@ -67,23 +61,44 @@ fn ask_lines(alloc: Global, host: &mut Host<HostDisk>, lines: &[Line]) -> Result
 
 fn ask_line(
     alloc: Global,
-    host: &mut Host<HostDisk>,
+    host: &mut Host<HostDisk<'_>>,
     who: &str,
     line: &str,
 ) -> Result<(), AllocError> {
     let session = session_of(alloc, who)?;
+    let asked = ask_as(alloc, host, &session, line);
+    drop(session);
+    asked
+}
+
+fn ask_as(
+    alloc: Global,
+    host: &mut Host<HostDisk<'_>>,
+    session: &Session,
+    line: &str,
+) -> Result<(), AllocError> {
     let request = request_of(alloc, session.user(), line)?;
-    let event = ask_alone(alloc, host, &session, &request);
-    match event.reply {
-        Reply::Ok(_) => Ok(()),
-        _ => Err(AllocError),
-    }
+    let good = is_good(alloc, host, session, &request);
+    drop(request);
+    if good { Ok(()) } else { Err(AllocError) }
+}
+
+fn is_good(
+    alloc: Global,
+    host: &mut Host<HostDisk<'_>>,
+    session: &Session,
+    request: &Request,
+) -> bool {
+    let event = ask_alone(alloc, host, session, request);
+    let good = matches!(&event.reply, Reply::Ok(_));
+    drop(event);
+    good
 }
 
 /// What comes of a request to a host that is not shared, of which nothing else is known.
 pub fn ask_alone(
     alloc: Global,
-    host: &mut Host<HostDisk>,
+    host: &mut Host<HostDisk<'_>>,
     session: &Session,
     request: &Request,
 ) -> Event {
@@ -92,17 +107,18 @@ pub fn ask_alone(
 }
 
 // The host, with both trees, over empty disks. An `Err` is want of memory.
-fn open_host(
+fn open_host<'a>(
     alloc: Global,
     random: RandomState,
-    flag: &Arc<AtomicU64, Global>,
-) -> Result<Host<HostDisk>, AllocError> {
+    first: &'a AtomicU64,
+    others: &'a AtomicU64,
+) -> Result<Host<HostDisk<'a>>, AllocError> {
     let operator = user_named(alloc, b"op@h.example")?;
     let Ok(owners) = owners(alloc) else {
         drop(operator);
         return Err(AllocError);
     };
-    let Ok(disks) = empty_disks(alloc, flag) else {
+    let Ok(disks) = empty_disks(alloc, first, others) else {
         drop(operator);
         drop(owners);
         return Err(AllocError);

@@ -14,9 +14,9 @@ use up_wire::{Done, Reply, Request};
 /// records up to a reply's position when it was asked.
 pub fn right_replies(
     alloc: Global,
-    host: &mut Host<HostDisk>,
+    host: &mut Host<HostDisk<'_>>,
     plans: &[Plan<'_>],
-    callers: &[Caller],
+    callers: &[Caller<'_>],
 ) -> u64 {
     let mut right: u64 = 0;
     for position in 0..=last_position(callers) {
@@ -27,7 +27,7 @@ pub fn right_replies(
     right
 }
 
-fn last_position(callers: &[Caller]) -> u64 {
+fn last_position(callers: &[Caller<'_>]) -> u64 {
     let mut last = 0;
     for caller in callers.iter() {
         for event in caller.events.iter() {
@@ -40,9 +40,9 @@ fn last_position(callers: &[Caller]) -> u64 {
 // Of the replies at a position that added a record, or of those that did not.
 fn right_at(
     alloc: Global,
-    host: &mut Host<HostDisk>,
+    host: &mut Host<HostDisk<'_>>,
     plans: &[Plan<'_>],
-    callers: &[Caller],
+    callers: &[Caller<'_>],
     position: u64,
     changes: bool,
 ) -> u64 {
@@ -55,9 +55,9 @@ fn right_at(
 
 fn right_of(
     alloc: Global,
-    host: &mut Host<HostDisk>,
+    host: &mut Host<HostDisk<'_>>,
     plan: &Plan<'_>,
-    caller: &Caller,
+    caller: &Caller<'_>,
     position: u64,
     changes: bool,
 ) -> u64 {
@@ -75,7 +75,7 @@ fn right_of(
 
 fn is_right(
     alloc: Global,
-    host: &mut Host<HostDisk>,
+    host: &mut Host<HostDisk<'_>>,
     session: &Session,
     request: &Request,
     event: &Event,

@@ -3,7 +3,7 @@ use crate::users::{request_of, session_of};
 use std::alloc::{AllocError, Global};
 use std::sync::atomic::AtomicU64;
 use up_bytes::copy_of;
-use up_entry::{Block, Endpoint, Location};
+use up_entry::{Block, Endpoint, Location, PutEntry};
 use up_lists::Items;
 use up_names::User;
 use up_refs::Reference;
@@ -50,39 +50,86 @@ pub fn plans_of<'a>(
 ) -> Result<Vec<Plan<'a>>, AllocError> {
     let mut plans = Vec::new(alloc);
     for asking in asked.iter().copied() {
-        plans.push(plan_of(alloc, flag, asking)?)?;
+        add_plan(&mut plans, plan_of(alloc, flag, asking))?;
     }
     Ok(plans)
 }
 
+/// Adds a plan, if it could be made.
+pub fn add_plan<'a>(
+    plans: &mut Vec<Plan<'a>>,
+    plan: Result<Plan<'a>, AllocError>,
+) -> Result<(), AllocError> {
+    plans.push(plan?)?;
+    Ok(())
+}
+
+/// The plan to ask these requests, if they could be made.
+pub fn plan_with<'a>(
+    session: Session,
+    requests: Result<Vec<Request>, AllocError>,
+    flag: &'a AtomicU64,
+    part: Part,
+) -> Result<Plan<'a>, AllocError> {
+    match requests {
+        Ok(requests) => Ok(Plan {
+            session,
+            requests,
+            flag,
+            part,
+        }),
+        Err(failed) => {
+            drop(session);
+            Err(failed)
+        }
+    }
+}
+
 fn plan_of<'a>(alloc: Global, flag: &'a AtomicU64, asking: Asking) -> Result<Plan<'a>, AllocError> {
     let session = session_of(alloc, asking.who)?;
+    let requests = one_request(alloc, session.user(), asking);
+    plan_with(session, requests, flag, asking.part)
+}
+
+fn one_request(alloc: Global, user: &User, asking: Asking) -> Result<Vec<Request>, AllocError> {
     let mut requests = Vec::new(alloc);
-    requests.push(request_asked(alloc, session.user(), asking)?)?;
-    Ok(Plan {
-        session,
-        requests,
-        flag,
-        part: asking.part,
-    })
+    requests.push(request_asked(alloc, user, asking)?)?;
+    Ok(requests)
 }
 
 fn request_asked(alloc: Global, user: &User, asking: Asking) -> Result<Request, AllocError> {
     let request = request_of(alloc, user, asking.line)?;
-    match asking.elsewhere {
-        Some(text) => with_block(request, block_of(alloc, text)),
-        None => Ok(request),
+    let Some(text) = asking.elsewhere else {
+        return Ok(request);
+    };
+    match block_of(alloc, text) {
+        Ok(block) => with_block(request, block),
+        Err(failed) => {
+            drop(request);
+            Err(failed)
+        }
     }
 }
 
 // The file that is put has this block besides.
-fn with_block(request: Request, block: Result<Block, AllocError>) -> Result<Request, AllocError> {
+fn with_block(request: Request, block: Block) -> Result<Request, AllocError> {
     match request {
-        Request::Put(mut put) => {
-            put.blocks.push(block?)?;
-            Ok(Request::Put(put))
+        Request::Put(put) => with_one_more(put, block),
+        other => {
+            drop(block);
+            Ok(other)
         }
-        other => Ok(other),
+    }
+}
+
+fn with_one_more(mut put: PutEntry, block: Block) -> Result<Request, AllocError> {
+    match put.blocks.push(block) {
+        Ok(()) => Ok(Request::Put(put)),
+        Err(refused) => {
+            drop(refused);
+            drop(put);
+            Err(AllocError)
+        }
     }
 }
 

@@ -1,13 +1,13 @@
 //! What need not wait for another caller, and what one caller sees of another.
 use crate::callers::{Caller, ask_at_once};
 use crate::disks::HostDisk;
-use crate::hosts::{Line, host_with, plain_host};
+use crate::hosts::{Line, host_with};
 use crate::plans::{Asking, Part, plans_of};
 use crate::waits::{arm, is_in_time};
 use std::alloc::{AllocError, Global};
 use std::hash::RandomState;
 use std::sync::atomic::AtomicU64;
-use std::sync::{Arc, Wait};
+use std::sync::Wait;
 use std::thread::Threads;
 use up_host::Host;
 use up_wire::{Done, Reply};
@@ -135,38 +135,40 @@ pub fn comes_out<R: Threads + Wait + Sync>(
     random: RandomState,
     trial: Trial,
 ) -> Result<bool, AllocError> {
-    let flag = Arc::new(alloc, AtomicU64::new(0))?;
-    let host = if trial.in_sync {
-        host_with(alloc, random, &flag, trial.lines)
-    } else {
-        plain_host(alloc, random, trial.lines)
-    };
-    let came = came_of(rt, alloc, host?, &flag, trial)?;
-    Ok(is_in_time(&flag) && are_wanted(&came, trial))
+    let flag = AtomicU64::new(0);
+    let never = AtomicU64::new(0);
+    let in_sync = if trial.in_sync { &flag } else { &never };
+    let host = host_with(alloc, random, in_sync, &never, trial.lines)?;
+    let came = came_of(rt, alloc, host, &flag, trial)?;
+    let right = are_wanted(&came, trial);
+    drop(came);
+    Ok(right && is_in_time(&flag))
 }
 
 // Both callers ask the host at once, while the flag is armed.
-fn came_of<R: Threads + Wait + Sync>(
+fn came_of<'d, R: Threads + Wait + Sync>(
     rt: &R,
     alloc: Global,
-    host: Host<HostDisk>,
+    host: Host<HostDisk<'d>>,
     flag: &AtomicU64,
     trial: Trial,
-) -> Result<Vec<Caller>, AllocError> {
+) -> Result<Vec<Caller<'d>>, AllocError> {
     let plans = plans_of(alloc, flag, trial.asked.as_slice())?;
     arm(flag);
-    ask_at_once(rt, alloc, host, plans.as_slice())
+    let came = ask_at_once(rt, alloc, host, plans.as_slice());
+    drop(plans);
+    came
 }
 
 // Whether each caller has one reply, of its kind.
-fn are_wanted(came: &[Caller], trial: Trial) -> bool {
+fn are_wanted(came: &[Caller<'_>], trial: Trial) -> bool {
     match came {
         [one, other] => is_wanted(one, trial.wanted[0]) && is_wanted(other, trial.wanted[1]),
         _ => false,
     }
 }
 
-fn is_wanted(caller: &Caller, wanted: Wanted) -> bool {
+fn is_wanted(caller: &Caller<'_>, wanted: Wanted) -> bool {
     match (wanted, caller.events.first()) {
         (Wanted::Changed, Some(event)) => matches!(&event.reply, Reply::Ok(Done::Changed(_))),
         (Wanted::Entry, Some(event)) => matches!(&event.reply, Reply::Ok(Done::Entry(_))),

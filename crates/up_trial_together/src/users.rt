@@ -39,10 +39,9 @@ pub fn session_of(alloc: Global, who: &str) -> Result<Session, AllocError> {
 
 fn prove(alloc: Global, begun: SignOn) -> Result<Session, AllocError> {
     let mut verifier = FixedVerifier::new(alloc, Items::new(alloc), Some(Verdict::Yes));
-    match begun.prove(&mut verifier, b"") {
-        Ok(session) => Ok(session),
-        Err(_) => Err(AllocError),
-    }
+    let session = begun.prove(&mut verifier, b"").ok();
+    drop(verifier);
+    session.ok_or(AllocError)
 }
 
 /// The request that the words of a line ask for a user. All lines here are good, so an `Err` is want of memory.

@@ -1,6 +1,5 @@
 //! A flag for which one thread waits, and another one sets.
 use std::alloc::{AllocError, Global};
-use std::sync::Arc;
 use std::sync::atomic::{AtomicU64, Ordering};
 use std::thread::yield_now;
 use up_disk::{Hook, MemDisk};
@@ -50,15 +49,15 @@ pub fn wait_while_armed(flag: &AtomicU64) {
 
 /// Waits before each sync of a disk.
 #[derive(Drop)]
-pub struct WaitsInSync {
-    pub flag: Arc<AtomicU64, Global>,
+pub struct WaitsInSync<'a> {
+    pub flag: &'a AtomicU64,
 }
 
-impl Hook for WaitsInSync {
+impl<'a> Hook for WaitsInSync<'a> {
     ghost handed = { λ old disk new. Unit {0} };
 
     fn before_sync(&mut self, disk: &MemDisk) {
-        wait_while_armed(&self.flag);
+        wait_while_armed(self.flag);
     }
 }
 

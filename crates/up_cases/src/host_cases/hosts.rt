@@ -6,7 +6,9 @@ use crate::host_cases::asking::ask_alone;
 use crate::host_cases::direct::direct_line;
 use crate::host_cases::lines::{enrol_line, key_line, text_line};
 use crate::host_cases::opening::{add_sizes, host_over, new_host};
-use crate::host_cases::peers::{Has, Kind, Told, ask_peer, ask_with, has_of, kind_of, tree};
+use crate::host_cases::peers::{
+    Kind, Told, add_told, ask_peer, ask_with, has_of, kind_of, told_of, tree,
+};
 use crate::host_cases::sharing::{Line, Lines};
 use crate::host_cases::stopping::{Asked, add_images};
 use crate::host_cases::talking::{failing_line, many_line, prefixes_line, talk_line};
@@ -160,7 +162,7 @@ impl<'a, R: Wait> Hosts<'a, R> {
     }
 
     // Adds what was answered, and what a host that is shared answers otherwise.
-    fn told(
+    fn tell(
         &mut self,
         alloc: Global,
         line: Line<'_>,
@@ -258,8 +260,8 @@ impl<'a, R: Wait> Hosts<'a, R> {
         mut words: Words<'_>,
         answer: &mut Answer,
     ) -> Result<(), Fault> {
-        let mut told = Vec::new(alloc);
         let name = words.word()?;
+        let mut told = Vec::new(alloc);
         let mut alone = Answer::new(alloc);
         let asked = self.ask_told(alloc, name, words, &mut told, &mut alone);
         drop(told);
@@ -268,7 +270,7 @@ impl<'a, R: Wait> Hosts<'a, R> {
             name,
             words,
         };
-        self.told(alloc, line, asked, alone, answer)
+        self.tell(alloc, line, asked, alone, answer)
     }
 
     // Tells the peers, and asks the host that has them, which takes them.
@@ -294,19 +296,9 @@ impl<'a, R: Wait> Hosts<'a, R> {
 
     fn add_all(&mut self, alloc: Global, words: &str, told: &mut Vec<Told>) -> Result<(), Fault> {
         for word in words.split(' ') {
-            self.add_told(alloc, word, told)?;
+            add_told(told, self.told_peer(alloc, word))?;
         }
         Ok(())
-    }
-
-    fn add_told(&mut self, alloc: Global, word: &str, told: &mut Vec<Told>) -> Result<(), Fault> {
-        match told.push(self.told_peer(alloc, word)?) {
-            Ok(()) => Ok(()),
-            Err(refused) => {
-                drop(refused);
-                Err(Fault::OutOfMemory)
-            }
-        }
     }
 
     // `OWNERS/ADDRESS/KIND`: a peer that has the trees of these owners and the blocks of this address.
@@ -314,17 +306,7 @@ impl<'a, R: Wait> Hosts<'a, R> {
         let (owners, rest) = cut(word, '/')?;
         let (address, kind) = cut(rest, '/')?;
         let has = has_of(alloc, owners, address)?;
-        self.told_by(alloc, has, kind)
-    }
-
-    fn told_by(&mut self, alloc: Global, has: Has, word: &str) -> Result<Told, Fault> {
-        match self.told_kind(alloc, word) {
-            Ok(kind) => Ok(Told { has, kind }),
-            Err(fault) => {
-                drop(has);
-                Err(fault)
-            }
-        }
+        told_of(has, self.told_kind(alloc, kind))
     }
 
     // `host:NAME:ASKER` for the host of this name, which is asked as this user; else a peer in memory.
@@ -383,7 +365,7 @@ impl<'a, R: Wait> Hosts<'a, R> {
         };
         let mut alone = Answer::new(alloc);
         let asked = self.host_answer(alloc, line, &mut alone);
-        self.told(alloc, line, asked, alone, answer)
+        self.tell(alloc, line, asked, alone, answer)
     }
 
     // What the host itself answers.

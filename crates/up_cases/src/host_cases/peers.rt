@@ -66,22 +66,38 @@ fn add_user(alloc: Global, users: &mut Items<User>, name: &str) -> Result<(), Fa
 pub fn told_in_memory(alloc: Global, words: &str) -> Result<Vec<Told>, Fault> {
     let mut told = Vec::new(alloc);
     for word in words.split(' ') {
-        add_told_one(alloc, word, &mut told)?;
+        add_told(&mut told, told_one(alloc, word))?;
     }
     Ok(told)
-}
-
-fn add_told_one(alloc: Global, word: &str, told: &mut Vec<Told>) -> Result<(), Fault> {
-    told.push(told_one(alloc, word)?)?;
-    Ok(())
 }
 
 fn told_one(alloc: Global, word: &str) -> Result<Told, Fault> {
     let (owners, rest) = cut(word, '/')?;
     let (address, kind) = cut(rest, '/')?;
     let has = has_of(alloc, owners, address)?;
-    let kind = kind_of(alloc, kind)?;
-    Ok(Told { has, kind })
+    told_of(has, kind_of(alloc, kind))
+}
+
+/// A peer that has this, and is of this kind, where it is one.
+pub fn told_of(has: Has, kind: Result<Kind, Fault>) -> Result<Told, Fault> {
+    match kind {
+        Ok(kind) => Ok(Told { has, kind }),
+        Err(fault) => {
+            drop(has);
+            Err(fault)
+        }
+    }
+}
+
+/// Adds a peer, where it is one.
+pub fn add_told(told: &mut Vec<Told>, one: Result<Told, Fault>) -> Result<(), Fault> {
+    match told.push(one?) {
+        Ok(()) => Ok(()),
+        Err(refused) => {
+            drop(refused);
+            Err(Fault::OutOfMemory)
+        }
+    }
 }
 
 /// `refuses`, `list:ANSWERS`, or `chain:OWNER:COUNT:LAST` for so many texts, of which the one at place i, from 0, names the owner's
