@@ -109,7 +109,7 @@ fn run_all<'d, R: Threads + Wait + Sync>(
         rt,
         callers,
         THREADS,
-        &|k, caller: &mut Caller<'d>| caller.run(rt, alloc, shared, plans, k),
+        &|k, caller: &mut Caller<'_>| caller.run(rt, alloc, shared, plans, k),
     );
 }
 
