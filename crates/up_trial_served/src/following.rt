@@ -26,7 +26,7 @@ const OWNER: &str = "ann@a.example";
 /// The log of the tree, and that of the follower.
 const LEADER: &str = "tree-0.log2";
 
-const FOLLOWER: &str = "followed.log2";
+pub const FOLLOWER: &str = "followed.log2";
 
 /// How many directories are made below the first one.
 const DIRECTORIES: u64 = 150;
@@ -118,11 +118,11 @@ fn changed_and_followed<R: Threads + Wait + Clock + Sync>(
     let (changed, meanwhile) = join(
         threads,
         || changed(rt, helper, port),
-        || pulled(rt, helper, feed),
+        || pulled(rt, helper, feed, PULLS),
     );
     changed?;
     meanwhile?;
-    let said = pulled(rt, helper, feed)?;
+    let said = pulled(rt, helper, feed, PULLS)?;
     if said.as_str().ends_with("\npulled 0\n") {
         Ok(())
     } else {
@@ -161,11 +161,11 @@ fn owner(rt: HostRuntime) -> io::Result<User> {
     }
 }
 
-/// Pulls, and answers what that printed.
-fn pulled(rt: HostRuntime, helper: &str, feed: u16) -> io::Result<String> {
+/// Pulls so often, and answers what that printed.
+pub fn pulled(rt: HostRuntime, helper: &str, feed: u16, pulls: u64) -> io::Result<String> {
     let alloc = rt.alloc();
     let mut lines = String::new(alloc);
-    for _ in 0..PULLS {
+    for _ in 0..pulls {
         lines.push_str("pull\n")?;
     }
     let address = format!(in alloc; "home@127.0.0.1:{feed}")?;
