@@ -1,5 +1,5 @@
 //! A leader that sends what no server sends, and what a follower makes of it.
-use crate::following::{FOLLOWER, pulled};
+use crate::following::{FOLLOWER, OWNER, pulled};
 use std::io::{ErrorKind, Read, Write};
 use std::net::{TcpListener, TcpStream};
 use std::sync::Wait;
@@ -29,7 +29,7 @@ pub fn run<R: Threads + Wait + Clock + Sync>(
     let (led, said) = join(
         threads,
         || lead(rt, listener),
-        || pulled(rt, helper, port, 8),
+        || pulled(rt, helper, port, OWNER, 8),
     );
     let _ = fs::remove_file(&rt, FOLLOWER);
     led?;

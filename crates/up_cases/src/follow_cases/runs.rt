@@ -19,9 +19,9 @@ use up_lists::Items;
 /// How many images of a disk there are.
 const CHOICES: u64 = 8;
 
-/// The words of a run, and its ends.
+/// The words of a run, the feed, and the ends.
 #[derive(Drop)]
-struct Run {
+struct Invocation {
     words: Vec<String>,
     feed: ListFeed,
     source: MemSource,
@@ -75,18 +75,18 @@ fn run_over(
 ) -> Result<MemDisk, Fault> {
     let mut disks = Disks::new(alloc);
     disks.push(disk)?;
-    let mut run = run_of(alloc, stage, text)?;
-    let status = status_of(alloc, stage, &mut run, &mut disks)?;
+    let mut called = invocation_of(alloc, stage, text)?;
+    let status = status_of(alloc, stage, &mut called, &mut disks)?;
     answer.word("status");
     answer.number(u64::from(status));
-    add_printed(alloc, run.sink.bytes(), answer);
-    drop(run);
+    add_printed(alloc, called.sink.bytes(), answer);
+    drop(called);
     disks.take().ok_or(Fault::BadLine)
 }
 
-fn run_of(alloc: Global, stage: &Stage, text: &str) -> Result<Run, Fault> {
+fn invocation_of(alloc: Global, stage: &Stage, text: &str) -> Result<Invocation, Fault> {
     let (words, lines) = text.split_once(" |").unwrap_or((text, ""));
-    Ok(Run {
+    Ok(Invocation {
         words: words_of(alloc, Some(words))?,
         feed: ListFeed::new(copied(alloc, &stage.records)?, one(alloc, stage.pull)?),
         source: source_of(alloc, stage, lines)?,
@@ -116,7 +116,7 @@ fn copied(alloc: Global, records: &Items<Bytes>) -> Result<Items<Bytes>, AllocEr
 fn status_of(
     alloc: Global,
     stage: &Stage,
-    run: &mut Run,
+    called: &mut Invocation,
     disks: &mut Disks<MemDisk>,
 ) -> Result<u8, Fault> {
     if disks.len() != 1 {
@@ -126,13 +126,13 @@ fn status_of(
         None => Ok(follow_run(
             alloc,
             stage.random,
-            &run.words,
-            &mut run.feed,
+            &called.words,
+            &mut called.feed,
             disks,
-            &mut run.source,
-            &mut run.sink,
+            &mut called.source,
+            &mut called.sink,
         )),
-        Some(limits) => within(alloc, stage, limits, run, disks),
+        Some(limits) => within(alloc, stage, limits, called, disks),
     }
 }
 
@@ -140,10 +140,10 @@ fn within(
     alloc: Global,
     stage: &Stage,
     limits: Limits,
-    run: &mut Run,
+    called: &mut Invocation,
     disks: &mut Disks<MemDisk>,
 ) -> Result<u8, Fault> {
-    let Some(owner) = follow_owner(alloc, &run.words)? else {
+    let Some(owner) = follow_owner(alloc, &called.words)? else {
         return Err(Fault::BadLine);
     };
     if disks.len() != 1 {
@@ -155,10 +155,10 @@ fn within(
         stage.random,
         fit(limits),
         owner,
-        &mut run.feed,
+        &mut called.feed,
         disks,
-        &mut run.source,
-        &mut run.sink,
+        &mut called.source,
+        &mut called.sink,
     ))
 }
 
