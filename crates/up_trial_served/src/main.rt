@@ -8,8 +8,8 @@
 //!
 //! Then a follower pulls from a leader that sends what no server sends: each time that is a failure, or a record that is none.
 //!
-//! Then a server takes changes of a client while a follower pulls them from it, and refuses one that has no tree there; once all have ended,
-//! the two logs are compared, and the number of their records is printed.
+//! Then a server takes changes of a client while a follower pulls them from it, and refuses one that has no tree there; once all have
+//! ended, the two logs are compared, and the number of their records is printed.
 #![tactic(auto)]
 
 mod example;

@@ -1,5 +1,5 @@
-//! A leader's tree, what a feed gives of it, and the disk of a follower. A line has commands, parted by `; `, and so are their answers; what
-//! they tell stands until the next `leader`.
+//! A leader's tree, what a feed gives of it, and the disk of a follower. A line has commands, parted by `; `, and so are their answers;
+//! what they tell stands until the next `leader`.
 use crate::follow_cases::feeds::{add, give, make_many};
 use crate::follow_cases::runs::{images, run};
 use crate::share_cases::reports::filled;
