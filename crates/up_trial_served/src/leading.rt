@@ -53,6 +53,10 @@ fn lead(rt: HostRuntime, listener: TcpListener) -> io::Result<()> {
 fn answer(rt: HostRuntime, mut stream: TcpStream, number: u64) -> io::Result<()> {
     let sent = sent(rt, number)?;
     stream.write_all(sent.as_slice())?;
+    wait_for_end(rt, &mut stream)
+}
+
+fn wait_for_end(rt: HostRuntime, stream: &mut TcpStream) -> io::Result<()> {
     let mut heard = Vec::new(rt.alloc());
     stream.read_to_end(&mut heard)?;
     Ok(())
@@ -61,7 +65,22 @@ fn answer(rt: HostRuntime, mut stream: TcpStream, number: u64) -> io::Result<()>
 /// What is sent on the connection of this number.
 fn sent(rt: HostRuntime, number: u64) -> io::Result<Vec<u8>> {
     let mut bytes = WELCOME.to_vec(rt.alloc())?;
-    let message: &[u8] = match number {
+    add_message(&mut bytes, number)?;
+    Ok(bytes)
+}
+
+fn add_message(bytes: &mut Vec<u8>, number: u64) -> io::Result<()> {
+    bytes.extend_from_slice(message(number))?;
+    match number {
+        5 => add_records(bytes, 65),
+        6 => add_last(bytes),
+        _ => Ok(()),
+    }
+}
+
+/// The message on the connection of this number, but for the records of a batch.
+fn message(number: u64) -> &'static [u8] {
+    match number {
         0 => b"\x00\x00\x00\x01\xC1",
         1 => b"\x00\x00\x00\x01\xC2",
         2 => b"\x00\x00\x00\x01\xC3",
@@ -69,15 +88,14 @@ fn sent(rt: HostRuntime, number: u64) -> io::Result<Vec<u8>> {
         4 => b"\x00\x00\x00\x03\xC0\x00\x00",
         5 => b"\x00\x00\x00\x84\xC0\x41",
         _ => b"\x00\x00\x00\x82\xC0\x40",
-    };
-    bytes.extend_from_slice(message)?;
-    if number >= 5 {
-        add_records(&mut bytes, 70 - number)?;
     }
-    if number == 6 {
-        bytes.extend_from_slice(b"\x00\x00\x00\x02\xC0\x00")?;
-    }
-    Ok(bytes)
+}
+
+/// A batch of 64 records, and one of none.
+fn add_last(bytes: &mut Vec<u8>) -> io::Result<()> {
+    add_records(bytes, 64)?;
+    bytes.extend_from_slice(b"\x00\x00\x00\x02\xC0\x00")?;
+    Ok(())
 }
 
 /// So many records, each of one byte, which is none's.
