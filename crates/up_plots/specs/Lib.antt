@@ -1,0 +1,2 @@
+pub mod Plots
+pub mod Asks
