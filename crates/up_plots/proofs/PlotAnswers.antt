@@ -48,7 +48,8 @@ use Rattle.up_pattern.specs.declared.fault.PatternFault.{PatternFault}
 use Rattle.up_plots.specs.Asks.{file_put, new_file}
 use Rattle.up_plots.proofs.PlotReplies.{delete_is, glob_is, hidden, lookup_is, no_children, put_is}
 use Rattle.up_plots.proofs.PlotRights.{file_governed, no_access_rights, other_rights, own_rights, plot_governed}
-use Rattle.up_plots.specs.Plots.{HasPlot, HasRoom, IsAnswered, IsFlat, file_path, plot_path}
+use Rattle.up_plots.specs.Answered.{HasRoom, IsAnswered}
+use Rattle.up_plots.specs.Plots.{HasPlot, IsFlat, file_path, plot_path}
 use Rattle.up_policy.specs.Loadings.{Loading}
 use Rattle.up_policy.specs.Trees.{owns_snapshots}
 use Rattle.up_policy.specs.Verdicts.{is_control}

@@ -49,7 +49,7 @@ module _ (look : Look) (owner user : UserName) (name file : Text) (ordinary : co
       let one = bind_ok allowed (λ (_ : ⊤). place_refusal (node_at look.tree here) look.tree (new_file user here) >>= λ (_ : ⊤). texted) r h in
       let two = bind_ok (place_refusal (node_at look.tree here) look.tree (new_file user here)) (λ (_ : ⊤). texted) r one.2 in
       let three = bind_ok (text_put look.owner fetched (new_file user here).entry) (λ (text : Text). std.Ok (rec.Put (record ((new_file user here).entry) { sequence = n + 1 }) text)) r two.2 in
-      let same : three.0 ≡ [] = text_same three.0 (sym three.1 ∙ text_is look owner user name file ordinary fetched) in
+      let same : three.0 ≡ [] = text_same three.0 (sym three.1 ∙ text_is look.owner user here ordinary fetched) in
       sym (ok_same (rec.Put (record ((new_file user here).entry) { sequence = n + 1 }) three.0) r three.2)
       ∙ ap (λ (text : Text). rec.Put (record ((new_file user here).entry) { sequence = n + 1 }) text) same
     where

@@ -58,6 +58,15 @@ unfolding lacking
 none_pass None = refl
 none_pass (Some needed) = refl
 
+-- an empty file at an ordinary path has the empty text
+module _ (owner user : UserName) (path : PathName) (ordinary : control_of path ≡ control.Ordinary) where
+  abbrev text_by : Control → Result Text Reply
+  text_by c = if not (not (is_ordinary c)) then std.Ok [] else parsed_as owner (control_of path) []
+
+  pub text_is : (fetched : Fetched) → text_put owner fetched (new_file user path).entry ≡ std.Ok []
+  unfolding text_put
+  text_is fetched = ap (λ (c : Control). text_by c) ordinary
+
 -- no child stands where none is told
 empty_by : (paths : List PathName) → ((q : PathName) → has paths q ≡ false) → paths ≡ []
 empty_by [] none = refl
@@ -148,16 +157,9 @@ module _ (look : Look) (flat : IsFlat look.owner look.tree) where
         ∙ ap (λ (b : Bool). placing (Some directory.0) false b found) over
         ∙ placed_at found
 
-    abbrev text_by : Control → Result Text Reply
-    text_by c = if not (not (is_ordinary c)) then std.Ok [] else parsed_as look.owner (control_of here) []
-
     -- the record, once the text is there
     abbrev recorded : ℕ → Result Text Reply → Result Rec Reply
     recorded n text = text >>= λ kept. std.Ok (rec.Put (record ((new_file user here).entry) { sequence = n + 1 }) kept)
-
-    pub text_is : (fetched : Fetched) → text_put look.owner fetched (new_file user here).entry ≡ std.Ok []
-    unfolding text_put
-    text_is fetched = ap (λ (c : Control). text_by c) ordinary
 
     -- a user with all rights there puts it, over a file or over nothing
     pub put_is : (n : ℕ) (fetched : Fetched) → rights look here ≡ all_rights → holds (node_at look.tree here) (λ (node : Node). is_directory (kind_of node)) ≡ false
@@ -167,7 +169,7 @@ module _ (look : Look) (flat : IsFlat look.owner look.tree) where
         ap (λ (o : Option Reply). unless o >>= λ allowed. place_refusal (node_at look.tree here) look.tree (new_file user here) >>= λ placed. recorded n (text_put look.owner fetched (new_file user here).entry))
             (passes here held (ways here) (Some (right_to_put (node_at look.tree here))))
         ∙ ap (λ (r : Result ⊤ Reply). r >>= λ placed. recorded n (text_put look.owner fetched (new_file user here).entry)) (place_is (node_at look.tree here) over)
-        ∙ ap (λ (r : Result Text Reply). recorded n r) (text_is fetched)
+        ∙ ap (λ (r : Result Text Reply). recorded n r) (text_is look.owner user here ordinary fetched)
 
   -- ---- Glob of all that stands in the directory
 

@@ -1,6 +1,6 @@
 -- The rights of a user in a directory whose Access file gives all to one user.
 use Rattle.std.proofs.Common.{◌≡◌, ℕ, zero, suc, ◌<◌, ◌≤◌, Bool, true, false, not, ◌&&◌, ◌||◌, List, [], ◌∷◌, ◌++◌, length, refl, sym, ap, subst, ◌∙◌, arith, Option, Some, None, bytes_eq}
-use Rattle.std.specs.Prelude.{if◌then◌else◌, codes, Ok}
+use Rattle.std.specs.Prelude.{if◌then◌else◌, Result, Ok}
 use Rattle.std.specs.List.{list_any}
 use Rattle.std.specs.Map.{keys_of}
 use Rattle.std.specs.Option.{option_map, option_or}
@@ -15,6 +15,7 @@ use Rattle.up_log_tree.specs.declared.node.Node.{Node}
 use Rattle.up_names.specs.PathNames.{PathName}
 use Rattle.up_names.specs.Texts.{Text, UserName}
 use Rattle.up_names.specs.UserNames.{base_of}
+use Rattle.up_names.specs.declared.fault.TextFault.{TextFault}
 use Rattle.up_names.specs.declared.items.Item.{Item}
 use Rattle.up_names.specs.declared.items.Item.TheVariants.{User}
 use Rattle.up_plots.specs.Plots.{HasPlot, IsFlat, all_to, file_path, plot_path}
@@ -107,7 +108,7 @@ module _ (owner : UserName) (tree : Tree) (flat : IsFlat owner tree) where
     plot_text : (user : UserName) → HasPlot owner tree name user → text_in (plot_path owner name) ≡ Some (all_to user)
     plot_text user plot =
         ap (λ (o : Option Node). option_map (rules_of owner) o) plot.stands
-        ∙ ap (λ (r : _). Some (said r)) plot.rules
+        ∙ ap (λ (r : Result (List Rule) TextFault). Some (said r)) plot.rules
 
 -- ---- what the user may do
 

@@ -226,8 +226,8 @@ module _ (log : List Rec) (k : ℕ) (from to : ℕ) (own after : List ℕ) (t u 
     did_any wish.Glob a ground = did_glob a ground
 
     -- what a session's request did
-    pub went : (w : Wish) (a : Answered log k (record { wish = w; file = file }) from to own after t u) → Ground k sessions (take a.position log) → Went stands (record { wish = w; file = file }) from to own after t u
-    went w a ground = record { position = a.position; low = a.low; high = a.high; did = did_any w a ground }
+    pub request_went : (w : Wish) (a : Answered log k (record { wish = w; file = file }) from to own after t u) → Ground k sessions (take a.position log) → Went stands (record { wish = w; file = file }) from to own after t u
+    request_went w a ground = record { position = a.position; low = a.low; high = a.high; did = did_any w a ground }
 
 -- ---- whatever the tree is, a request adds nothing, or a record of its own file
 

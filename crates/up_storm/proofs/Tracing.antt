@@ -146,11 +146,11 @@ pub record Replies (a b : Views) (k : ℕ) (q : Question) (e : Event) : Type 0 w
   pub replied : IsReplied (TreeSays w q e) v w e
 
 -- what a session's question came to, unless a disk failed or memory was wanting
-pub replies : (operator : UserName) (a b : Views) (k : ℕ) (q : Question) (e : Event) (v : SeenTree) → IsRouted k q → a.tree (owner_text k) ≡ Some v → is_fault e.reply ≡ false → Outcome operator a b q e
+pub replied_by : (operator : UserName) (a b : Views) (k : ℕ) (q : Question) (e : Event) (v : SeenTree) → IsRouted k q → a.tree (owner_text k) ≡ Some v → is_fault e.reply ≡ false → Outcome operator a b q e
     → Replies a b k q e
-replies operator a b k q e v r there sound (Outcome.Refused refused position plain stays) =
+replied_by operator a b k q e v r there sound (Outcome.Refused refused position plain stays) =
     absurd (some_none e.reply (sym refused ∙ not_refused a k q r v there))
-replies operator a b k q e v r there sound (Outcome.ByTree owner x y accepted asked before after (inl turn)) =
+replied_by operator a b k q e v r there sound (Outcome.ByTree owner x y accepted asked before after (inl turn)) =
     let same : owner ≡ owner_text k = tree_same owner (owner_text k) (sym asked ∙ log_is a k q r) in
     record {
       v = x;
@@ -159,11 +159,11 @@ replies operator a b k q e v r there sound (Outcome.ByTree owner x y accepted as
       after = sym (ap (λ (o : UserName). b.tree o) same) ∙ after;
       replied = turn.0;
     }
-replies operator a b k q e v r there sound (Outcome.ByTree owner x y accepted asked before after (inr turn)) =
+replied_by operator a b k q e v r there sound (Outcome.ByTree owner x y accepted asked before after (inr turn)) =
     absurd (false_true (sym sound ∙ ap (λ (s : Reply). is_fault s) turn.0.io))
-replies operator a b k q e v r there sound (Outcome.ByStore accepted asked plain turn) = absurd (tree_store (owner_text k) (sym (log_is a k q r) ∙ asked))
-replies operator a b k q e v r there sound (Outcome.ByKeys accepted asked plain turn) = absurd (tree_keys (owner_text k) (sym (log_is a k q r) ∙ asked))
-replies operator a b k q e v r there sound (Outcome.Wanting wanting stays) = absurd (false_true (sym sound ∙ ap (λ (s : Reply). is_fault s) wanting))
+replied_by operator a b k q e v r there sound (Outcome.ByStore accepted asked plain turn) = absurd (tree_store (owner_text k) (sym (log_is a k q r) ∙ asked))
+replied_by operator a b k q e v r there sound (Outcome.ByKeys accepted asked plain turn) = absurd (tree_keys (owner_text k) (sym (log_is a k q r) ∙ asked))
+replied_by operator a b k q e v r there sound (Outcome.Wanting wanting stays) = absurd (false_true (sym sound ∙ ap (λ (s : Reply). is_fault s) wanting))
 
 -- ---- what was seen begins the whole log
 
@@ -218,7 +218,7 @@ module _ {D L : Type 0} (loader : Ghosts L) (shared : Shared D) (full : Bool) (k
   step v w a h user there =
       let draw : Draw = drawn_of (next_number v.number) in
       let to_here : IsRouted k (asked_by v) = subst (λ (u : UserName). IsRouted k (record { user = u; request = request_of k draw })) (sym user) (routed k less draw.file (small_draw (next_number v.number)) draw.wish) in
-      let r = replies shared.operator (views_of v.seats) (views_of w.seats) k (asked_by v) h.event a to_here there h.sound h.answered.asked.outcome in
+      let r = replied_by shared.operator (views_of v.seats) (views_of w.seats) k (asked_by v) h.event a to_here there h.sound h.answered.asked.outcome in
       let same : r.v ≡ a = some_same r.v a (sym r.before ∙ there) in
       record {
         b = r.w;
@@ -234,16 +234,16 @@ module _ {D L : Type 0} (loader : Ghosts L) (shared : Shared D) (full : Bool) (k
     begins : Begins a.seen b.seen
     fixed : b.fixed ≡ a.fixed
 
-  going : (n : ℕ) (v w : Session D L) (a : SeenTree) → HasRun loader shared full k n v w → v.user ≡ user_text k → seen_at v ≡ Some a → Going w a
-  going zero v w a h user there = record { b = a; after = ap seen_at h ∙ there; begins = Begins-self a.seen; fixed = refl }
-  going (suc n) v w a h user there =
+  goes_on : (n : ℕ) (v w : Session D L) (a : SeenTree) → HasRun loader shared full k n v w → v.user ≡ user_text k → seen_at v ≡ Some a → Going w a
+  goes_on zero v w a h user there = record { b = a; after = ap seen_at h ∙ there; begins = Begins-self a.seen; fixed = refl }
+  goes_on (suc n) v w a h user there =
       let one = step v h.0 a h.1 user there in
-      let rest = going n h.0 w one.b h.2 (h.1.user ∙ user) one.after in
+      let rest = goes_on n h.0 w one.b h.2 (h.1.user ∙ user) one.after in
       record { b = rest.b; after = rest.after; begins = Begins-trans one.later.begins rest.begins; fixed = rest.fixed ∙ one.later.fixed }
 
-  answered : (log : List Rec) (v w : Session D L) (a : SeenTree) (h : HasAsked loader shared full k v w) → v.user ≡ user_text k → (s : Stepped v w a h.event) → Begins s.b.seen log → a.fixed ≡ (owner_text k, storm_limits)
+  answered_over : (log : List Rec) (v w : Session D L) (a : SeenTree) (h : HasAsked loader shared full k v w) → v.user ≡ user_text k → (s : Stepped v w a h.event) → Begins s.b.seen log → a.fixed ≡ (owner_text k, storm_limits)
       → Answered log k (drawn_of (next_number v.number)) (length a.seen) (length s.b.seen) a.own s.b.own v.tally w.tally
-  answered log v w a h user s begins fixed =
+  answered_over log v w a h user s begins fixed =
       let draw : Draw = drawn_of (next_number v.number) in
       let e : Event = h.event in
       let same = log_same log a s.b begins k (s.later.fixed ∙ fixed) e.position s.replied.to in
@@ -274,13 +274,13 @@ module _ {D L : Type 0} (loader : Ghosts L) (shared : Shared D) (full : Bool) (k
   traced log (suc n) v w a b h user there at_end begins fixed =
       let one = step v h.0 a h.1 user there in
       let user_after = h.1.user ∙ user in
-      let rest = going n h.0 w one.b h.2 user_after one.after in
+      let rest = goes_on n h.0 w one.b h.2 user_after one.after in
       let same : rest.b ≡ b = some_same rest.b b (sym rest.after ∙ at_end) in
       let begins_after : Begins one.b.seen log = Begins-trans rest.begins (subst (λ (x : SeenTree). Begins x.seen log) (sym same) begins) in (
         length one.b.seen,
         one.b.own,
         h.0.tally,
-        answered log v h.0 a h.1 user one begins_after fixed,
+        answered_over log v h.0 a h.1 user one begins_after fixed,
         subst (λ (x : ℕ). AllAnswered log k n x (length one.b.seen) (length b.seen) one.b.own b.own h.0.tally w.tally) h.1.number
             (traced log n h.0 w one.b b h.2 user_after one.after at_end begins (one.later.fixed ∙ fixed)),
       )

@@ -28,7 +28,7 @@ use Rattle.up_plots.specs.Asks.{new_file}
 use Rattle.up_plots.specs.Plots.{HasPlot, IsFlat, file_path, plot_path}
 use Rattle.up_storm.proofs.Counts.{added_change, added_none, added_same, added_some, count_below, count_change, count_none, count_same, one_if, set_requests, set_unbegun}
 use Rattle.up_storm.proofs.Courses.{Agrees, AllWent, Below, Ended, all_grow, course_is, small_draw, stays_between}
-use Rattle.up_storm.proofs.Effects.{AddsFile, Answered, adds_file, log_to, went}
+use Rattle.up_storm.proofs.Effects.{AddsFile, Answered, adds_file, log_to, request_went}
 use Rattle.up_storm.proofs.Grounds.{Ground, IsFileRec, ground_next, path_at, stands_gone, stands_in, stands_put, stands_still}
 use Rattle.up_storm.proofs.Readings.{file_name, owner_same}
 use Rattle.up_storm.proofs.Tracing.{AllAnswered}
@@ -216,7 +216,7 @@ module _ (plan : Plan) (c : ℕ) (log : List Rec) (base : ℕ) (own : ℕ → Li
         h.0,
         h.1,
         h.2,
-        went log k from h.0 before h.1 u h.2 plan.sessions less t.most t.long (drawn_of (next_number x)).file (small_draw (next_number x)) (drawn_of (next_number x)).wish a ground,
+        request_went log k from h.0 before h.1 u h.2 plan.sessions less t.most t.long (drawn_of (next_number x)).file (small_draw (next_number x)) (drawn_of (next_number x)).wish a ground,
         all_went n (next_number x) h.0 to h.1 after h.2 v h.4 (omega (arith, low, reach, end)),
       )
 
@@ -233,23 +233,23 @@ module _ (plan : Plan) (c : ℕ) (log : List Rec) (base : ℕ) (own : ℕ → Li
   abbrev run : RunOf log plan base k (own k)
   run = t.runs k less tree
 
-  pub ended : Ended (stands_in log k) unbegun (course_of plan k) run.to [] (own k) run.tally
-  ended =
+  pub has_ended : Ended (stands_in log k) unbegun (course_of plan k) run.to [] (own k) run.tally
+  has_ended =
       course_is (stands_in log k) base (length log) (own k) still plan.requests (first_number plan.seed k) base run.to [] none_counted run.tally unbegun
       (all_went plan.requests (first_number plan.seed k) base run.to [] (own k) none_counted run.tally run.answered (omega arith))
       (omega arith) run.within (record { none = λ y far. refl }) refl (record { same = λ i small. t.empty k i low_number small })
 
   pub records_is : length (own k) ≡ (course_of plan k).records
-  records_is = let e = ended in let r = e.records in omega (arith, r)
+  records_is = let e = has_ended in let r = e.records in omega (arith, r)
 
   pub tally_is : run.tally ≡ (course_of plan k).tally
-  tally_is = ended.tally
+  tally_is = has_ended.tally
 
   -- the files that stand in the end
   pub files_are : (i : ℕ) → i < 16 → stands_in log k (length log) i ≡ is_there (course_of plan k).files i
   files_are i small =
       let based = t.based in
-      let e = ended in
+      let e = has_ended in
       let grown = all_grow (stands_in log k) plan.requests (first_number plan.seed k) base run.to [] (own k) none_counted run.tally
           (all_went plan.requests (first_number plan.seed k) base run.to [] (own k) none_counted run.tally run.answered (omega arith)) in
       let far = grown.0 in
