@@ -5,3 +5,4 @@ pub mod PlotAnswers
 pub mod PlotChanges
 pub mod PlotSizes
 pub mod PlotMaking
+pub mod PlotChecking

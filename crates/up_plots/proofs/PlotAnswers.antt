@@ -63,10 +63,10 @@ use Rattle.up_wire.specs.declared.requests.Request.TheVariants as request
 
 -- ---- what is asked
 
-read_as : (w : What) (text : Text) (path : PathName) → path_of text ≡ std.Ok path → path_or w text ≡ std.Ok path
+pub read_as : (w : What) (text : Text) (path : PathName) → path_of text ≡ std.Ok path → path_or w text ≡ std.Ok path
 read_as w text path h = ap (λ (r : Result PathName NameFault). elim r as (λ _. Result PathName EntryFault) [ std.Ok p ↦ std.Ok p | std.Err e ↦ std.Err (fault.Invalid w) ]) h
 
-user_as : (w : What) (text : Text) (user : UserName) → user_of text ≡ std.Ok user → user_or w text ≡ std.Ok user
+pub user_as : (w : What) (text : Text) (user : UserName) → user_of text ≡ std.Ok user → user_or w text ≡ std.Ok user
 user_as w text user h = ap (λ (r : Result UserName NameFault). elim r as (λ _. Result UserName EntryFault) [ std.Ok u ↦ std.Ok u | std.Err e ↦ std.Err (fault.Invalid w) ]) h
 
 pub lookup_asked : (user : UserName) (text : Text) (path : PathName) → path_of text ≡ std.Ok path → asked_of user (request.Lookup text) ≡ std.Ok (asks.Lookup path)
@@ -135,7 +135,7 @@ module _ (user : UserName) (owner : UserName) (name file : Text) (text : Text) (
 -- ---- what is answered
 
 module _ (log : Log) (loaded : Loading) (fetched : Fetched) (user : UserName) (now : ℕ) where
-  led_by : (request' : Request) (asked : ReadRequest) → asked_of user request' ≡ std.Ok asked → owner_asked asked ≡ log.owner
+  pub led_by : (request' : Request) (asked : ReadRequest) → asked_of user request' ≡ std.Ok asked → owner_asked asked ≡ log.owner
       → outcome log loaded fetched user request' now ≡ tree_outcome log loaded fetched user asked
   unfolding outcome asked_outcome
   led_by request' asked h own =
@@ -144,12 +144,12 @@ module _ (log : Log) (loaded : Loading) (fetched : Fetched) (user : UserName) (n
           else if bytes_eq (log_owner (owner_asked asked)) log.owner then snapshot_outcome log user asked now else std.Err reply.WrongHost) ((bytes_eq-Decides (owner_asked asked) log.owner).1 own)
 
   -- a reply that adds nothing
-  said_is : (request' : Request) (said : Reply) → outcome log loaded fetched user request' now ≡ std.Err said → IsAnswered log loaded fetched user request' now (bounded said) []
+  pub said_is : (request' : Request) (said : Reply) → outcome log loaded fetched user request' now ≡ std.Err said → IsAnswered log loaded fetched user request' now (bounded said) []
   unfolding answer added answer_of added_by
   said_is request' said h = record { reply = ap (λ (r : Result Rec Reply). answer_of log r) h; added = ap (λ (r : Result Rec Reply). added_by log r) h }
 
   -- a record that is added
-  changed_is : (request' : Request) (rec : Rec) → outcome log loaded fetched user request' now ≡ std.Ok rec → HasRoom log rec
+  pub changed_is : (request' : Request) (rec : Rec) → outcome log loaded fetched user request' now ≡ std.Ok rec → HasRoom log rec
       → IsAnswered log loaded fetched user request' now (reply.Ok (done.Changed (length log.records + 1))) (rec ∷ [])
   unfolding answer added answer_of added_by
   changed_is request' rec h room = record {

@@ -88,7 +88,7 @@ module _ (owner : UserName) (tree : Tree) (flat : IsFlat owner tree) where
   or_none (Some rules) = refl
 
   module _ (plain : owns_snapshots owner ≡ false) (name : Text) where
-    file_governed : (file : Text) → governor (facts_of owner tree) (file_path owner name file) ≡ text_in (plot_path owner name)
+    pub file_governed : (file : Text) → governor (facts_of owner tree) (file_path owner name file) ≡ text_in (plot_path owner name)
     unfolding governor facts_of
     file_governed file =
         let deep : 2 < length (access_path (file_path owner name file)).elements = let e : length (access_path (file_path owner name file)).elements ≡ 3 = refl in omega (arith, e) in
@@ -98,7 +98,7 @@ module _ (owner : UserName) (tree : Tree) (flat : IsFlat owner tree) where
         ∙ ap (λ (o : Option Node). option_or (text_in (plot_path owner name)) (option_or (option_map (rules_of owner) o) None)) flat.ungoverned
         ∙ or_none (text_in (plot_path owner name))
 
-    plot_governed : governor (facts_of owner tree) (plot_path owner name) ≡ text_in (plot_path owner name)
+    pub plot_governed : governor (facts_of owner tree) (plot_path owner name) ≡ text_in (plot_path owner name)
     unfolding governor facts_of
     plot_governed =
         ap (λ (b : Bool). if b then None else first_text text_in (prefixes (plot_path owner name))) plain

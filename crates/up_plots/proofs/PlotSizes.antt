@@ -15,16 +15,18 @@ use Rattle.std.proofs.lemmas.List.Sums.{sum_by-cons}
 use Rattle.up_bytes.proofs.Numbers.{length-num}
 use Rattle.up_bytes.specs.Num.{num}
 use Rattle.up_bytes.specs.Sizes.{size_of as size_as}
-use Rattle.up_bytes.specs.Spelling.{byte, int, text}
+use Rattle.up_bytes.specs.Spelling.{byte, int, text, zigzag}
+use Rattle.up_entry.specs.Attrs.{attr_byte}
 use Rattle.up_entry.specs.Showing.{incomplete, shown_as}
 use Rattle.up_entry.specs.Spelling as spelling
-use Rattle.up_entry.specs.Spelling.{heading, link_text}
+use Rattle.up_entry.specs.Spelling.{link_text}
 use Rattle.up_entry.specs.declared.entries.Entry.{Entry}
 use Rattle.up_entry.specs.declared.records.Rec.{Rec}
 use Rattle.up_entry.specs.declared.records.Rec.TheVariants.{Delete, Put, Snap}
 use Rattle.up_list.specs.Changes.{is_full}
 use Rattle.up_list.specs.Globs.{is_met, row_of, rows}
 use Rattle.up_list.specs.Looks.{Look, rights, shown}
+use Rattle.up_journal.specs.declared.limits.Limits.{Limits}
 use Rattle.up_log_tree.specs.Logs.{Log, bytes_of}
 use Rattle.up_log_tree.specs.Sizes.{size_of}
 use Rattle.up_log_tree.proofs.Paths.{some_none, some_same}
@@ -64,17 +66,26 @@ pub record IsSlight (e : Entry) : Type 0 where
 pub slight_bytes : (e : Entry) → IsSlight e → length (spelling.entry e) ≤ 400
 unfolding spelling.entry
 slight_bytes e h =
-    let front : length (heading (canonical e.name) (canonical e.signed_name) e.packing e.time e.writer _) ≤ 42 + (42 + (1 + (10 + (42 + 1))))
-    = two (text (canonical e.name)) _ 42 (42 + (1 + (10 + (42 + 1)))) (text_bytes (canonical e.name) 32 h.name)
-        (two (text (canonical e.signed_name)) _ 42 (1 + (10 + (42 + 1))) (text_bytes (canonical e.signed_name) 32 h.signed_name)
-        (two (byte e.packing) _ 1 (10 + (42 + 1)) (omega arith)
-        (two (int e.time) _ 10 (42 + 1) (length-num _)
-        (two (text e.writer) _ 42 1 (text_bytes e.writer 32 h.writer) (omega arith))))) in
-    let all = two (heading (canonical e.name) (canonical e.signed_name) e.packing e.time e.writer _) _ (42 + (42 + (1 + (10 + (42 + 1))))) (42 + (42 + (138 + 10))) front
-        (two (text (link_text e.link)) _ 42 (42 + (138 + 10)) (text_bytes (link_text e.link) 32 h.link)
-        (two (text e.packdata) _ 42 (138 + 10) (text_bytes e.packdata 32 h.packdata)
-        (two (num (length e.blocks) ++ flat_map spelling.block e.blocks) (num e.sequence) 138 10
-        (two (num (length e.blocks)) (flat_map spelling.block e.blocks) 10 128 (length-num (length e.blocks)) h.blocks) (length-num e.sequence)))) in
+    let e1 : List ℕ = byte (attr_byte e.attr) in
+    let e2 : List ℕ = text e.writer ++ e1 in
+    let e3 : List ℕ = int e.time ++ e2 in
+    let e4 : List ℕ = byte e.packing ++ e3 in
+    let e5 : List ℕ = text (canonical e.signed_name) ++ e4 in
+    let b2 = two (text e.writer) e1 42 1 (text_bytes e.writer 32 h.writer) (omega arith) in
+    let b3 = two (int e.time) e2 10 (42 + 1) (length-num (zigzag e.time)) b2 in
+    let b4 = two (byte e.packing) e3 1 (10 + (42 + 1)) (omega arith) b3 in
+    let b5 = two (text (canonical e.signed_name)) e4 42 (1 + (10 + (42 + 1))) (text_bytes (canonical e.signed_name) 32 h.signed_name) b4 in
+    let front = two (text (canonical e.name)) e5 42 (42 + (1 + (10 + (42 + 1)))) (text_bytes (canonical e.name) 32 h.name) b5 in
+    let r1 : List ℕ = num e.sequence in
+    let blocks : List ℕ = num (length e.blocks) ++ flat_map spelling.block e.blocks in
+    let r2 : List ℕ = blocks ++ r1 in
+    let r3 : List ℕ = text e.packdata ++ r2 in
+    let r4 : List ℕ = text (link_text e.link) ++ r3 in
+    let c1 = two (num (length e.blocks)) (flat_map spelling.block e.blocks) 10 128 (length-num (length e.blocks)) h.blocks in
+    let c2 = two blocks r1 138 10 c1 (length-num e.sequence) in
+    let c3 = two (text e.packdata) r2 42 (138 + 10) (text_bytes e.packdata 32 h.packdata) c2 in
+    let c4 = two (text (link_text e.link)) r3 42 (42 + (138 + 10)) (text_bytes (link_text e.link) 32 h.link) c3 in
+    let all = two (text (canonical e.name) ++ e5) r4 (42 + (42 + (1 + (10 + (42 + 1))))) (42 + (42 + (138 + 10))) front c4 in
     omega (arith, all)
 
 -- and so has what is shown of it
@@ -124,8 +135,8 @@ has_room log r limits slight few h =
     let sum = sum_few log.records slight in
     let all : bytes_of log.records + size_of r + 37 ≤ 1073741824 = omega (arith, sum, size, few) in
     record {
-      small = ap (λ (l : _). nat_lt l.largest (size_of r)) limits ∙ le-ltb 131072 (size_of r) (omega (arith, size));
-      room = ap (λ (l : _). nat_le l.records (length log.records) || nat_lt l.device (bytes_of log.records + size_of r + 37)) limits
+      small = ap (λ (l : Limits). nat_lt l.largest (size_of r)) limits ∙ le-ltb 131072 (size_of r) (omega (arith, size));
+      room = ap (λ (l : Limits). nat_le l.records (length log.records) || nat_lt l.device (bytes_of log.records + size_of r + 37)) limits
           ∙ ap (λ (b : Bool). b || nat_lt 1073741824 (bytes_of log.records + size_of r + 37)) (not_within 1048576 (length log.records) (omega (arith, few)))
           ∙ le-ltb 1073741824 (bytes_of log.records + size_of r + 37) all;
     }

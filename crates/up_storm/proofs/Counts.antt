@@ -5,7 +5,7 @@ use Rattle.std.specs.List.{AllByRecursion, list_any}
 use Rattle.std.proofs.lemmas.Bool.{cases_lt, false≢true}
 use Rattle.std.proofs.lemmas.Bool.Decides.{nat_tests}
 use Rattle.up_storm.specs.Generator.{drawn_of, next_number}
-use Rattle.up_storm.specs.Summary.{Course, added_up, after_draw, after_requests, after_wish, is_there, unbegun, with_file, without_file}
+use Rattle.up_storm.specs.Summary.{Course, added_up, after_draw, after_requests, after_wish, is_there, one_notexist, one_ok, unbegun, with_file, without_file}
 use Rattle.up_storm.specs.declared.generator.Wish.{Wish}
 use Rattle.up_storm.specs.declared.generator.Wish.TheVariants as wish
 use Rattle.up_storm.proofs.Courses.{small_draw, there_with, there_without}
@@ -181,7 +181,7 @@ set_wish : (c : Course) (w : Wish) (file : ℕ) → file < 16 → IsSet c.files 
 set_wish c wish.Put file small h = set_with c.files file small h
 set_wish c wish.Delete file small h = go (is_there c.files file) refl
   where
-    go : (b : Bool) → is_there c.files file ≡ b → IsSet (cond b (record { files = without_file c.files file; records = c.records + 1; tally = c.tally }) c).files
+    go : (b : Bool) → is_there c.files file ≡ b → IsSet (cond b (record { files = without_file c.files file; records = c.records + 1; tally = one_ok c.tally }) (record c { tally = one_notexist c.tally })).files
     go true is = set_without c.files file small is h
     go false is = h
 set_wish c wish.Lookup file small h = h

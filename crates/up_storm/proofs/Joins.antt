@@ -97,12 +97,12 @@ module _ {D : Type 0} where
       first x xs owner is same = record { place = x; there = ap (λ (o : UserName). cond (bytes_eq o owner) (Some x) (seat_for xs owner)) is ∙ ap (λ (b : Bool). cond b (Some x) (seat_for xs owner)) same }
 
       by : (xs : List (TreeSeat D)) → owners_of xs ≡ codes "a@storm.example" ∷ codes "b@storm.example" ∷ [] → (b : Bool) → Found xs (if b then codes "a@storm.example" else codes "b@storm.example")
-      by [] h b = absurd (cons_none _ _ (sym h))
-      by (x ∷ []) h b = absurd (cons_none _ _ (sym (cons_same x.owner _ [] _ h).1))
-      by (x ∷ (y ∷ more)) h true = first x (y ∷ more) (codes "a@storm.example") (cons_same x.owner _ _ _ h).0 refl
+      by [] h b = absurd (cons_none (codes "a@storm.example") (codes "b@storm.example" ∷ []) (sym h))
+      by (x ∷ []) h b = absurd (cons_none (codes "b@storm.example") [] (sym (cons_same x.owner (codes "a@storm.example") [] (codes "b@storm.example" ∷ []) h).1))
+      by (x ∷ (y ∷ more)) h true = first x (y ∷ more) (codes "a@storm.example") (cons_same x.owner (codes "a@storm.example") (y.owner ∷ owners_of more) (codes "b@storm.example" ∷ []) h).0 refl
       by (x ∷ (y ∷ more)) h false =
-          let one = cons_same x.owner _ (y.owner ∷ owners_of more) _ h in
-          let two = cons_same y.owner _ (owners_of more) _ one.1 in
+          let one = cons_same x.owner (codes "a@storm.example") (y.owner ∷ owners_of more) (codes "b@storm.example" ∷ []) h in
+          let two = cons_same y.owner (codes "b@storm.example") (owners_of more) [] one.1 in
           let rest = first y more (codes "b@storm.example") two.0 refl in
           record { place = rest.place; there = ap (λ (o : UserName). cond (bytes_eq o (codes "b@storm.example")) (Some x) (seat_for (y ∷ more) (codes "b@storm.example"))) one.0 ∙ rest.there }
 

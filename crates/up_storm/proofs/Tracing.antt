@@ -27,6 +27,7 @@ use Rattle.up_lists.specs.Begins.{Begins}
 use Rattle.up_log_tree.specs.Logs.{Log}
 use Rattle.up_names.specs.PathNames.{PathName, path_of}
 use Rattle.up_names.specs.Texts.{Text, UserName}
+use Rattle.up_names.specs.UserNames.{base_of}
 use Rattle.up_peer.specs.declared.loader.Loader.{Ghosts}
 use Rattle.up_plots.proofs.PlotAnswers.{delete_asked, glob_asked, lookup_asked, put_asked}
 use Rattle.up_plots.specs.Asks.{new_file}
@@ -61,7 +62,7 @@ pub record IsRouted (k : ℕ) (q : Question) : Type 0 where
   pub route : route_of q.user q.request ≡ route.Tree (owner_text k) locations
 
 own_owner : (k : ℕ) → log_owner (owner_text k) ≡ owner_text k
-own_owner k = ap (λ (b : Bool). if b then _ else owner_text k) (owner_plain k)
+own_owner k = ap (λ (b : Bool). if b then base_of (owner_text k) else owner_text k) (owner_plain k)
 
 route_by : (k : ℕ) (user : UserName) (request : Request) (asked : ReadRequest) → asked_of user request ≡ Ok asked → owner_asked asked ≡ owner_text k
     → route_of user request ≡ route.Tree (owner_text k) (locations_asked asked)
@@ -168,7 +169,7 @@ replied_by operator a b k q e v r there sound (Outcome.Wanting wanting stays) = 
 -- ---- what was seen begins the whole log
 
 take_front : {X : Type 0} (n : ℕ) (front all : List X) → Begins front all → n ≤ length front → take n front ≡ take n all
-take_front n front all h short = sym (take-append-le n front h.rest short) ∙ ap (λ (xs : List _). take n xs) h.whole
+take_front {X} n front all h short = sym (take-append-le n front h.rest short) ∙ ap (λ (xs : List X). take n xs) h.whole
 
 get_below : {X : Type 0} (xs : List X) (n : ℕ) (x : X) → slice_get xs n ≡ Some x → n < length xs
 get_below [] n x h = absurd (some_none x (sym h))

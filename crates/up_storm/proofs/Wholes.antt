@@ -265,7 +265,7 @@ module _ (plan : Plan) (c : ℕ) (log : List Rec) (base : ℕ) (own : ℕ → Li
 
 filter_same : {X : Type 0} (f g : X → Bool) (xs : List X) → ((x : X) → f x ≡ g x) → filter f xs ≡ filter g xs
 filter_same f g [] same = refl
-filter_same f g (x ∷ xs) same = ap (λ (b : Bool). cond b (x ∷ filter f xs) (filter f xs)) (same x) ∙ ap (λ (ys : List _). cond (g x) (x ∷ ys) ys) (filter_same f g xs same)
+filter_same {X} f g (x ∷ xs) same = ap (λ (b : Bool). cond b (x ∷ filter f xs) (filter f xs)) (same x) ∙ ap (λ (ys : List X). cond (g x) (x ∷ ys) ys) (filter_same f g xs same)
 
 rows_put : (records : List Rec) (entry : Entry) (text : Text) → length (after_record (tree_of records) (Put entry text)) + one_if (is_some (node_at (tree_of records) entry.name)) ≡ length (tree_of records) + 1
 unfolding after_record node_at
