@@ -166,10 +166,9 @@ set_without files file small there h =
     let was : one_if (is_there files file) ≡ 1 = ap one_if there in
     let now : one_if (is_there (without_file files file) file) ≡ 0 = ap one_if (there_without files file file ∙ ap (λ (c : Bool). not c && is_there files file) same_test) in
     let shorter = filter_length files file in
-    let one : (if is_there files file then 1 else 0) ≡ 1 = ap (λ (c : Bool). if c then 1 else 0) there in
     let least = count_short (without_file files file) 16 in
     let many = h.many in
-    record { many = omega (arith, change, was, now, shorter, one, least, many) }
+    record { many = omega (arith, change, was, now, shorter, least, many) }
   where
     same_test : file == file ≡ true
     same_test = grind (arith, nat_tests)
