@@ -86,7 +86,8 @@ slight_bytes e h =
     let c3 = two (text e.packdata) r2 42 (138 + 10) (text_bytes e.packdata 32 h.packdata) c2 in
     let c4 = two (text (link_text e.link)) r3 42 (42 + (138 + 10)) (text_bytes (link_text e.link) 32 h.link) c3 in
     let all = two (text (canonical e.name) ++ e5) r4 (42 + (42 + (1 + (10 + (42 + 1))))) (42 + (42 + (138 + 10))) front c4 in
-    omega (arith, all)
+    let whole : length (spelling.entry e) ≤ 370 = all in
+    omega (arith, whole)
 
 -- and so has what is shown of it
 shown_slight : (read : Bool) (e : Entry) → IsSlight e → IsSlight (shown_as read e)
@@ -149,21 +150,22 @@ pub record IsSlightTree (tree : Tree) : Type 0 where
 all_put : (k : PathName) (v : Node) (es : Tree) → AllByRecursion (λ (item : PathName × Node). IsSlight item.1.entry) es → IsSlight v.entry
     → AllByRecursion (λ (item : PathName × Node). IsSlight item.1.entry) (entries.put path_cmp k v es)
 all_put k v [] h new = (new, tt)
-all_put k v (e ∷ es) h new = go (path_cmp k e.0)
+all_put k v (e ∷ es) h new = go (path_cmp k e.0) (all_put k v es h.1 new)
   where
-    go : (o : Ordering) → AllByRecursion (λ (item : PathName × Node). IsSlight item.1.entry) (by_order o ((k, v) ∷ e ∷ es) ((e.0, v) ∷ es) (e ∷ entries.put path_cmp k v es))
-    go Less = (new, h)
-    go Equal = (new, h.1)
-    go Greater = (h.0, all_put k v es h.1 new)
+    go : (o : Ordering) → AllByRecursion (λ (item : PathName × Node). IsSlight item.1.entry) (entries.put path_cmp k v es)
+        → AllByRecursion (λ (item : PathName × Node). IsSlight item.1.entry) (by_order o ((k, v) ∷ e ∷ es) ((e.0, v) ∷ es) (e ∷ entries.put path_cmp k v es))
+    go Less rest = (new, h)
+    go Equal rest = (new, h.1)
+    go Greater rest = (h.0, rest)
 
 all_filter : (test : PathName × Node → Bool) (es : Tree) → AllByRecursion (λ (item : PathName × Node). IsSlight item.1.entry) es
     → AllByRecursion (λ (item : PathName × Node). IsSlight item.1.entry) (filter test es)
 all_filter test [] h = tt
-all_filter test (e ∷ es) h = go (test e)
+all_filter test (e ∷ es) h = go (test e) (all_filter test es h.1)
   where
-    go : (b : Bool) → AllByRecursion (λ (item : PathName × Node). IsSlight item.1.entry) (cond b (e ∷ filter test es) (filter test es))
-    go true = (h.0, all_filter test es h.1)
-    go false = all_filter test es h.1
+    go : (b : Bool) → AllByRecursion (λ (item : PathName × Node). IsSlight item.1.entry) (filter test es) → AllByRecursion (λ (item : PathName × Node). IsSlight item.1.entry) (cond b (e ∷ filter test es) (filter test es))
+    go true rest = (h.0, rest)
+    go false rest = rest
 
 -- what stands in it is slight
 pub slight_at : (tree : Tree) → IsSlightTree tree → (q : PathName) (node : Node) → node_at tree q ≡ Some node → IsSlight node.entry
@@ -172,11 +174,11 @@ slight_at tree h q node there = go tree h.each there
   where
     go : (es : Tree) → AllByRecursion (λ (item : PathName × Node). IsSlight item.1.entry) es → entries.find path_cmp q es ≡ Some node → IsSlight node.entry
     go [] all is = absurd (some_none node (sym is))
-    go (e ∷ es) all is = by (eq_by_cmp path_cmp q e.0) is
+    go (e ∷ es) all is = by (eq_by_cmp path_cmp q e.0) is (go es all.1)
       where
-        by : (b : Bool) → cond b (Some e.1) (entries.find path_cmp q es) ≡ Some node → IsSlight node.entry
-        by true same = subst (λ (n : Node). IsSlight n.entry) (some_same e.1 node same) all.0
-        by false rest = go es all.1 rest
+        by : (b : Bool) → cond b (Some e.1) (entries.find path_cmp q es) ≡ Some node → (entries.find path_cmp q es ≡ Some node → IsSlight node.entry) → IsSlight node.entry
+        by true same rest = subst (λ (n : Node). IsSlight n.entry) (some_same e.1 node same) all.0
+        by false same rest = rest same
 
 pub slight_after : (tree : Tree) (r : Rec) → IsSlightTree tree → IsSlightRec r → IsSlightTree (after_record tree r)
 unfolding after_record
@@ -187,20 +189,20 @@ slight_after tree (Snap time) h new = h
 -- it grows by at most one item a record
 put_few : (k : PathName) (v : Node) (es : Tree) → length (entries.put path_cmp k v es) ≤ length es + 1
 put_few k v [] = omega arith
-put_few k v (e ∷ es) = go (path_cmp k e.0)
+put_few k v (e ∷ es) = go (path_cmp k e.0) (put_few k v es)
   where
-    go : (o : Ordering) → length (by_order o ((k, v) ∷ e ∷ es) ((e.0, v) ∷ es) (e ∷ entries.put path_cmp k v es)) ≤ suc (length es) + 1
-    go Less = omega arith
-    go Equal = omega arith
-    go Greater = let rest = put_few k v es in omega (arith, rest)
+    go : (o : Ordering) → length (entries.put path_cmp k v es) ≤ length es + 1 → length (by_order o ((k, v) ∷ e ∷ es) ((e.0, v) ∷ es) (e ∷ entries.put path_cmp k v es)) ≤ suc (length es) + 1
+    go Less rest = omega arith
+    go Equal rest = omega arith
+    go Greater rest = omega (arith, rest)
 
 filter_few : (test : PathName × Node → Bool) (es : Tree) → length (filter test es) ≤ length es
 filter_few test [] = omega arith
-filter_few test (e ∷ es) = go (test e)
+filter_few test (e ∷ es) = go (test e) (filter_few test es)
   where
-    go : (b : Bool) → length (cond b (e ∷ filter test es) (filter test es)) ≤ suc (length es)
-    go true = let rest = filter_few test es in omega (arith, rest)
-    go false = let rest = filter_few test es in omega (arith, rest)
+    go : (b : Bool) → length (filter test es) ≤ length es → length (cond b (e ∷ filter test es) (filter test es)) ≤ suc (length es)
+    go true rest = omega (arith, rest)
+    go false rest = omega (arith, rest)
 
 pub few_after : (tree : Tree) (r : Rec) → length (after_record tree r) ≤ length tree + 1
 unfolding after_record

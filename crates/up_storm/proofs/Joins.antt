@@ -37,11 +37,11 @@ module _ {D : Type 0} where
   found_map : (f : TreeSeat D → TreeSeat D) (owner : UserName) (xs : List (TreeSeat D)) → ((x : TreeSeat D) → (f x).owner ≡ x.owner)
       → seat_for (map f xs) owner ≡ option_map f (seat_for xs owner)
   found_map f owner [] keeps = refl
-  found_map f owner (x ∷ xs) keeps = ap (λ (o : UserName). cond (bytes_eq o owner) (Some (f x)) (seat_for (map f xs) owner)) (keeps x) ∙ go (bytes_eq x.owner owner)
+  found_map f owner (x ∷ xs) keeps = ap (λ (o : UserName). cond (bytes_eq o owner) (Some (f x)) (seat_for (map f xs) owner)) (keeps x) ∙ go (bytes_eq x.owner owner) (found_map f owner xs keeps)
     where
-      go : (b : Bool) → cond b (Some (f x)) (seat_for (map f xs) owner) ≡ option_map f (cond b (Some x) (seat_for xs owner))
-      go true = refl
-      go false = found_map f owner xs keeps
+      go : (b : Bool) → seat_for (map f xs) owner ≡ option_map f (seat_for xs owner) → cond b (Some (f x)) (seat_for (map f xs) owner) ≡ option_map f (cond b (Some x) (seat_for xs owner))
+      go true rest = refl
+      go false rest = rest
 
   -- of joined seats it is both of theirs
   pub found_both : (owner : UserName) (xs ys : List (TreeSeat D)) (x y : TreeSeat D) → owners_of xs ≡ owners_of ys → seat_for xs owner ≡ Some x → seat_for ys owner ≡ Some y
@@ -161,11 +161,11 @@ module _ {D : Type 0} where
 
 length_insert : (y : ℕ) (xs : List ℕ) → length (insert y xs) ≡ length xs + 1
 length_insert y [] = refl
-length_insert y (x ∷ xs) = go (nat_lt y x)
+length_insert y (x ∷ xs) = go (nat_lt y x) (length_insert y xs)
   where
-    go : (b : Bool) → length (cond b (y ∷ x ∷ xs) (x ∷ insert y xs)) ≡ suc (length xs) + 1
-    go true = omega arith
-    go false = let rest = length_insert y xs in omega (arith, rest)
+    go : (b : Bool) → length (insert y xs) ≡ length xs + 1 → length (cond b (y ∷ x ∷ xs) (x ∷ insert y xs)) ≡ suc (length xs) + 1
+    go true rest = omega arith
+    go false rest = omega (arith, rest)
 
 pub length_merged : (xs ys : List ℕ) → length (merged xs ys) ≡ length xs + length ys
 length_merged [] ys = omega arith
