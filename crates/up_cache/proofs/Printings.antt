@@ -17,8 +17,8 @@ use Rattle.up_text.specs.Words.{coded, coded_byte, is_coded}
 use Rattle.up_text.proofs.CodeLemmas.{coded-empty, coded-other, flat_map-plain}
 use Rattle.up_wire.specs.declared.replies.Done.TheVariants as dones
 use Rattle.up_wire.specs.declared.replies.Reply.TheVariants as replies
-use Rattle.up_cache.specs.Copying.{Came, Did, got_came, lines_text, said}
-use Rattle.up_cache.specs.Printing.{PrintedAs, ToldAs}
+use Rattle.up_cache.specs.Copying.{PathResult, PathDid, result_of_get, lines_text, did_text}
+use Rattle.up_cache.specs.Printing.{PrintedAs, PrintedResult}
 use Rattle.up_cache.specs.declared.stop.Stop.{Stop}
 use Rattle.up_cache.specs.declared.stop.Stop.TheVariants as stop
 
@@ -133,13 +133,13 @@ pieces_end old now bytes rest so none =
 
 -- a file that was got is told by its line
 pub told_file : (old now : Option Text) (got : Result (List ℕ) ClientFault) (bytes shown : List ℕ) (result : Result (Unit {0}) Stop) → got ≡ Ok bytes → shown ≡ bytes → PrintedAs old now (codes "bytes " ++ (coded shown ++ codes "\n")) result
-    → ToldAs old now (got_came got) result
+    → PrintedResult old now (result_of_get got) result
 told_file old now got bytes shown result is same wrote =
     let here : PrintedAs old now (lines_text (got_lines (Ok bytes))) result = printed_as old now (codes "bytes " ++ (coded shown ++ codes "\n")) (lines_text (got_lines (Ok bytes))) result (file_line shown ∙ ap (λ xs. lines_text (got_lines (Ok xs))) same) wrote in
-    subst (λ (r : Result (List ℕ) ClientFault). ToldAs old now (got_came r) result) (sym is) here
+    subst (λ (r : Result (List ℕ) ClientFault). PrintedResult old now (result_of_get r) result) (sym is) here
 
 -- any other fault than these two is told by its lines
-pub told_fault : (fault : ClientFault) → fault ≢ client.Failed → fault ≢ client.OutOfMemory → (old now : Option Text) (result : Result (Unit {0}) Stop) → PrintedAs old now (lines_text (got_lines (Err fault))) result → ToldAs old now (got_came (Err fault)) result
+pub told_fault : (fault : ClientFault) → fault ≢ client.Failed → fault ≢ client.OutOfMemory → (old now : Option Text) (result : Result (Unit {0}) Stop) → PrintedAs old now (lines_text (got_lines (Err fault))) result → PrintedResult old now (result_of_get (Err fault)) result
 told_fault client.Failed failed wants old now result is = absurd (failed refl)
 told_fault client.OutOfMemory failed wants old now result is = absurd (wants refl)
 told_fault fault failed wants old now result is = is

@@ -6,7 +6,7 @@ use Rattle.up_ends.specs.Writing.{WritesPart}
 use Rattle.up_names.specs.Texts.{Text, UserName}
 use Rattle.up_wire.specs.declared.replies.Reply.{Reply}
 use Rattle.up_wire.specs.declared.requests.Request.{Request}
-use Rattle.up_terminal.specs.Answers.{LineCame, SaysCame, Turned, said}
+use Rattle.up_terminal.specs.Answers.{LineCame, SaysCame, LineGathered, did_text}
 use Rattle.up_terminal.specs.Lines.{line_of}
 use Rattle.up_terminal.specs.Sessions.{DoneAndPrinted, LineRan, Named}
 use Rattle.up_terminal.specs.declared.stop.Stop.{Stop}
@@ -48,13 +48,13 @@ module _ {S : Type 0} (answers : S → Request → Option Reply → S → Type 0
   says_never_long held now a b says result ran is = subst (λ (r : Result (Unit {0}) Stop). DoneAndPrinted answers user held now a says r b) is ran
 
   -- what was done is printed whole, or a part of it
-  pub printed_whole : (held now : Option Text) (a b : S) (says : TerminalLine) (gathered text : Text) → Turned (λ came. SaysCame answers user a says came b) gathered (Ok tt) text → gathered ≡ [] → Appends held now text → DoneAndPrinted answers user held now a says (Ok tt) b
+  pub printed_whole : (held now : Option Text) (a b : S) (says : TerminalLine) (gathered text : Text) → LineGathered (λ came. SaysCame answers user a says came b) gathered (Ok tt) text → gathered ≡ [] → Appends held now text → DoneAndPrinted answers user held now a says (Ok tt) b
   printed_whole held now a b says gathered text turned none wrote =
-      (turned.0, (turned.1.0, subst (Appends held now) (turned.1.1 ∙ ap (λ xs. xs ++ said turned.0) none) wrote))
+      (turned.0, (turned.1.0, subst (Appends held now) (turned.1.1 ∙ ap (λ xs. xs ++ did_text turned.0) none) wrote))
 
-  pub printed_part : (held now : Option Text) (a b : S) (says : TerminalLine) (gathered text : Text) → Turned (λ came. SaysCame answers user a says came b) gathered (Ok tt) text → gathered ≡ [] → WritesPart held now text → DoneAndPrinted answers user held now a says (Err stop.WriteFault) b
+  pub printed_part : (held now : Option Text) (a b : S) (says : TerminalLine) (gathered text : Text) → LineGathered (λ came. SaysCame answers user a says came b) gathered (Ok tt) text → gathered ≡ [] → WritesPart held now text → DoneAndPrinted answers user held now a says (Err stop.WriteFault) b
   printed_part held now a b says gathered text turned none wrote =
-      (turned.0, (turned.1.0, subst (λ xs. WritesPart held now xs) (turned.1.1 ∙ ap (λ xs. xs ++ said turned.0) none) wrote))
+      (turned.0, (turned.1.0, subst (λ xs. WritesPart held now xs) (turned.1.1 ∙ ap (λ xs. xs ++ did_text turned.0) none) wrote))
 
 pub named_never_long : (held now : Option Text) (number : ℕ) (result : Result (Unit {0}) Stop) → Named number held now result → IsErrOf result stop.TooLong → ⊥
 named_never_long held now number result named is = subst (λ (r : Result (Unit {0}) Stop). Named number held now r) is named
