@@ -114,7 +114,8 @@ module _ {D F : Type 0} (disks : disk.Ghosts D) (feeds : feed.Ghosts F) where
   -- What came of a line: it is malformed; or it says something, of which this came; or there was no memory to read it.
   pub data LineCame (a : World D F) (line : Text) : LineResult → World D F → Type 0 where
     malformed : line_of line ≡ None → LineCame a line (Err stop.Malformed) a
-    says : {what : FollowLine} {came : LineResult} {b : World D F} → line_of line ≡ Some what → SaysCame a what came b → LineCame a line came b
+    says : {what : FollowLine} {came : LineResult} {b : World D F}
+        → line_of line ≡ Some what → SaysCame a what came b → LineCame a line came b
     unread : LineCame a line (Err stop.OutOfMemory) a
 
 -- ---- what comes of a call

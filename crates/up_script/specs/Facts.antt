@@ -19,7 +19,8 @@ is_done (Err why) = false
 
 -- Counts never fall, and rose for what failed; each disk stays in its place; and what was fit for the next line is so still, where the
 -- line was done.
-pub record Facts {D P V C N : Type 0} (who : Parties D P V C N) (a : World D P V C N) (came : LineResult) (b : World D P V C N) : Type 0 where
+pub record Facts {D P V C N : Type 0} (who : Parties D P V C N)
+    (a : World D P V C N) (came : LineResult) (b : World D P V C N) : Type 0 where
   pub io : RosePerIo (faults_of who a) (faults_of who b) (io_came came)
   pub disks : faults_in who.disks a.state ≤ faults_in who.disks b.state
   pub helper : who.verifiers.faults a.around.verifier ≤ who.verifiers.faults b.around.verifier

@@ -1,5 +1,6 @@
 -- What each line of a script does where the script stands, and what it prints. This project's own.
-use Rattle.std.specs.Prelude.{◌≡◌, ℕ, ℤ, Bool, true, false, not, nat_lt, ◌&&◌, List, [], ◌++◌, length, position, codes, decimal, Option, Some, None, Result, Ok, Err, is_none}
+use Rattle.std.specs.Prelude.{◌≡◌, ℕ, ℤ, Bool, true, false, not, nat_lt, ◌&&◌, List, [], ◌++◌, length, position, codes, decimal, Option}
+use Rattle.std.specs.Prelude.{Some, None, Result, Ok, Err, is_none}
 use Rattle.std.specs.List.{list_all, list_any}
 use Rattle.up_client.specs.declared.fault.ClientFault.{ClientFault}
 use Rattle.up_client.specs.declared.fault.ClientFault.TheVariants as client

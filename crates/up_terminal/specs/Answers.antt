@@ -87,7 +87,8 @@ module _ {S : Type 0} (answers : S → Request → Option Reply → S → Type 0
 
   -- What came of a line that is not malformed: it says something, of which this came; or there was no memory to read it.
   pub data LineCame (a : S) (line : Text) : LineResult → S → Type 0 where
-    says : {what : TerminalLine} {came : LineResult} {b : S} → line_of user line ≡ Some what → SaysCame a what came b → LineCame a line came b
+    says : {what : TerminalLine} {came : LineResult} {b : S}
+        → line_of user line ≡ Some what → SaysCame a what came b → LineCame a line came b
     unread : LineCame a line (Err stop.OutOfMemory) a
 
 -- A call did something, and its text stands behind what was gathered; or it stopped, and gathered nothing; or there was no memory, also
