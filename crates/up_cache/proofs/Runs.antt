@@ -1,31 +1,27 @@
 -- Words that are done one after the other.
-use Rattle.std.proofs.Common.{◌≡◌, ◌≢◌, ◌≤◌, ◌<◌, ◌+◌, ◌⊎◌, inl, inr, ℕ, Bool, true, false, List, [], ◌∷◌, ◌++◌, length, take, drop, map, get_or, zero, suc, Option, Some, None, Result, Ok, Err, refl, sym, ap, subst, ◌∙◌, append_assoc, append-nil, arith}
-use Rattle.std.specs.Prelude.{codes, IsErrOf, IfSome}
+use Rattle.std.proofs.Common.{◌≡◌, ◌≢◌, ◌<◌, ◌+◌, ◌⊎◌, inl, inr, ℕ, true, false, List, [], ◌∷◌, ◌++◌, length, take, drop, map, get_or, zero, suc, Option, Some, None, Result, Ok, Err, refl, sym, ap, subst, ◌∙◌, append-nil, arith}
+use Rattle.std.specs.Prelude.{codes, IfSome}
 use Rattle.std.specs.Result.{result_ok}
 use Rattle.std.specs.Io.KnownBytes.{Appends}
-use Rattle.std.specs.List.{AllZip, flat_map}
+use Rattle.std.specs.List.{AllZip}
 use Rattle.std.proofs.KnownBytes.{Appends-nil, Appends-trans}
 use Rattle.std.proofs.lemmas.Grind.{flat_map-append}
-use Rattle.std.proofs.lemmas.List.{drop_more, length-map, take-append-drop, take_all}
+use Rattle.std.proofs.lemmas.List.{drop_more, length-map, take-append-drop}
 use Rattle.up_ends.specs.Writing.{WritesPart}
 use Rattle.up_ends.proofs.Going.{WritesPart-all, WritesPart-none}
-use Rattle.up_lists.specs.Counts.{HasCause, Rose}
 use Rattle.up_lists.specs.Runs.{Run}
-use Rattle.up_lists.proofs.RunLemmas.{Run-append, Run-snoc, Run-taken}
+use Rattle.up_lists.proofs.RunLemmas.{Run-taken}
 use Rattle.up_client.specs.Getting.{get_talk}
-use Rattle.up_client.specs.Talks.{Held}
 use Rattle.up_client.specs.declared.fault.ClientFault.{ClientFault}
 use Rattle.up_client.specs.declared.fault.ClientFault.TheVariants as client
-use Rattle.up_command.specs.Printed.{ended, got_lines}
-use Rattle.up_command.specs.Statuses.{IsOneOf}
 use Rattle.up_names.specs.PathNames.{PathName, path_of}
 use Rattle.up_names.specs.Texts.{Text, UserName}
 use Rattle.up_wire.specs.declared.replies.Reply.{Reply}
 use Rattle.up_wire.specs.declared.requests.Request.{Request}
 use Rattle.up_cache.specs.Caching.{CachedAnswers, Caching, caching}
 use Rattle.up_cache.specs.Copying.{PathResult, Copied, CopiedOver, PathDid, Ends, PathCame, PathDoes, PlainDid, PlainlyCopied, copy_capacity, counts_line, result_of_get, is_cut, printed, did_text}
-use Rattle.up_cache.specs.Printing.{FileCopied, PrintedAs, Running, Stopped, StopsBy, PrintedResult, WordCopied, WordsCopied, WrittenBy, code_by}
-use Rattle.up_cache.specs.Steady.{IsSteady, Leads, Plain}
+use Rattle.up_cache.specs.Printing.{FileCopied, PrintedAs, Running, Stopped, StopsBy, PrintedResult, WordCopied, WrittenBy, code_by}
+use Rattle.up_cache.specs.Steady.{IsSteady, Leads}
 use Rattle.up_cache.specs.declared.stop.Stop.{Stop}
 use Rattle.up_cache.specs.declared.stop.Stop.TheVariants as stop
 use Rattle.up_cache.proofs.Printings.{part_after}
@@ -148,9 +144,6 @@ module _ {S : Type 0} (answers : S → Request → Option Reply → S → Type 0
             written = cut_by old now (printed (so.dids ++ told.0 ∷ [])) why told.1.1.1
                 (subst (λ xs. WritesPart old now xs) (sym (printed_more so.dids told.0)) (part_after old mid now (printed so.dids) (did_text told.0) so.written told.1.1.0));
           }
-
-  pub going_end : (old now : Option Text) (a b : S) (words : List Text) (k : ℕ) → length words ≤ k → Going old now a words k b → Running answers old now a words b
-  going_end old now a b words k above so = subst (λ xs. Running answers old now a xs b) (take_all k words above) so
 
   -- ---- one word
 
