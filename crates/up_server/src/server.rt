@@ -218,7 +218,7 @@ fn answer_both<R: Threads + Wait + Clock + Sync>(
 ) -> Status
     requires { AreSeats door.now.shared.now visit.old.seats }
 {
-    let Some(mut other) = visit.split_off(door.alloc, door.shared) else {
+    let Ok(mut other) = visit.split_off(door.alloc, door.shared) else {
         return Status::OutOfMemory;
     };
     let hatch = Hatch {
