@@ -91,5 +91,18 @@ pub then_ended : {X : Type 0} {x : X} (before mid now n : ℕ) (result : Result 
 then_ended before mid now n result was one two =
     record { stays = λ other. two.stays other ∙ went_on before before mid result was one refl }
 
-pub ruleset ends = (usage_codes, plan_codes, plan_never, opened_codes, listened_codes, logs_codes, moved_codes, both_codes, both_never,
-    answered_codes, said_codes, refused_code, served_codes)
+pub ruleset ends = (
+  usage_codes,
+  plan_codes,
+  plan_never,
+  opened_codes,
+  listened_codes,
+  logs_codes,
+  moved_codes,
+  both_codes,
+  both_never,
+  answered_codes,
+  said_codes,
+  refused_code,
+  served_codes,
+)
