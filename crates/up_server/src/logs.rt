@@ -1,5 +1,5 @@
 //! The logs of a server are opened, and those of the first format moved.
-ghost use Rattle.std.specs.Prelude.{◌≡◌, ◌≤◌, ◌+◌, [], ◌∷◌, length, IfErr, IfOk};
+ghost use Rattle.std.specs.Prelude.{◌≡◌, ◌≤◌, ◌+◌, [], ◌∷◌, length, IfErr, IfOk, OnOk};
 ghost use Rattle.up_command.specs.Statuses.{IsOneOf};
 ghost use Rattle.up_journal.specs.Journal.{AreLimits};
 ghost use Rattle.up_lists.specs.Counts.{Rose, StaysUnless};
@@ -55,6 +55,7 @@ pub(crate) fn served_disks<K: Sink>(
     ensures write_fault { ended_with result ≡ 3 → Rose (K.faults sink.old) (K.faults sink.new) }
     ensures sink_counts { K.faults sink.old ≤ K.faults sink.new }
     ensures sink_quiet { StaysUnless (K.faults sink.old) (K.faults sink.new) (ended_with result ≡ 3) }
+    ensures went_on { OnOk result (K.faults sink.new ≡ K.faults sink.old) }
 {
     match opened(alloc, place) {
         Ok(logs) => all_moved(alloc, place, logs, sink),
@@ -82,6 +83,7 @@ fn all_moved<K: Sink>(
     ensures write_fault { ended_with result ≡ 3 → Rose (K.faults sink.old) (K.faults sink.new) }
     ensures sink_counts { K.faults sink.old ≤ K.faults sink.new }
     ensures sink_quiet { StaysUnless (K.faults sink.old) (K.faults sink.new) (ended_with result ≡ 3) }
+    ensures went_on { OnOk result (K.faults sink.new ≡ K.faults sink.old) }
 {
     let mut left = logs;
     let mut disks = Disks::new(alloc);

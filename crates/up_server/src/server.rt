@@ -1,5 +1,5 @@
 //! `upspin serve`.
-ghost use Rattle.std.specs.Prelude.{◌≡◌, ◌≤◌, ◌+◌, [], ◌∷◌, length, map, string_bytes, None, Some, true, is_some, IfErr, IfSome};
+ghost use Rattle.std.specs.Prelude.{◌≡◌, ◌≤◌, ◌+◌, [], ◌∷◌, length, map, string_bytes, None, Some, true, is_some, IfErr, IfSome, OnOk};
 ghost use Rattle.std.specs.Io.KnownBytes.{Appends};
 ghost use Rattle.up_command.specs.Statuses.{IsOneOf, code_of, usage_line};
 ghost use Rattle.up_lists.specs.Counts.{Rose, StaysUnless};
@@ -111,6 +111,7 @@ fn opened<K: Sink>(
     ensures write_fault { ended_with result ≡ 3 → Rose (K.faults sink.old) (K.faults sink.new) }
     ensures sink_counts { K.faults sink.old ≤ K.faults sink.new }
     ensures sink_quiet { StaysUnless (K.faults sink.old) (K.faults sink.new) (ended_with result ≡ 3) }
+    ensures went_on { OnOk result (K.faults sink.new ≡ K.faults sink.old) }
 {
     let alloc = rt.alloc();
     let (Some(folder), Some(enrol)) = (text(&plan.folder), text(&plan.enrol)) else {
@@ -147,6 +148,7 @@ fn enrolled<S: Source, K: Sink>(
     ensures write_fault { ended_with result ≡ 3 → Rose (K.faults sink.old) (K.faults sink.new) }
     ensures sink_counts { K.faults sink.old ≤ K.faults sink.new }
     ensures sink_quiet { StaysUnless (K.faults sink.old) (K.faults sink.new) (ended_with result ≡ 3) }
+    ensures went_on { OnOk result (K.faults sink.new ≡ K.faults sink.old) }
 {
     match serve_open(alloc, random, words, disks, users, sink) {
         Ok(host) => Ok(host),
