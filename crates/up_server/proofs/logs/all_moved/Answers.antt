@@ -9,5 +9,5 @@ loop-disk-preserved g c = record {
   long = grind (arith, common_steps);
   later = omega (arith, c.loop-disk.invariant.later, c.moved.ensures.sink_counts);
   written = went_on (g.K.Sink.faults c.args.sink.now) (g.K.Sink.faults c.loop-disk.sink) (g.K.Sink.faults c.moved.new.sink)
-      c.moved.result c.in_ok-moved.was c.moved.ensures.sink_quiet c.loop-disk.invariant.written;
+      c.moved.result c.in_ok-disk.was c.moved.ensures.sink_quiet c.loop-disk.invariant.written;
 }
