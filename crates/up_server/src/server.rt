@@ -125,10 +125,12 @@ fn opened<K: Sink>(
     let disks = served_disks(alloc, place, sink)?;
     if enrol.is_empty() {
         let mut nobody = StdSource::new(io::empty());
-        return enrolled(alloc, random, words, disks, &mut nobody, sink);
+        let host = enrolled(alloc, random, words, disks, &mut nobody, sink)?;
+        return Ok(host);
     }
     let mut users = open_enrol(&rt, enrol);
-    enrolled(alloc, random, words, disks, &mut users, sink)
+    let host = enrolled(alloc, random, words, disks, &mut users, sink)?;
+    Ok(host)
 }
 
 // The host over these disks, with the users of a source enrolled.
