@@ -1,6 +1,7 @@
 //! Who answers connections.
-ghost use Rattle.std.specs.Prelude.{IfSome};
+ghost use Rattle.std.specs.Prelude.{IfOk};
 
+use std::alloc::AllocError;
 use std::net::{SocketAddr, TcpStream};
 use std::sync::Wait;
 
@@ -12,11 +13,11 @@ pub trait Attends: Sync {
     /// Whether a part is one of this.
     ghost is_part: { Self → Self.Part → Type 0 };
 
-    /// A part for one more connection. `None` where there is none, as for want of memory.
-    fn split(&self, part: &mut Self::Part) -> Option<Self::Part>
+    /// A part for one more connection, or want of memory.
+    fn split(&self, part: &mut Self::Part) -> Result<Self::Part, AllocError>
         requires { is_part self.now part.old }
         ensures kept { is_part self.now part.new }
-        ensures other { IfSome result (is_part self.now) };
+        ensures other { IfOk result (is_part self.now) };
 
     /// Answers a connection, which came from this address, to its end.
     fn attend<R: Wait>(&self, rt: &R, part: &mut Self::Part, stream: &TcpStream, from: SocketAddr)

@@ -17,8 +17,8 @@ pub struct Bounds {
     pub at_once: u64,
 }
 
-/// Accepts so many connections, and has each answered, in a thread of its own, or here where none starts or where there is no part for
-/// it. It returns when all have ended. An `Err` says why no more are accepted; those that came have ended then too.
+/// Accepts so many connections, and has each answered, in a thread of its own, or here where none starts or where there is no memory for
+/// a part of it. It returns when all have ended. An `Err` says why no more are accepted; those that came have ended then too.
 pub fn serve_each<A: Attends, R: Threads + Wait + Clock + Sync>(
     rt: &R,
     listener: &TcpListener,
@@ -39,7 +39,7 @@ pub fn serve_each<A: Attends, R: Threads + Wait + Clock + Sync>(
             for _ in 0..bounds.connections {
                 room.enter(rt);
                 let (stream, from) = accepted(rt, listener)?;
-                let Some(part) = attendant.split(whole) else {
+                let Ok(part) = attendant.split(whole) else {
                     one(rt, attendant, whole, stream, from, room);
                     continue;
                 };

@@ -15,6 +15,7 @@ infixl 10 ◌>>=◌
 abbrev pub ◌>>=◌ : {A B : Type 0} → Option A → (A → Option B) → Option B
 found >>= next = option_and_then next found
 
+-- the byte `:`
 abbrev pub is_colon : ℕ → Bool
 is_colon b = b == byte ":"
 

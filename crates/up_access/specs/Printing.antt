@@ -35,6 +35,7 @@ printed_items items = join_by item_text (codes ", ") items
 unfoldable pub printed_rule : Rule → Text
 printed_rule rule = printed_rights rule.rights ++ codes ": " ++ printed_items rule.items ++ 0x0A ∷ []
 
+-- a text is the lines of its rules, one after the other
 abbrev pub printed : List Rule → Text
 printed rules = flat_map printed_rule rules
 

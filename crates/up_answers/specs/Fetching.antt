@@ -29,12 +29,14 @@ use Rattle.sha2.specs.Sha256.{sha256}
 abbrev pub Fetched : Type 0
 Fetched = List (Location × Fetch)
 
+-- two endpoints are the same: both the host's own store, or the same address
 abbrev pub endpoint_eq : Endpoint → Endpoint → Bool
 endpoint_eq Local Local = true
 endpoint_eq Local (Address b) = false
 endpoint_eq (Address a) Local = false
 endpoint_eq (Address a) (Address b) = bytes_eq a b
 
+-- two locations are the same: reference and endpoint are
 abbrev pub location_eq : Location → Location → Bool
 location_eq a b = bytes_eq a.reference b.reference && endpoint_eq a.endpoint b.endpoint
 
@@ -42,6 +44,7 @@ location_eq a b = bytes_eq a.reference b.reference && endpoint_eq a.endpoint b.e
 abbrev pub fetch_for : Fetched → Block → Option Fetch
 fetch_for fetched block = lookup (location_eq block.location) fetched
 
+-- whether a fetch failed; one that found nothing, or was not made, did not
 abbrev pub is_failed : Option Fetch → Bool
 is_failed None = false
 is_failed (Some Failed) = true
@@ -51,7 +54,8 @@ is_failed (Some (Got bytes)) = false
 -- the block's bytes, where bytes of its size and its reference were fetched (FIPS 180-4)
 abbrev pub good_bytes : Block → Option Fetch → Option Text
 good_bytes block None = None
-good_bytes block (Some (Got bytes)) = if length bytes == block.size && bytes_eq (sha256 bytes) block.location.reference then Some bytes else None
+good_bytes block (Some (Got bytes)) =
+    if length bytes == block.size && bytes_eq (sha256 bytes) block.location.reference then Some bytes else None
 good_bytes block (Some Missing) = None
 good_bytes block (Some Failed) = None
 
@@ -69,6 +73,7 @@ parsed text (std.Ok said) = std.Ok text
 parsed text (std.Err (fault.BadText line)) = std.Err (reply.BadText line)
 parsed text (std.Err fault.OutOfMemory) = std.Err reply.OutOfMemory
 
+-- the text of a control file, where it parses as its kind; or the reply that names its first bad line
 abbrev pub parsed_as : UserName → Control → Text → Result Text Reply
 parsed_as owner control.Access text = parsed text (access_of owner text)
 parsed_as owner control.Group text = parsed text (group_of owner text)

@@ -52,15 +52,20 @@ NothingBelowLinks = (log : Log) → IsWhole log → (path : PathName) (m : ℕ) 
 
 -- a path below a link has the link's governor, and a user other than the owner who has no right on the link has none on the path
 abbrev pub NoRightsBelowLinks : Type 0
-NoRightsBelowLinks = (log : Log) (loaded : Loading) (user : UserName) → IsWhole log → user ≢ log.owner → (path : PathName) (m : ℕ) (link : Entry) → m ≤ length path.elements →
+NoRightsBelowLinks =
+    (log : Log) (loaded : Loading) (user : UserName) → IsWhole log → user ≢ log.owner
+    → (path : PathName) (m : ℕ) (link : Entry) → m ≤ length path.elements →
     link_at (tree_of log.records) (cut m path) ≡ Some link →
     (governor (facts_of log.owner (tree_of log.records)) path ≡ governor (facts_of log.owner (tree_of log.records)) (cut m path))
     × (has_some (look_now log loaded user) (cut m path) ≡ false → has_some (look_now log loaded user) path ≡ false)
 
 -- the tests of links and rights answer alike, where a user other than the owner sees the same
 abbrev pub ChecksAreAlike : Type 0
-ChecksAreAlike = (user : UserName) (loaded : Loading) (one two : Log) → IsWhole one → IsWhole two → one.owner ≡ two.owner → user ≢ one.owner → SeesTheSame user loaded one two →
-    (path : PathName) (needed : Option Right) → check (look_now one loaded user) (ways path) path needed ≡ check (look_now two loaded user) (ways path) path needed
+ChecksAreAlike =
+    (user : UserName) (loaded : Loading) (one two : Log) → IsWhole one → IsWhole two
+    → one.owner ≡ two.owner → user ≢ one.owner → SeesTheSame user loaded one two →
+    (path : PathName) (needed : Option Right)
+    → check (look_now one loaded user) (ways path) path needed ≡ check (look_now two loaded user) (ways path) path needed
 
 -- the last of the elements of a pattern that a path matches is not literal
 abbrev pub EndsUnlike : PatternName → PathName → Type 0
@@ -69,7 +74,8 @@ EndsUnlike pattern path = ends_literal (take (length path.elements) pattern.elem
 -- an item that a row of Glob shows is seen at its path, or, where the last element that it matches is not literal, is listed in its parent
 abbrev pub RowsAreSeen : Type 0
 RowsAreSeen = (look : Look) (pattern : PatternName) (path : PathName) → is_met look pattern path ≡ true →
-    (has_some look path ≡ true) ⊎ (EndsUnlike pattern path × ((dir : PathName) × (parent_of path ≡ Some dir) × ((rights look dir).list ≡ true)))
+    (has_some look path ≡ true)
+    ⊎ (EndsUnlike pattern path × ((dir : PathName) × (parent_of path ≡ Some dir) × ((rights look dir).list ≡ true)))
 
 -- an entry is what is seen at a path
 abbrev pub IsSeenAt : Look → PathName → Entry → Type 0
@@ -77,16 +83,19 @@ IsSeenAt look path entry = (seen : View) × (view look path ≡ Some seen) × (s
 
 -- an entry is among the children in what is seen of the parent of a path
 abbrev pub IsListedAt : Look → PathName → Entry → Type 0
-IsListedAt look path entry = (dir : PathName) × (seen : View) × (listed : List (PathName × Entry)) × (parent_of path ≡ Some dir) × (view look dir ≡ Some seen)
+IsListedAt look path entry =
+    (dir : PathName) × (seen : View) × (listed : List (PathName × Entry)) × (parent_of path ≡ Some dir) × (view look dir ≡ Some seen)
     × (seen.children ≡ Some listed) × Contains listed (path, entry)
 
 -- The entry of a row of Glob is seen at its path, or, where the last element that it matches is not literal, among the children in
 -- what is seen of its parent. A pattern that is all literal has one row, whose entry is seen at the pattern's path.
 pub record RowsAreShown : Type 0 where
-  pub matched : (log : Log) (loaded : Loading) (user : UserName) (pattern : PatternName) (path : PathName) (node : Node) (row : Row) → IsWhole log →
+  pub matched : (log : Log) (loaded : Loading) (user : UserName) (pattern : PatternName) (path : PathName) (node : Node) (row : Row)
+      → IsWhole log →
       node_at (tree_of log.records) path ≡ Some node → row_of (look_now log loaded user) pattern path node ≡ Some row →
       IsSeenAt (look_now log loaded user) path row.entry ⊎ (EndsUnlike pattern path × IsListedAt (look_now log loaded user) path row.entry)
-  pub literal : (look : Look) (pattern : PatternName) (rows : List Row) → is_whole pattern ≡ true → glob_reply look pattern ≡ Ok (Rows rows) →
+  pub literal : (look : Look) (pattern : PatternName) (rows : List Row)
+      → is_whole pattern ≡ true → glob_reply look pattern ≡ Ok (Rows rows) →
       (row : Row) × (rows ≡ row ∷ []) × IsSeenAt look (literal_path pattern) row.entry
 
 -- the items of Watch are those under the watched path of which something is seen
@@ -97,23 +106,29 @@ ItemsAreSeen = (look : Look) (path : PathName) → items_under look path
 
 -- in a snapshot tree nobody but its base user passes a check, and all others are answered Private
 abbrev pub SnapshotsArePrivate : Type 0
-SnapshotsArePrivate = (look : Look) (tested : List PathName) (path : PathName) (needed : Option Right) → owns_snapshots look.owner ≡ true → look.user ≢ base_of look.owner →
+SnapshotsArePrivate =
+    (look : Look) (tested : List PathName) (path : PathName) (needed : Option Right)
+    → owns_snapshots look.owner ≡ true → look.user ≢ base_of look.owner →
     check look tested path needed ≡ Some Private
 
 -- a right in the set of a user's rights is one that the user has
 abbrev pub RightsAreMeant : Type 0
 RightsAreMeant = (log : Log) (loaded : Loading) (user : UserName) (right : Right) (path : PathName) →
-    IsTrue (has_right (rights (look_now log loaded user) path) right) ↔ HasRight (facts_of log.owner (tree_of log.records)) loaded user right path
+    IsTrue (has_right (rights (look_now log loaded user) path) right) ↔ HasRight
+    (facts_of log.owner (tree_of log.records)) loaded user right path
 
 -- at a path of another owner a user who is not the tree's owner sees nothing; so "every path" says no more than "every path of
 -- the owner"
 abbrev pub OtherPathsAreHidden : Type 0
-OtherPathsAreHidden = (log : Log) (loaded : Loading) (user : UserName) (path : PathName) → IsWhole log → user ≢ log.owner → path.owner ≢ log.owner → view (look_now log loaded user) path ≡ None
+OtherPathsAreHidden =
+    (log : Log) (loaded : Loading) (user : UserName) (path : PathName) → IsWhole log
+    → user ≢ log.owner → path.owner ≢ log.owner → view (look_now log loaded user) path ≡ None
 
 -- Two logs that agree for a user, and for what the request uses of what was loaded, give the user the same answer: to every request,
 -- refusals and requests on snapshot trees too.
 abbrev pub AnswersAgree : Type 0
-AnswersAgree = (user : UserName) (loaded : Loading) (fetched : Fetched) (request : Request) (now : ℕ) (one two : Log) → IsWhole one → IsWhole two →
+AnswersAgree =
+    (user : UserName) (loaded : Loading) (fetched : Fetched) (request : Request) (now : ℕ) (one two : Log) → IsWhole one → IsWhole two →
     Agree user (used request loaded ∷ []) one two → answer one loaded fetched user request now ≡ answer two loaded fetched user request now
 
 -- ---- agreement is kept
@@ -137,12 +152,15 @@ pub record IsApart (user : UserName) (loadings : List Loading) (log : Log) (reco
   pub no_group : group_node (tree_of log.records) path ≡ None
   pub no_group_then : group_node (tree_of (log.records ++ record' ∷ [])) path ≡ None
   pub hidden : (loaded : Loading) → Contains loadings loaded → has_some (look_now log loaded user) path ≡ false
-  pub unlisted : (loaded : Loading) (dir : PathName) → Contains loadings loaded → parent_of path ≡ Some dir → (rights (look_now log loaded user) dir).list ≡ false
-  pub unnamed : (loaded : Loading) (dir : PathName) → Contains loadings loaded → parent_of path ≡ Some dir → (rights (look_now log loaded user) dir).delete ≡ false
+  pub unlisted : (loaded : Loading) (dir : PathName) → Contains loadings loaded
+      → parent_of path ≡ Some dir → (rights (look_now log loaded user) dir).list ≡ false
+  pub unnamed : (loaded : Loading) (dir : PathName) → Contains loadings loaded
+      → parent_of path ≡ Some dir → (rights (look_now log loaded user) dir).delete ≡ false
 
 -- Two logs that agree for a user who is not the owner still agree after changes of which the user sees nothing, with as many bytes.
 abbrev pub ApartChangesKeepAgreement : Type 0
-ApartChangesKeepAgreement = (user : UserName) (loadings : List Loading) (one two : Log) (a b : Rec) → user ≢ one.owner → IsWhole one → IsWhole two →
+ApartChangesKeepAgreement =
+    (user : UserName) (loadings : List Loading) (one two : Log) (a b : Rec) → user ≢ one.owner → IsWhole one → IsWhole two →
     IsApart user loadings one a → IsApart user loadings two b → size_of a ≡ size_of b →
     Agree user loadings one two → Agree user loadings (with_record one a) (with_record two b)
 
@@ -154,18 +172,24 @@ after_request log loaded fetched user request now = record log { records = log.r
 
 -- the record that a request adds at a moment of the calendar fits the log
 abbrev pub AddedRecordsFit : Type 0
-AddedRecordsFit = (log : Log) (loaded : Loading) (fetched : Fetched) (user : UserName) (request : Request) (now : ℕ) → IsWhole log → now < 253402207200 →
+AddedRecordsFit =
+    (log : Log) (loaded : Loading) (fetched : Fetched) (user : UserName) (request : Request) (now : ℕ) → IsWhole log → now < 253402207200 →
     IsWhole (after_request log loaded fetched user request now)
 
 -- Two logs that agree for a user who is not the owner still agree after the same record of an ordinary path, whoever adds it.
 abbrev pub SameRecordsKeepAgreement : Type 0
-SameRecordsKeepAgreement = (user : UserName) (loadings : List Loading) (one two : Log) (record' : Rec) (path : PathName) → user ≢ one.owner → IsWhole one → IsWhole two →
-    touched record' ≡ Some path → control_of path ≡ control.Ordinary → IsWhole (with_record one record') → IsWhole (with_record two record') →
+SameRecordsKeepAgreement =
+    (user : UserName) (loadings : List Loading) (one two : Log) (record' : Rec) (path : PathName)
+    → user ≢ one.owner → IsWhole one → IsWhole two →
+    touched record' ≡ Some path → control_of path ≡ control.Ordinary
+    → IsWhole (with_record one record') → IsWhole (with_record two record') →
     Agree user loadings one two → Agree user loadings (with_record one record') (with_record two record')
 
 -- Two logs that agree for a user agree after the same request of that user.
 abbrev pub RequestsKeepAgreement : Type 0
-RequestsKeepAgreement = (user : UserName) (loadings : List Loading) (loaded : Loading) (fetched : Fetched) (request : Request) (now : ℕ) (one two : Log) → IsWhole one → IsWhole two →
+RequestsKeepAgreement =
+    (user : UserName) (loadings : List Loading) (loaded : Loading) (fetched : Fetched) (request : Request) (now : ℕ) (one two : Log)
+    → IsWhole one → IsWhole two →
     now < 253402207200 → Contains loadings (used request loaded) → Agree user loadings one two →
     Agree user loadings (after_request one loaded fetched user request now) (after_request two loaded fetched user request now)
 
@@ -179,6 +203,7 @@ pub record Turn : Type 0 where
   pub fetched : Fetched
   pub now : ℕ
 
+-- the log after a turn
 abbrev pub after_turn : Log → Turn → Log
 after_turn log turn = after_request log turn.loaded turn.fetched turn.user turn.request turn.now
 
@@ -186,7 +211,8 @@ after_turn log turn = after_request log turn.loaded turn.fetched turn.user turn.
 abbrev pub replies_to : UserName → Log → List Turn → List Reply
 replies_to user log [] = []
 replies_to user log (turn ∷ turns) =
-    if bytes_eq turn.user user then answer log turn.loaded turn.fetched turn.user turn.request turn.now ∷ replies_to user (after_turn log turn) turns
+    if bytes_eq turn.user user
+    then answer log turn.loaded turn.fetched turn.user turn.request turn.now ∷ replies_to user (after_turn log turn) turns
     else replies_to user (after_turn log turn) turns
 
 -- all moments are of the calendar
@@ -201,12 +227,15 @@ InStep user loadings one two [] [] = ⊤
 InStep user loadings one two [] (turn ∷ turns) = ⊥
 InStep user loadings one two (turn ∷ turns) [] = ⊥
 InStep user loadings one two (a ∷ as') (b ∷ bs) =
-    (((a.user ≡ user) × (a ≡ b) × Contains loadings (used a.request a.loaded)) ⊎ ((a.user ≢ user) × (b.user ≢ user) × Agree user loadings (after_turn one a) (after_turn two b)))
+    (((a.user ≡ user) × (a ≡ b) × Contains loadings (used a.request a.loaded))
+    ⊎ ((a.user ≢ user) × (b.user ≢ user) × Agree user loadings (after_turn one a) (after_turn two b)))
     × InStep user loadings (after_turn one a) (after_turn two b) as' bs
 
 -- Two logs that agree for a user at the start give the user the same replies, turn by turn.
 abbrev pub HistoriesAgree : Type 0
-HistoriesAgree = (user : UserName) (loadings : List Loading) (one two : Log) (as' bs : List Turn) → IsWhole one → IsWhole two → AreInCalendar as' → AreInCalendar bs →
+HistoriesAgree =
+    (user : UserName) (loadings : List Loading) (one two : Log) (as' bs : List Turn)
+    → IsWhole one → IsWhole two → AreInCalendar as' → AreInCalendar bs →
     Agree user loadings one two → InStep user loadings one two as' bs → replies_to user one as' ≡ replies_to user two bs
 
 -- ---- what is loaded
@@ -215,7 +244,9 @@ HistoriesAgree = (user : UserName) (loadings : List Loading) (one two : Log) (as
 -- some group needed in the other. So "the same answer" is one for the same loading, also where the other tree's host would have
 -- loaded more.
 abbrev pub NeedsMayDiffer : Type 0
-NeedsMayDiffer = (user : UserName) × (loaded : Loading) × (asked : ReadRequest) × (one : Log) × (two : Log) × IsWhole one × IsWhole two × Agree user (loaded ∷ []) one two
+NeedsMayDiffer =
+    (user : UserName) × (loaded : Loading) × (asked : ReadRequest) × (one : Log)
+    × (two : Log) × IsWhole one × IsWhole two × Agree user (loaded ∷ []) one two
     × (needs_asked one loaded user asked ≡ []) × (needs_asked two loaded user asked ≢ [])
 
 -- the second loading has each answer of the first
@@ -224,5 +255,7 @@ Extends less more = (name : PathName) (answer : LoadAnswer) → answer_for less 
 
 -- Where no group is needed at a path any more, what is loaded besides changes no right on it.
 abbrev pub RightsAreSettled : Type 0
-RightsAreSettled = (tree : TreeFacts) (listed : List PathName) (less more : Loading) (user : UserName) (right : Right) (path : PathName) → ListsGroups tree listed → Extends less more →
+RightsAreSettled =
+    (tree : TreeFacts) (listed : List PathName) (less more : Loading) (user : UserName) (right : Right) (path : PathName)
+    → ListsGroups tree listed → Extends less more →
     needed tree listed less path ≡ [] → HasRight tree less user right path ↔ HasRight tree more user right path

@@ -38,12 +38,12 @@ event_places log sequence path n = elim (change_at log.records n) [
       then (tree_of log.records, change.entry.name) ∷ (tree_at log.records (suc n), change.entry.name) ∷ [] else []
 ]
 
--- the same of the first n records, in order
+-- the places that Watch looks at for the events of the first n records, in order
 abbrev pub event_places_to : Log → ℕ → PathName → ℕ → List Place
 event_places_to log sequence path zero = []
 event_places_to log sequence path (suc n) = event_places_to log sequence path n ++ event_places log sequence path n
 
--- what a Watch looks at behind the watched path, by its sequence
+-- what a Watch looks at after the watched path, by its sequence
 abbrev pub watch_places : Log → PathName → ℤ → List Place
 watch_places log path (pos sequence) = event_places_to log sequence path (length log.records)
 watch_places log path (negsuc zero) = items_where (λ name. is_under name path) (tree_of log.records)
@@ -106,5 +106,6 @@ first_records n log = record log { records = take n log.records }
 -- each name was answered is the matter of those who were asked.
 pub record IsLoading (log : Log) (floor n : ℕ) (user : UserName) (request : Request) (loaded : Loading) : Type 0 where
   pub names : IsDistinct path_eq (keys_of loaded)
-  pub stood : (i : ℕ) (pair : PathName × LoadAnswer) → slice_get loaded i ≡ Some pair → (k : ℕ) × (floor ≤ k) × (k ≤ n) × Contains (needs (first_records k log) (take i loaded) user request) pair.0
+  pub stood : (i : ℕ) (pair : PathName × LoadAnswer) → slice_get loaded i ≡ Some pair
+      → (k : ℕ) × (floor ≤ k) × (k ≤ n) × Contains (needs (first_records k log) (take i loaded) user request) pair.0
   pub ended : (needs (first_records n log) loaded user request ≡ []) ⊎ (length loaded ≡ 1024)

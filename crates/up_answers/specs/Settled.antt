@@ -11,7 +11,9 @@ use Rattle.up_answers.specs.Needs.{needs}
 
 -- Where no group is needed for a request any more, what is loaded besides changes neither its answer nor the record that it adds.
 abbrev pub RepliesAreSettled : Type 0
-RepliesAreSettled = (log : Log) (less more : Loading) (fetched : Fetched) (user : UserName) (request : Request) (now : ℕ) → IsWhole log → Extends less more →
+RepliesAreSettled =
+    (log : Log) (less more : Loading) (fetched : Fetched) (user : UserName) (request : Request) (now : ℕ)
+    → IsWhole log → Extends less more →
     needs log less user request ≡ [] →
     (answer log less fetched user request now ≡ answer log more fetched user request now)
     × (added log less fetched user request now ≡ added log more fetched user request now)

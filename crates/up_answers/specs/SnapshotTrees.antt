@@ -16,7 +16,7 @@ use Rattle.up_log_tree.specs.Logs.{Log}
 use Rattle.up_list.specs.Looks.{Look}
 use Rattle.up_answers.specs.Calendar.{moment_elements}
 
--- where a snapshot of that moment shows what stood at a path
+-- the path at which a snapshot of that moment shows what stood at a path
 abbrev pub moved : ℕ → PathName → PathName
 moved time path = record { owner = snapshot_user path.owner; elements = moment_elements time ++ path.elements }
 
@@ -24,7 +24,7 @@ moved time path = record { owner = snapshot_user path.owner; elements = moment_e
 abbrev pub moved_node : ℕ → Node → Node
 moved_node time node = record node { entry = record node.entry { name = moved time node.entry.name } }
 
--- its canonical text is no longer than a path's may be
+-- an entry has no longer a canonical name than a path's may be
 abbrev pub has_room : Node → Bool
 has_room node = nat_le (length (canonical node.entry.name)) 4096
 
@@ -68,7 +68,7 @@ unfoldable pub with_snapshot : UserName → ℕ → ℕ → Tree → Tree → Tr
 with_snapshot owner time position was tree =
     fold with_node (fold with_new tree (map (made_up owner time position) (directories_above time owner))) (moved_nodes time was)
 
--- the same, where the record is a Snap
+-- a snapshot tree after one more record: a Snap adds a snapshot, and any other record nothing
 abbrev pub with_snapshot_of : UserName → Option Rec → ℕ → Tree → Tree → Tree
 with_snapshot_of owner (Some (Snap time)) position was tree = with_snapshot owner time position was tree
 with_snapshot_of owner (Some (Put entry text)) position was tree = tree

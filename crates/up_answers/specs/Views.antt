@@ -27,6 +27,7 @@ pub record View : Type 0 where
   -- for a directory where delete holds, the paths of its children
   pub names : Option (List PathName)
 
+-- the entry of a node, as the user is shown it
 abbrev pub shown_node : Look → Node → Entry
 shown_node look node = shown look node.entry
 
@@ -46,6 +47,7 @@ of_directory value node = if is_directory (kind_of node) then Some value else No
 abbrev pub where_held : {Y : Type 0} → Bool → (Node → Option Y) → Option Node → Option Y
 where_held held make found = if held then option_and_then make found else None
 
+-- what a user sees at a path by the rights that the user has there
 abbrev pub sight : Look → PathName → View
 sight look path =
     let found = node_at look.tree path in

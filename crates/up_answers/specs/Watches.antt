@@ -17,7 +17,7 @@ use Rattle.up_list.specs.Looks.{Look, has_some, shown, look_now}
 use Rattle.up_list.specs.Checks.{check, ways}
 use Rattle.up_answers.specs.Events.{events}
 
--- of a record above a sequence, on a path under the watched one
+-- whether an event is of a record above a sequence, on a path under the watched one
 abbrev pub is_watched : ℕ → PathName → WatchEvent → Bool
 is_watched sequence path event = nat_lt sequence event.position && is_under event.entry.name path
 
@@ -27,7 +27,8 @@ position_at found i = option_map (λ (event : WatchEvent). event.position) (slic
 
 -- the first 256 events, and the sequence to go on from: the position of the 256th where there are more, else the log's length
 unfoldable pub batch : ℕ → List WatchEvent → Reply
-batch records found = Ok (done.Events (take 256 found) (if nat_lt 256 (length found) then unwrap_or (position_at found 255) records else records))
+batch records found =
+    Ok (done.Events (take 256 found) (if nat_lt 256 (length found) then unwrap_or (position_at found 255) records else records))
 
 -- the items under a path on which the user has any right, each as a Put at its sequence, in order of paths
 unfoldable pub items_under : Look → PathName → List WatchEvent

@@ -63,10 +63,6 @@ plan_plain words = go (trees_word words)
     go None = tt
     go (Some word) = trees_plain word
 
--- what words say is so
-pub found_plain : (words : List Text) (found : Option (List UserName)) → found ≡ audit_plan words → IfSome found ArePlain
-found_plain words found is = subst (λ f. IfSome f ArePlain) (sym is) (plan_plain words)
-
 many_plain : (disks : ℕ) (found : Option (List UserName)) → IfSome found ArePlain → IfSome (found >>= if_so_many disks) ArePlain
 many_plain disks None all = tt
 many_plain disks (Some owners) all = go (length owners + 1 == disks)

@@ -1,5 +1,6 @@
 -- How the references that a log uses are found by its records alone, one after the other. This project's own.
-use Rattle.std.specs.Prelude.{◌≡◌, ℕ, zero, suc, ◌-◌, nat_lt, ◌==◌, Bool, false, not, ◌||◌, if◌then◌else◌, List, [], ◌++◌, is_some, Option, Some, None, slice_get}
+use Rattle.std.specs.Prelude.{◌≡◌, ℕ, zero, suc, ◌-◌, nat_lt, ◌==◌, Bool, false, not, ◌||◌, if◌then◌else◌, List, [], ◌++◌, is_some, Option}
+use Rattle.std.specs.Prelude.{Some, None, slice_get}
 use Rattle.std.specs.FinMap.Entries.{find}
 use Rattle.std.specs.Option.{option_and_then}
 use Rattle.up_audit.specs.Audits.{Ref, is_among, is_snap, references_of}

@@ -28,6 +28,7 @@ disk_after (Err fault) = fault.disk
 abbrev pub log_of : {D : Type 0} → LogState D BlockRecord → List BlockRecord
 log_of blocks = blocks.log
 
+-- the part of a store's log that stays: its limits
 abbrev pub limits_of : {D : Type 0} → LogState D BlockRecord → Limits
 limits_of blocks = blocks.limits
 
@@ -37,14 +38,17 @@ why_of (append.Full records) = why.Full records
 why_of append.Fault = why.Fault
 why_of append.OutOfMemory = why.OutOfMemory
 
+-- why a block is not given whose record is not read
 abbrev pub why_of_read : ReadWhy → BlockWhy
 why_of_read read.Fault = why.Fault
 why_of_read read.OutOfMemory = why.OutOfMemory
 
 -- A record was added, or refused. It is full exactly at the limits; but for a fault, a refused one leaves all as it was.
-pub record AddsBlock {D : Type 0} (disks : Ghosts D) (rec : BlockRecord) (old new : LogState D BlockRecord) (result : Result ℕ BlockWhy) : Type 0 where
+pub record AddsBlock {D : Type 0} (disks : Ghosts D) (rec : BlockRecord)
+    (old new : LogState D BlockRecord) (result : Result ℕ BlockWhy) : Type 0 where
   pub added : AddsRecord disks blocks_in rec old new result
-  pub full : is_full old.limits (sizes_of old.log) (size_of rec) ≡ true → result ≢ Err why.OutOfMemory → result ≡ Err (why.Full (length old.log))
+  pub full : is_full old.limits (sizes_of old.log) (size_of rec) ≡ true
+      → result ≢ Err why.OutOfMemory → result ≡ Err (why.Full (length old.log))
   pub full_only : (n : ℕ) → result ≡ Err (why.Full n) → (is_full old.limits (sizes_of old.log) (size_of rec) ≡ true) × (n ≡ length old.log)
   pub held : result ≢ Err why.NotExist
   pub untouched : IfErr result (λ reason. reason ≢ why.Fault → new ≡ old)
@@ -57,19 +61,23 @@ with_reference reference (Err reason) = Err reason
 
 -- A block was kept, or refused. One that is held changes nothing; else its record is added, with its bytes where the disk tells
 -- them.
-pub record PutsBlock {D : Type 0} (disks : Ghosts D) (bytes : List ℕ) (old new : LogState D BlockRecord) (result : Result (List ℕ) BlockWhy) : Type 0 where
+pub record PutsBlock {D : Type 0} (disks : Ghosts D) (bytes : List ℕ)
+    (old new : LogState D BlockRecord) (result : Result (List ℕ) BlockWhy) : Type 0 where
   pub held : holds old.log (sha256 bytes) ≡ true → (result ≡ Ok (sha256 bytes)) × (new ≡ old)
   pub fresh : holds old.log (sha256 bytes) ≡ false
-      → (added : Result ℕ BlockWhy) × (result ≡ with_reference (sha256 bytes) added) × AddsBlock disks (put_record (is_some (disks.content old.disk)) bytes) old new added
+      → (added : Result ℕ BlockWhy) × (result ≡ with_reference (sha256 bytes) added)
+      × AddsBlock disks (put_record (is_some (disks.content old.disk)) bytes) old new added
 
 -- A block was deleted, or refused.
-pub record DeletesBlock {D : Type 0} (disks : Ghosts D) (reference : List ℕ) (old new : LogState D BlockRecord) (result : Result ℕ BlockWhy) : Type 0 where
+pub record DeletesBlock {D : Type 0} (disks : Ghosts D) (reference : List ℕ)
+    (old new : LogState D BlockRecord) (result : Result ℕ BlockWhy) : Type 0 where
   pub missing : holds old.log reference ≡ false → (result ≡ Err why.NotExist) × (new ≡ old)
   pub held : holds old.log reference ≡ true → AddsBlock disks (Delete reference) old new result
 
 -- A block was given, or refused: where the disk tells them, its bytes, and else as many bytes as it has. Nothing is changed but what
 -- a read does to a disk.
-pub record GivesBlock {D : Type 0} (disks : Ghosts D) (reference : List ℕ) (old new : LogState D BlockRecord) (result : Result (List ℕ) BlockWhy) : Type 0 where
+pub record GivesBlock {D : Type 0} (disks : Ghosts D) (reference : List ℕ)
+    (old new : LogState D BlockRecord) (result : Result (List ℕ) BlockWhy) : Type 0 where
   pub missing : holds old.log reference ≡ false → result ≡ Err why.NotExist
   pub there : result ≡ Err why.NotExist → holds old.log reference ≡ false
   pub found : IfOk result (λ bytes. IsSome (disks.content old.disk) → block_in old.log reference ≡ Some (Some bytes))
@@ -79,7 +87,8 @@ pub record GivesBlock {D : Type 0} (disks : Ghosts D) (reference : List ℕ) (ol
   pub content : disks.content new.disk ≡ disks.content old.disk
   pub untouched : IfErr result (λ reason. reason ≢ why.Fault → new ≡ old)
   pub cause : HasCause (disks.faults old.disk) (disks.faults new.disk) (IsErrOf result why.Fault)
-  pub crash : Leaves disks old.disk new.disk (StandsForLog (blocks_in new.limits.largest) new.log new.further) (StandsForLog (blocks_in old.limits.largest) old.log old.further)
+  pub crash : Leaves disks old.disk new.disk (StandsForLog (blocks_in new.limits.largest) new.log new.further)
+      (StandsForLog (blocks_in old.limits.largest) old.log old.further)
 
 -- the record that a payload is, with the bytes where they are told
 abbrev pub recorded : Bool → List ℕ → BlockRecord

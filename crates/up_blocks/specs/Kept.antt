@@ -33,6 +33,7 @@ abbrev pub record_or : Option BlockRecord → BlockRecord
 record_or None = Delete (replicate 32 0)
 record_or (Some rec) = rec
 
+-- the record that a payload decodes to; asked for only where it decodes
 abbrev pub record_of : List ℕ → BlockRecord
 record_of payload = record_or (decoded payload)
 
@@ -48,7 +49,8 @@ further_seen (Some payloads) further = further_record decoded further
 
 -- the store over a journal that tells this of its payloads, as contracts see it
 abbrev pub store_state : {D : Type 0} → State D → Option (List (List ℕ)) → List Kept → LogState D BlockRecord
-store_state journal told records = record { disk = journal.disk; limits = journal.limits; log = log_seen told records; doubtful = journal.doubtful; further = further_seen told journal.further }
+store_state journal told records =
+    record { disk = journal.disk; limits = journal.limits; log = log_seen told records; doubtful = journal.doubtful; further = further_seen told journal.further }
 
 -- ---- where the blocks are
 
@@ -57,7 +59,7 @@ abbrev pub block_of : BlockRecord → Option (Option (List ℕ))
 block_of (Put reference size bytes) = Some bytes
 block_of (Delete reference) = None
 
--- and its size
+-- the size of the block that a record puts
 abbrev pub size_put : BlockRecord → Option ℕ
 size_put (Put reference size bytes) = Some size
 size_put (Delete reference) = None
@@ -100,6 +102,8 @@ abbrev pub Keeps : {D : Type 0} → Ghosts D → State D → Option (List (List 
 Keeps disks journal None = LeavesNow disks journal.disk (λ image. ⊥)
 Keeps disks journal (Some payloads) = KeepsLog disks decoded fits spelling journal (map record_of payloads)
 
+-- What a store keeps in memory fits its journal: the sizes, the records, and the index of the blocks that are held; and a record of the
+-- longest block has room.
 pub record IsStore {D : Type 0} (disks : Ghosts D) (journal : State D) (records : List Kept) (numbers : List (List ℕ × ℕ)) : Type 0 where
   pub sizes : journal.sizes ≡ map size_kept records
   pub keeps : Keeps disks journal journal.log

@@ -39,6 +39,7 @@ abbrev pub size_of : BlockRecord → ℕ
 size_of (Put reference size bytes) = size + 1
 size_of (Delete reference) = 33
 
+-- the sizes of the payloads of a log's records
 abbrev pub sizes_of : List BlockRecord → List ℕ
 sizes_of log = map size_of log
 
@@ -67,6 +68,7 @@ blocks_of log = fold after_record [] log
 abbrev pub block_in : List BlockRecord → List ℕ → Option (Option (List ℕ))
 block_in log reference = find reference_cmp reference (blocks_of log)
 
+-- whether a block is held
 abbrev pub holds : List BlockRecord → List ℕ → Bool
 holds log reference = is_some (block_in log reference)
 
@@ -75,6 +77,7 @@ abbrev pub sized_after : List (List ℕ × ℕ) → BlockRecord → List (List �
 sized_after sizes (Put reference size bytes) = put reference_cmp reference size sizes
 sized_after sizes (Delete reference) = where_key reference_cmp (λ other. not (eq_by_cmp reference_cmp reference other)) sizes
 
+-- the sizes of the blocks that are held after all these records
 abbrev pub held_sizes : List BlockRecord → List (List ℕ × ℕ)
 held_sizes log = fold sized_after [] log
 

@@ -27,10 +27,12 @@ pub record IsForm {A : Type 0} (Fits : A → Type 0) (spelling : A → List ℕ)
   -- no value's spelling begins another's: what begins with the spellings of two values has one value and one rest
   pub alone : (x y : A) (r s : List ℕ) → Fits x → Fits y → spelling x ++ r ≡ spelling y ++ s → (x ≡ y) × (r ≡ s)
   -- what is spelled is read again, whatever follows it
-  pub again : (x : A) (size : ℕ) (rest : List ℕ) → Fits x → read (record { size = size; left = spelling x ++ rest }) ≡ Ok (x, record { size = size; left = rest })
+  pub again : (x : A) (size : ℕ) (rest : List ℕ) → Fits x
+      → read (record { size = size; left = spelling x ++ rest }) ≡ Ok (x, record { size = size; left = rest })
   -- what is read fits, and is spelled so
   pub takes : (old new : Input) (x : A) → IsBytes old.left → read old ≡ Ok (x, new) → Fits x × Takes old (spelling x) new
   -- short exactly where the input ends within the value
   pub short : (input : Input) → IsBytes input.left → (read input ≡ Err Short) ↔ EndsWithin Fits spelling input.left
   -- misspelled exactly where no spelling begins, and the fault names that place
-  pub misspelled : (input : Input) (p : ℕ) → IsBytes input.left → (read input ≡ Err (Spelling p)) ↔ ((p ≡ place input) × IsNoSpelling Fits spelling input.left)
+  pub misspelled : (input : Input) (p : ℕ) → IsBytes input.left
+      → (read input ≡ Err (Spelling p)) ↔ ((p ≡ place input) × IsNoSpelling Fits spelling input.left)

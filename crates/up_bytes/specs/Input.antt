@@ -10,6 +10,6 @@ pub record Input : Type 0 where
 abbrev pub place : Input → ℕ
 place input = input.size - length input.left
 
--- what is left behind the next n bytes
+-- what is left after the next n bytes
 abbrev pub past : ℕ → Input → Input
 past n input = record { size = input.size; left = drop n input.left }

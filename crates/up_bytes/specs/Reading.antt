@@ -1,4 +1,4 @@
--- Reading a field at the front of what is left: its value and what is left behind it, or the fault. Short is the
+-- Reading a field at the front of what is left: its value and what is left after it, or the fault. Short is the
 -- fault where the input ends within the field, and Spelling with the field's place where no spelling begins there.
 use Rattle.std.specs.Prelude.{◌≡◌, ◌≢◌, ℕ, zero, suc, ℤ, List, [], ◌∷◌, length, take, Option, Some, None, Result, Ok, Err, nat_lt, ◌==◌, slice_index, if◌then◌else◌}
 use Rattle.up_bytes.specs.declared.fault.FieldFault.{FieldFault}
@@ -18,7 +18,7 @@ abbrev pub Answers : {X Y : Type 0} → (X → Y) → Result X FieldFault → Re
 Answers view (Ok x) meant = meant ≡ Ok (view x)
 Answers view (Err e) meant = meant ≡ Err e
 
--- the same of a call that takes memory, and may find none
+-- A call that takes memory gives what is meant, seen by `view`, or the fault that is meant; or it finds no memory.
 abbrev pub Gives : {X Y : Type 0} → (X → Y) → Result X FieldFault → Result Y FieldFault → Type 0
 Gives view (Ok x) meant = meant ≡ Ok (view x)
 Gives view (Err e) meant = e ≢ OutOfMemory → meant ≡ Err e
@@ -31,20 +31,24 @@ FaultFirst meant result = (fault : FieldFault) → meant ≡ Err fault → resul
 abbrev pub bytes_at : ℕ → Input → Result (List ℕ × Input) FieldFault
 bytes_at n input = if nat_lt (length input.left) n then Err Short else Ok (take n input.left, past n input)
 
+-- one byte
 abbrev pub byte_at : Input → Result (ℕ × Input) FieldFault
 byte_at input = if length input.left == 0 then Err Short else Ok (slice_index input.left 0, past 1 input)
 
+-- a number below 2^64 in its shortest form
 unfoldable pub num_at : Input → Result (ℕ × Input) FieldFault
 num_at input =
     let front = num_bytes input.left in
     if is_misspelled front then Err (Spelling (place input))
     else (if is_ended front then Ok (number front, past (length front) input) else Err Short)
 
+-- a signed number of 64 bits
 unfoldable pub int_at : Input → Result (ℤ × Input) FieldFault
 int_at input = do
   n ← num_at input
   Ok (from_zigzag n.0, n.1)
 
+-- a text: its length, and then its bytes
 unfoldable pub text_at : Input → Result (List ℕ × Input) FieldFault
 text_at input = do
   n ← num_at input
@@ -81,12 +85,12 @@ made_of make read input = read input >>= made make
 abbrev pub plain : {A : Type 0} → A → Input → Result (A × Input) FieldFault
 plain x input = Ok (x, input)
 
--- what stands behind a tag, by a table: the fields of the first row with that tag, or no spelling at the tag's place
+-- what stands after a tag, by a table: the fields of the first row with that tag, or no spelling at the tag's place
 abbrev pub row_at : {A : Type 0} → List (ℕ × (Input → Result (A × Input) FieldFault)) → ℕ → ℕ → Input → Result (A × Input) FieldFault
 row_at [] place tag input = Err (Spelling place)
 row_at (row ∷ rows) place tag input = if tag == row.0 then row.1 input else row_at rows place tag input
 
--- a byte, and the fields that the table has behind it
+-- a byte, and the fields that the table has after it
 unfoldable pub tagged_at : {A : Type 0} → List (ℕ × (Input → Result (A × Input) FieldFault)) → Input → Result (A × Input) FieldFault
 tagged_at table input = do
   tag ← byte_at input
@@ -96,7 +100,7 @@ tagged_at table input = do
 abbrev pub from_start : List ℕ → Input
 from_start bytes = record { size = length bytes; left = bytes }
 
--- the value that is the whole of these bytes: a byte behind its last field is Spelling with that byte's place
+-- the value that is the whole of these bytes: a byte after its last field is Spelling with that byte's place
 unfoldable pub whole_of : {A : Type 0} → (Input → Result (A × Input) FieldFault) → List ℕ → Result A FieldFault
 whole_of read bytes = do
   found ← read (from_start bytes)

@@ -5,7 +5,7 @@ use Rattle.up_bytes.specs.declared.fault.FieldFault.TheVariants.{Short, Spelling
 use Rattle.up_bytes.specs.Input.{Input}
 use Rattle.up_bytes.specs.Forms.{IsBytes, Takes, EndsWithin, IsNoSpelling}
 
--- the input with further bytes behind it
+-- the input with further bytes after it
 abbrev pub longer : Input → List ℕ → Input
 longer input more = record { size = input.size + length more; left = input.left ++ more }
 
@@ -14,7 +14,8 @@ pub record AreFields {A : Type 0} (Fits : A → Type 0) (spelling : A → List �
   -- no value's spelling begins another's: what begins with the spellings of two values has one value and one rest
   pub alone : (x y : A) (r s : List ℕ) → Fits x → Fits y → spelling x ++ r ≡ spelling y ++ s → (x ≡ y) × (r ≡ s)
   -- what is spelled is read again, whatever follows it
-  pub again : (x : A) (size : ℕ) (rest : List ℕ) → Fits x → read (record { size = size; left = spelling x ++ rest }) ≡ Ok (x, record { size = size; left = rest })
+  pub again : (x : A) (size : ℕ) (rest : List ℕ) → Fits x
+      → read (record { size = size; left = spelling x ++ rest }) ≡ Ok (x, record { size = size; left = rest })
   -- what is read fits, and is spelled so
   pub takes : (old new : Input) (x : A) → IsBytes old.left → read old ≡ Ok (x, new) → Fits x × Takes old (spelling x) new
   -- an input that ends within a value's spelling is short
@@ -22,8 +23,9 @@ pub record AreFields {A : Type 0} (Fits : A → Type 0) (spelling : A → List �
   -- what is misspelled begins no value's spelling, however it goes on
   pub misspelled : (input : Input) (p : ℕ) → IsBytes input.left → read input ≡ Err (Spelling p) → IsNoSpelling Fits spelling input.left
   -- the answer that a field is misspelled stays, with its place, whatever bytes follow
-  pub stays : (input : Input) (more : List ℕ) (p : ℕ) → IsBytes input.left → IsBytes more → read input ≡ Err (Spelling p) → read (longer input more) ≡ Err (Spelling p)
-  -- short is never the last answer: some further bytes behind the input bring another
+  pub stays : (input : Input) (more : List ℕ) (p : ℕ) → IsBytes input.left → IsBytes more
+      → read input ≡ Err (Spelling p) → read (longer input more) ≡ Err (Spelling p)
+  -- short is never the last answer: some further bytes after the input bring another
   pub answers : (input : Input) → IsBytes input.left → (more : List ℕ) × IsBytes more × (read (longer input more) ≢ Err Short)
 
 -- Values that are each the whole of some bytes, and how they are read.
@@ -35,7 +37,9 @@ pub record AreMessages {A : Type 0} (Fits : A → Type 0) (spelling : A → List
   -- a spelling that is cut is short
   pub short : (bytes more : List ℕ) (x : A) → IsBytes bytes → Fits x → 0 < length more → bytes ++ more ≡ spelling x → read bytes ≡ Err Short
   -- what is misspelled begins no value's spelling, however it goes on, and that answer stays, with its place, whatever follows
-  pub misspelled : (bytes more : List ℕ) (p : ℕ) (x : A) → IsBytes bytes → read bytes ≡ Err (Spelling p) → Fits x → bytes ++ more ≡ spelling x → ⊥
-  pub stays : (bytes more : List ℕ) (p : ℕ) → IsBytes bytes → IsBytes more → read bytes ≡ Err (Spelling p) → read (bytes ++ more) ≡ Err (Spelling p)
+  pub misspelled : (bytes more : List ℕ) (p : ℕ) (x : A) → IsBytes bytes
+      → read bytes ≡ Err (Spelling p) → Fits x → bytes ++ more ≡ spelling x → ⊥
+  pub stays : (bytes more : List ℕ) (p : ℕ) → IsBytes bytes → IsBytes more
+      → read bytes ≡ Err (Spelling p) → read (bytes ++ more) ≡ Err (Spelling p)
   -- short is never the last answer: some further bytes bring another
   pub answers : (bytes : List ℕ) → IsBytes bytes → (more : List ℕ) × IsBytes more × (read (bytes ++ more) ≢ Err Short)

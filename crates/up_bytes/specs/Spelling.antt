@@ -30,15 +30,19 @@ byte b = b ∷ []
 abbrev pub IsByte : ℕ → Type 0
 IsByte b = b < 256
 
+-- a number below 2^64
 abbrev pub IsU64 : ℕ → Type 0
 IsU64 n = n < 2 ^ 64
 
+-- a signed number of 64 bits
 abbrev pub IsI64 : ℤ → Type 0
 IsI64 z = FitsSigned w64 z
 
+-- a text has fewer than 2^64 bytes
 abbrev pub IsText : List ℕ → Type 0
 IsText bytes = length bytes < 2 ^ 64
 
+-- these are n bytes
 abbrev pub HasLength : ℕ → List ℕ → Type 0
 HasLength n bytes = length bytes ≡ n
 

@@ -10,7 +10,7 @@ use Rattle.up_wire.specs.declared.replies.Reply.{Reply}
 use Rattle.up_wire.specs.declared.requests.Request.{Request}
 use Rattle.up_cache.specs.Blocks.{BlockCache}
 use Rattle.up_cache.specs.Caching.{Caching, caching}
-use Rattle.up_cache.specs.Copying.{Came, Copied, CopiedOver, Did, PathCame, PathDoes, copy_capacity, printed}
+use Rattle.up_cache.specs.Copying.{PathResult, Copied, CopiedOver, PathDid, PathCame, PathDoes, copy_capacity, printed}
 use Rattle.up_cache.specs.Printing.{Running, Stopped, StopsBy, WrittenBy}
 use Rattle.up_cache.specs.declared.stop.Stop.{Stop}
 use Rattle.up_cache.specs.declared.stop.Stop.TheVariants as stop
@@ -27,14 +27,14 @@ held_image f one two each talk result a b (heard {request = request} {hear = hea
 
 path_image : {T S : Type 0} (f : T → S) (one : T → Request → Option Reply → T → Type 0) (two : S → Request → Option Reply → S → Type 0)
     → ((a b : T) (request : Request) (given : Option Reply) → one a request given b → two (f a) request given (f b))
-    → (a b : T) (word : Text) (came : Came) → PathCame one a word came b → PathCame two (f a) word came (f b)
+    → (a b : T) (word : Text) (came : PathResult) → PathCame one a word came b → PathCame two (f a) word came (f b)
 path_image f one two each a b word came (PathCame.bad_path none) = PathCame.bad_path none
 path_image f one two each a b word came (PathCame.got {path = path} {result = result} some held) = PathCame.got some (held_image f one two each (get_talk path) result a b held)
 path_image f one two each a b word came PathCame.unread = PathCame.unread
 
 module _ {T S : Type 0} (f : T → S) (one : T → Request → Option Reply → T → Type 0) (two : S → Request → Option Reply → S → Type 0)
     (each : (a b : T) (request : Request) (given : Option Reply) → one a request given b → two (f a) request given (f b)) where
-  run_image : (a b : T) (words : List Text) (dids : List Did) → Run (PathDoes one) a words dids b → Run (PathDoes two) (f a) words dids (f b)
+  run_image : (a b : T) (words : List Text) (dids : List PathDid) → Run (PathDoes one) a words dids b → Run (PathDoes two) (f a) words dids (f b)
   run_image a b words dids run = Run-image f (PathDoes one) (PathDoes two) (λ x word did y came. path_image f one two each x y word (Ok did) came) a b words dids run
 
   pub running_image : (old now : Option Text) (a b : T) (words : List Text) → Running one old now a words b → Running two old now (f a) words (f b)

@@ -1,5 +1,5 @@
 -- A request that is answered from a cache, or passed on.
-use Rattle.std.proofs.Common.{◌≡◌, Option, Some, None, refl, sym, subst}
+use Rattle.std.proofs.Common.{◌≡◌, Option, Some, None, refl, subst}
 use Rattle.up_wire.specs.declared.replies.Reply.{Reply}
 use Rattle.up_wire.specs.declared.requests.Request.{Request}
 use Rattle.up_cache.specs.Blocks.{Block}
@@ -18,8 +18,3 @@ module _ {S : Type 0} where
     pub answers_passed : (old mid new : Caching S) (found : Option Block) (request : Request) (given : Option Reply) → RecalledReply found old None mid → PassedOn answers mid request given new → AnsweredBy answers found old request given new
     answers_passed old mid new None request given is passed = subst (λ (k : Caching S). PassedOn answers k request given new) is passed
     answers_passed old mid new (Some block) request given is passed = absurd is
-
-  -- nobody else is asked
-  pub stays_here : (old new : Caching S) (found : Option Block) (reply : Reply) → RecalledReply found old (Some reply) new → new.ask ≡ old.ask
-  stays_here old new (Some block) reply is = is.ask_stays
-  stays_here old new None reply is = absurd is

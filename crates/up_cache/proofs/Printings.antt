@@ -1,24 +1,22 @@
 -- Texts that are printed one after the other.
-use Rattle.std.proofs.Common.{◌≡◌, ◌≢◌, ◌≤◌, ◌<◌, ◌+◌, ℕ, zero, suc, Bool, true, false, List, [], ◌∷◌, ◌++◌, length, Option, None, Result, Ok, Err, refl, sym, ap, subst, ◌∙◌, append_assoc, append-nil, arith}
-use Rattle.std.specs.Prelude.{codes, IsErrOf}
+use Rattle.std.proofs.Common.{◌≡◌, ◌≤◌, ◌<◌, ◌+◌, ℕ, true, false, List, [], ◌∷◌, ◌++◌, length, Option, Result, Ok, Err, sym, ap, subst, ◌∙◌, append_assoc, append-nil, arith}
+use Rattle.std.specs.Prelude.{codes}
 use Rattle.std.specs.Io.KnownBytes.{Appends}
 use Rattle.std.specs.List.{flat_map, list_any}
-use Rattle.std.proofs.KnownBytes.{Appends-nil, Appends-trans}
+use Rattle.std.proofs.KnownBytes.{Appends-trans}
 use Rattle.std.proofs.lemmas.Grind.{flat_map-append}
 use Rattle.up_ends.specs.Writing.{WritesPart}
-use Rattle.up_ends.proofs.Going.{WritesPart-all, WritesPart-none}
 use Rattle.up_client.specs.declared.fault.ClientFault.{ClientFault}
 use Rattle.up_client.specs.declared.fault.ClientFault.TheVariants as client
-use Rattle.up_command.specs.Printed.{ended, got_lines}
+use Rattle.up_command.specs.Printed.{got_lines}
 use Rattle.up_names.specs.Texts.{Text}
-use Rattle.up_text.specs.Lines.{spaced}
 use Rattle.up_text.specs.Replies.{done_words, further_words, reply_lines, reply_words}
 use Rattle.up_text.specs.Words.{coded, coded_byte, is_coded}
-use Rattle.up_text.proofs.CodeLemmas.{coded-empty, coded-other, flat_map-plain}
+use Rattle.up_text.proofs.CodeLemmas.{coded-other, flat_map-plain}
 use Rattle.up_wire.specs.declared.replies.Done.TheVariants as dones
 use Rattle.up_wire.specs.declared.replies.Reply.TheVariants as replies
-use Rattle.up_cache.specs.Copying.{Came, Did, got_came, lines_text, said}
-use Rattle.up_cache.specs.Printing.{PrintedAs, ToldAs}
+use Rattle.up_cache.specs.Copying.{result_of_get, lines_text}
+use Rattle.up_cache.specs.Printing.{PrintedAs, PrintedResult}
 use Rattle.up_cache.specs.declared.stop.Stop.{Stop}
 use Rattle.up_cache.specs.declared.stop.Stop.TheVariants as stop
 
@@ -57,13 +55,6 @@ printed_stop old now one two stop.WriteFault first = part_before old now one two
 printed_stop old now one two stop.OutOfMemory first = part_before old now one two first
 printed_stop old now one two stop.AskFault first = absurd first
 
-pub printed_none : (held : Option Text) → PrintedAs held held [] (Ok tt)
-printed_none held = Appends-nil held
-
--- there was no memory for a text
-pub printed_wanting : (held : Option Text) (text : Text) → PrintedAs held held text (Err stop.OutOfMemory)
-printed_wanting held text = WritesPart-none held text
-
 -- the same text, told otherwise
 pub printed_as : (old now : Option Text) (one two : Text) (result : Result (Unit {0}) Stop) → one ≡ two → PrintedAs old now one result → PrintedAs old now two result
 printed_as old now one two result same is = subst (λ text. PrintedAs old now text result) same is
@@ -77,11 +68,6 @@ file_line bytes =
     sym (append_assoc (codes "bytes ") (coded bytes) (codes "\n"))
     ∙ ap (λ xs. xs ++ codes "\n") (ap (λ xs. codes "bytes" ++ codes " " ++ xs) (sym (append-nil (coded bytes))))
     ∙ sym (append-nil ((codes "bytes " ++ (coded bytes ++ [])) ++ codes "\n"))
-
--- a text of no byte, and of some
-empty_text : (text : Text) → length text ≡ 0 → text ≡ []
-empty_text [] none = refl
-empty_text (b ∷ text) none = absurd (omega (arith, none))
 
 pub coded_long : (text : Text) → 2 ≤ length text → flat_map coded_byte text ≡ coded text
 coded_long text long = sym (coded-other text (omega (arith, long)) (λ dash. let one : length text ≡ 1 = ap length dash in absurd (omega (arith, one, long))))
@@ -103,9 +89,6 @@ pub record Pieces (old now : Option Text) (bytes rest : Text) : Type 0 where
   pub whole : front ++ rest ≡ bytes
   pub written : PrintedAs old now (flat_map coded_byte front) (Ok tt)
 
-pub pieces_none : (held : Option Text) (bytes : Text) → Pieces held held bytes bytes
-pieces_none held bytes = record { front = []; whole = refl; written = Appends-nil held }
-
 pub pieces_more : (old mid now : Option Text) (bytes rest piece behind : Text) → Pieces old mid bytes rest → piece ++ behind ≡ rest → PrintedAs mid now (flat_map coded_byte piece) (Ok tt) → Pieces old now bytes behind
 pieces_more old mid now bytes rest piece behind so cut next = record {
   front = so.front ++ piece;
@@ -124,26 +107,11 @@ pieces_stop old mid now bytes rest piece behind why so cut next =
     printed_as old now _ (flat_map coded_byte bytes) (Err why) both
     (printed_then old mid now (flat_map coded_byte so.front) (flat_map coded_byte piece ++ flat_map coded_byte behind) (Err why) so.written (printed_stop mid now (flat_map coded_byte piece) (flat_map coded_byte behind) why next))
 
-pub pieces_end : (old now : Option Text) (bytes rest : Text) → Pieces old now bytes rest → length rest ≡ 0 → PrintedAs old now (flat_map coded_byte bytes) (Ok tt)
-pieces_end old now bytes rest so none =
-    printed_as old now (flat_map coded_byte so.front) (flat_map coded_byte bytes) (Ok tt)
-    (ap (λ xs. flat_map coded_byte xs) (sym (append-nil so.front) ∙ ap (λ xs. so.front ++ xs) (sym (empty_text rest none)) ∙ so.whole)) so.written
-
 -- ---- what came of getting a file
 
 -- a file that was got is told by its line
 pub told_file : (old now : Option Text) (got : Result (List ℕ) ClientFault) (bytes shown : List ℕ) (result : Result (Unit {0}) Stop) → got ≡ Ok bytes → shown ≡ bytes → PrintedAs old now (codes "bytes " ++ (coded shown ++ codes "\n")) result
-    → ToldAs old now (got_came got) result
+    → PrintedResult old now (result_of_get got) result
 told_file old now got bytes shown result is same wrote =
     let here : PrintedAs old now (lines_text (got_lines (Ok bytes))) result = printed_as old now (codes "bytes " ++ (coded shown ++ codes "\n")) (lines_text (got_lines (Ok bytes))) result (file_line shown ∙ ap (λ xs. lines_text (got_lines (Ok xs))) same) wrote in
-    subst (λ (r : Result (List ℕ) ClientFault). ToldAs old now (got_came r) result) (sym is) here
-
--- any other fault than these two is told by its lines
-pub told_fault : (fault : ClientFault) → fault ≢ client.Failed → fault ≢ client.OutOfMemory → (old now : Option Text) (result : Result (Unit {0}) Stop) → PrintedAs old now (lines_text (got_lines (Err fault))) result → ToldAs old now (got_came (Err fault)) result
-told_fault client.Failed failed wants old now result is = absurd (failed refl)
-told_fault client.OutOfMemory failed wants old now result is = absurd (wants refl)
-told_fault fault failed wants old now result is = is
-
--- what is printed is no want of an answer
-pub printed_answered : (old now : Option Text) (text : Text) (result : Result (Unit {0}) Stop) → PrintedAs old now text result → IsErrOf result stop.AskFault → ⊥
-printed_answered old now text result is failed = subst (λ (r : Result (Unit {0}) Stop). PrintedAs old now text r) failed is
+    subst (λ (r : Result (List ℕ) ClientFault). PrintedResult old now (result_of_get r) result) (sym is) here

@@ -1,52 +1,48 @@
 -- Words that are done one after the other.
-use Rattle.std.proofs.Common.{◌≡◌, ◌≢◌, ◌≤◌, ◌<◌, ◌+◌, ◌⊎◌, inl, inr, ℕ, Bool, true, false, List, [], ◌∷◌, ◌++◌, length, take, drop, map, get_or, zero, suc, Option, Some, None, Result, Ok, Err, refl, sym, ap, subst, ◌∙◌, append_assoc, append-nil, arith}
-use Rattle.std.specs.Prelude.{codes, IsErrOf, IfSome}
+use Rattle.std.proofs.Common.{◌≡◌, ◌≢◌, ◌<◌, ◌+◌, ◌⊎◌, inl, inr, ℕ, true, false, List, [], ◌∷◌, ◌++◌, length, take, drop, map, get_or, zero, suc, Option, Some, None, Result, Ok, Err, refl, sym, ap, subst, ◌∙◌, append-nil, arith}
+use Rattle.std.specs.Prelude.{codes, IfSome}
 use Rattle.std.specs.Result.{result_ok}
 use Rattle.std.specs.Io.KnownBytes.{Appends}
-use Rattle.std.specs.List.{AllZip, flat_map}
+use Rattle.std.specs.List.{AllZip}
 use Rattle.std.proofs.KnownBytes.{Appends-nil, Appends-trans}
 use Rattle.std.proofs.lemmas.Grind.{flat_map-append}
-use Rattle.std.proofs.lemmas.List.{drop_more, length-map, take-append-drop, take_all}
+use Rattle.std.proofs.lemmas.List.{drop_more, length-map, take-append-drop}
 use Rattle.up_ends.specs.Writing.{WritesPart}
 use Rattle.up_ends.proofs.Going.{WritesPart-all, WritesPart-none}
-use Rattle.up_lists.specs.Counts.{HasCause, Rose}
 use Rattle.up_lists.specs.Runs.{Run}
-use Rattle.up_lists.proofs.RunLemmas.{Run-append, Run-snoc, Run-taken}
+use Rattle.up_lists.proofs.RunLemmas.{Run-taken}
 use Rattle.up_client.specs.Getting.{get_talk}
-use Rattle.up_client.specs.Talks.{Held}
 use Rattle.up_client.specs.declared.fault.ClientFault.{ClientFault}
 use Rattle.up_client.specs.declared.fault.ClientFault.TheVariants as client
-use Rattle.up_command.specs.Printed.{ended, got_lines}
-use Rattle.up_command.specs.Statuses.{IsOneOf}
 use Rattle.up_names.specs.PathNames.{PathName, path_of}
 use Rattle.up_names.specs.Texts.{Text, UserName}
 use Rattle.up_wire.specs.declared.replies.Reply.{Reply}
 use Rattle.up_wire.specs.declared.requests.Request.{Request}
 use Rattle.up_cache.specs.Caching.{CachedAnswers, Caching, caching}
-use Rattle.up_cache.specs.Copying.{Came, Copied, CopiedOver, Did, Ends, PathCame, PathDoes, PlainDid, PlainlyCopied, copy_capacity, counts_line, got_came, is_cut, printed, said}
-use Rattle.up_cache.specs.Printing.{FileCopied, PrintedAs, Running, Stopped, StopsBy, ToldAs, WordCopied, WordsCopied, WrittenBy, code_by}
-use Rattle.up_cache.specs.Steady.{IsSteady, Leads, Plain}
+use Rattle.up_cache.specs.Copying.{PathResult, Copied, CopiedOver, PathDid, Ends, PathCame, PathDoes, PlainDid, PlainlyCopied, copy_capacity, counts_line, result_of_get, is_cut, printed, did_text}
+use Rattle.up_cache.specs.Printing.{FileCopied, PrintedAs, Running, Stopped, StopsBy, PrintedResult, WordCopied, WrittenBy, code_by}
+use Rattle.up_cache.specs.Steady.{IsSteady, Leads}
 use Rattle.up_cache.specs.declared.stop.Stop.{Stop}
 use Rattle.up_cache.specs.declared.stop.Stop.TheVariants as stop
 use Rattle.up_cache.proofs.Printings.{part_after}
 use Rattle.up_cache.proofs.Steadiness.{cache_steady, got_plain, held_leads}
 
-printed_more : (dids : List Did) (did : Did) → printed (dids ++ did ∷ []) ≡ printed dids ++ said did
-printed_more dids did = flat_map-append said dids (did ∷ []) ∙ ap (λ xs. printed dids ++ xs) (append-nil (said did))
+printed_more : (dids : List PathDid) (did : PathDid) → printed (dids ++ did ∷ []) ≡ printed dids ++ did_text did
+printed_more dids did = flat_map-append did_text dids (did ∷ []) ∙ ap (λ xs. printed dids ++ xs) (append-nil (did_text did))
 
 -- what was told of a word that was done
-done_told : (old now : Option Text) (came : Came) → ToldAs old now came (Ok tt) → (did : Did) × ((came ≡ Ok did) × Appends old now (said did))
+done_told : (old now : Option Text) (came : PathResult) → PrintedResult old now came (Ok tt) → (did : PathDid) × ((came ≡ Ok did) × Appends old now (did_text did))
 done_told old now (Ok did) told = (did, (refl, told))
 done_told old now (Err why) told = absurd (let e : ◌≡◌ {A = Result (Unit {0}) Stop} (Ok tt) (Err why) = told.0 in cc)
 
 -- and of one that was not
-abbrev NotTold : Option Text → Option Text → Came → Stop → Type 0
-NotTold old now came why = ((came ≡ Err why) × (now ≡ old)) ⊎ ((did : Did) × ((came ≡ Ok did) × (WritesPart old now (said did) × (why ≢ stop.AskFault))))
+abbrev NotTold : Option Text → Option Text → PathResult → Stop → Type 0
+NotTold old now came why = ((came ≡ Err why) × (now ≡ old)) ⊎ ((did : PathDid) × ((came ≡ Ok did) × (WritesPart old now (did_text did) × (why ≢ stop.AskFault))))
 
 same_stop : (one two : Stop) → ◌≡◌ {A = Result (Unit {0}) Stop} (Err one) (Err two) → two ≡ one
 same_stop one two e = cc
 
-not_told : (old now : Option Text) (came : Came) (why : Stop) → ToldAs old now came (Err why) → NotTold old now came why
+not_told : (old now : Option Text) (came : PathResult) (why : Stop) → PrintedResult old now came (Err why) → NotTold old now came why
 not_told old now (Ok did) stop.WriteFault told = inr (did, (refl, (told, λ e. cc)))
 not_told old now (Ok did) stop.OutOfMemory told = inr (did, (refl, (told, λ e. cc)))
 not_told old now (Ok did) stop.AskFault told = absurd told
@@ -75,12 +71,12 @@ module _ {S : Type 0} (answers : S → Request → Option Reply → S → Type 0
   pub going_more : (old mid now : Option Text) (a b c : S) (words : List Text) (k : ℕ) (word : Text) → k < length words → word ≡ get_or words k word → Going old mid a words k b → WordCopied answers mid now b word (Ok tt) c
       → Going old now a words (k + 1) c
   going_more old mid now a b c words k word below at so next =
-      let told = done_told mid now next.came next.told in
-      let does : PathCame answers b word (Ok told.0) c = subst (λ (came : Came). PathCame answers b word came c) told.1.0 next.path in
+      let told = done_told mid now next.came next.printed in
+      let does : PathCame answers b word (Ok told.0) c = subst (λ (came : PathResult). PathCame answers b word came c) told.1.0 next.path in
       record {
         dids = so.dids ++ told.0 ∷ [];
         run = Run-taken (PathDoes answers) a b c words k word so.dids told.0 so.run below at does;
-        written = subst (λ xs. Appends old now xs) (sym (printed_more so.dids told.0)) (Appends-trans old mid now (printed so.dids) (said told.0) so.written told.1.1);
+        written = subst (λ xs. Appends old now xs) (sym (printed_more so.dids told.0)) (Appends-trans old mid now (printed so.dids) (did_text told.0) so.written told.1.1);
       }
 
   -- the words that are left begin with the next one
@@ -103,13 +99,13 @@ module _ {S : Type 0} (answers : S → Request → Option Reply → S → Type 0
   stops_at last c rest word more stop.OutOfMemory is came = inr (word, (more, (is, came)))
   stops_at last c rest word more stop.WriteFault is came = absurd (no_fault last c word (Err stop.WriteFault) came refl)
     where
-      never : (result : Result (List ℕ) ClientFault) → got_came result ≡ Err stop.WriteFault → ⊥
+      never : (result : Result (List ℕ) ClientFault) → result_of_get result ≡ Err stop.WriteFault → ⊥
       never (Ok bytes) e = cc
       never (Err client.Failed) e = cc
       never (Err client.OutOfMemory) e = cc
       never (Err fault) e = cc
 
-      no_fault : (a b : S) (w : Text) (came : Came) → PathCame answers a w came b → came ≡ Err stop.WriteFault → ⊥
+      no_fault : (a b : S) (w : Text) (came : PathResult) → PathCame answers a w came b → came ≡ Err stop.WriteFault → ⊥
       no_fault a b w came (PathCame.bad_path none) e = cc
       no_fault a b w came (PathCame.got {result = result} some held) e = never result e
       no_fault a b w came PathCame.unread e = cc
@@ -122,7 +118,7 @@ module _ {S : Type 0} (answers : S → Request → Option Reply → S → Type 0
 
   pub going_stop : (old mid now : Option Text) (a b c : S) (words : List Text) (k : ℕ) (word : Text) (why : Stop) → k < length words → word ≡ get_or words k word → Going old mid a words k b → WordCopied answers mid now b word (Err why) c
       → Stopped answers old now a words why c
-  going_stop old mid now a b c words k word why below at so next = by (not_told mid now next.came why next.told)
+  going_stop old mid now a b c words k word why below at so next = by (not_told mid now next.came why next.printed)
     where
       by : NotTold mid now next.came why → Stopped answers old now a words why c
       by (inl none) = record {
@@ -132,11 +128,11 @@ module _ {S : Type 0} (answers : S → Request → Option Reply → S → Type 0
         dids = so.dids;
         last = b;
         run = so.run;
-        stops = stops_at b c (drop k words) word (drop (k + 1) words) why (left_is words k word below at) (subst (λ (came : Came). PathCame answers b word came c) none.0 next.path);
+        stops = stops_at b c (drop k words) word (drop (k + 1) words) why (left_is words k word below at) (subst (λ (came : PathResult). PathCame answers b word came c) none.0 next.path);
         written = written_by old mid now (printed so.dids) why so.written none.1;
       }
       by (inr told) =
-          let does : PathCame answers b word (Ok told.0) c = subst (λ (came : Came). PathCame answers b word came c) told.1.0 next.path in
+          let does : PathCame answers b word (Ok told.0) c = subst (λ (came : PathResult). PathCame answers b word came c) told.1.0 next.path in
           record {
             done = take (k + 1) words;
             rest = drop (k + 1) words;
@@ -146,22 +142,19 @@ module _ {S : Type 0} (answers : S → Request → Option Reply → S → Type 0
             run = Run-taken (PathDoes answers) a b c words k word so.dids told.0 so.run below at does;
             stops = stops_behind c (drop (k + 1) words) why told.1.1.1;
             written = cut_by old now (printed (so.dids ++ told.0 ∷ [])) why told.1.1.1
-                (subst (λ xs. WritesPart old now xs) (sym (printed_more so.dids told.0)) (part_after old mid now (printed so.dids) (said told.0) so.written told.1.1.0));
+                (subst (λ xs. WritesPart old now xs) (sym (printed_more so.dids told.0)) (part_after old mid now (printed so.dids) (did_text told.0) so.written told.1.1.0));
           }
-
-  pub going_end : (old now : Option Text) (a b : S) (words : List Text) (k : ℕ) → length words ≤ k → Going old now a words k b → Running answers old now a words b
-  going_end old now a b words k above so = subst (λ xs. Running answers old now a xs b) (take_all k words above) so
 
   -- ---- one word
 
   pub word_bad : (old now : Option Text) (a : S) (word : Text) (result : Result (Unit {0}) Stop) → result_ok (path_of word) ≡ None → PrintedAs old now (codes "invalid name\n") result → WordCopied answers old now a word result a
-  word_bad old now a word result none is = record { came = Ok Did.BadPath; path = PathCame.bad_path none; told = is }
+  word_bad old now a word result none is = record { came = Ok PathDid.BadPath; path = PathCame.bad_path none; printed = is }
 
   pub word_unread : (held : Option Text) (a : S) (word : Text) → WordCopied answers held held a word (Err stop.OutOfMemory) a
-  word_unread held a word = record { came = Err stop.OutOfMemory; path = PathCame.unread; told = (refl, refl) }
+  word_unread held a word = record { came = Err stop.OutOfMemory; path = PathCame.unread; printed = (refl, refl) }
 
   pub word_got : (old now : Option Text) (a b : S) (word : Text) (path : PathName) (result : Result (Unit {0}) Stop) → result_ok (path_of word) ≡ Some path → FileCopied answers old now a path result b → WordCopied answers old now a word result b
-  word_got old now a b word path result is file = record { came = got_came file.got; path = PathCame.got is file.talk; told = file.told }
+  word_got old now a b word path result is file = record { came = result_of_get file.got; path = PathCame.got is file.talk; printed = file.printed }
 
 -- ---- a run over a cache
 
@@ -272,29 +265,29 @@ module _ {S : Type 0} (answers : S → Request → Option Reply → S → Type 0
 -- ---- over a table
 
 -- what was got is no want of an answer or of memory
-got_is : (result : Result (List ℕ) ClientFault) (did : Did) → got_came result ≡ Ok did → (did ≡ Did.Got result) × ((result ≢ Err client.Failed) × (result ≢ Err client.OutOfMemory))
+got_is : (result : Result (List ℕ) ClientFault) (did : PathDid) → result_of_get result ≡ Ok did → (did ≡ PathDid.Got result) × ((result ≢ Err client.Failed) × (result ≢ Err client.OutOfMemory))
 got_is (Ok bytes) did is = (cc, (λ e. cc, λ e. cc))
 got_is (Err client.Failed) did is = absurd (cc)
 got_is (Err client.OutOfMemory) did is = absurd (cc)
 got_is (Err fault) did is = (cc, (λ e. cc, λ e. cc))
 
 module _ {T : Type 0} (answers : T → Request → Option Reply → T → Type 0) (rows : List (Request × Reply)) (start : T) (steady : IsSteady answers rows start) where
-  path_leads : (a b : T) (word : Text) (came : Came) → Leads answers start a → PathCame answers a word came b → Leads answers start b
+  path_leads : (a b : T) (word : Text) (came : PathResult) → Leads answers start a → PathCame answers a word came b → Leads answers start b
   path_leads a b word came way (PathCame.bad_path none) = way
   path_leads a b word came way (PathCame.got {path = path} {result = result} some held) = held_leads answers start (get_talk path) result a b way held
   path_leads a b word came way PathCame.unread = way
 
-  path_plain : (a b : T) (word : Text) (came : Came) (did : Did) → Leads answers start a → PathCame answers a word came b → came ≡ Ok did → PlainDid rows word did
+  path_plain : (a b : T) (word : Text) (came : PathResult) (did : PathDid) → Leads answers start a → PathCame answers a word came b → came ≡ Ok did → PlainDid rows word did
   path_plain a b word came did way (PathCame.bad_path none) is = subst (PlainDid rows word) (bad did is) (PlainDid.plain_none none)
     where
-      bad : (d : Did) → ◌≡◌ {A = Came} (Ok Did.BadPath) (Ok d) → Did.BadPath ≡ d
+      bad : (d : PathDid) → ◌≡◌ {A = PathResult} (Ok PathDid.BadPath) (Ok d) → PathDid.BadPath ≡ d
       bad d e = cc
   path_plain a b word came did way (PathCame.got {path = path} {result = result} some held) is =
       let got = got_is result did is in
       subst (PlainDid rows word) (sym got.0) (PlainDid.plain_got some (got_plain answers rows start steady path result a b way held got.1.0 got.1.1))
   path_plain a b word came did way PathCame.unread is = absurd (cc)
 
-  run_plain : (a b : T) (words : List Text) (dids : List Did) → Leads answers start a → Run (PathDoes answers) a words dids b → AllZip (PlainDid rows) words dids
+  run_plain : (a b : T) (words : List Text) (dids : List PathDid) → Leads answers start a → Run (PathDoes answers) a words dids b → AllZip (PlainDid rows) words dids
   run_plain a b [] [] way run = tt
   run_plain a b (word ∷ words) (did ∷ dids) way run =
       (path_plain a run.0 word (Ok did) did way run.1.0 refl, run_plain run.0 b words dids (path_leads a run.0 word (Ok did) way run.1.0) run.1.1)

@@ -1,5 +1,6 @@
 -- What `upspin copy` does and prints. This project's own.
-use Rattle.std.specs.Prelude.{◌≡◌, ◌≢◌, ℕ, Bool, ◌==◌, ◌&&◌, ◌||◌, nat_le, false, true, List, [], ◌∷◌, ◌++◌, drop, length, codes, bytes_eq, decimal, if◌then◌else◌, Option, Some, None, Result, Ok, Err}
+use Rattle.std.specs.Prelude.{◌≡◌, ◌≢◌, ℕ, Bool, ◌==◌, ◌&&◌, ◌||◌, nat_le, false, true, List, [], ◌∷◌, ◌++◌, drop, length, codes, bytes_eq}
+use Rattle.std.specs.Prelude.{decimal, if◌then◌else◌, Option, Some, None, Result, Ok, Err}
 use Rattle.std.specs.List.{AllZip, flat_map}
 use Rattle.std.specs.Result.{result_ok}
 use Rattle.std.specs.Io.KnownBytes.{Appends}
@@ -40,47 +41,47 @@ copy_capacity = 64
 -- ---- what is done at a path, and what is printed of it
 
 -- the word names no path; or this came of getting the file
-pub data Did : Type 0 where
-  BadPath : Did
-  Got : Result (List ℕ) ClientFault → Did
+pub data PathDid : Type 0 where
+  BadPath : PathDid
+  Got : Result (List ℕ) ClientFault → PathDid
 
 -- lines, each with its LF
 abbrev pub lines_text : List Text → Text
 lines_text lines = flat_map ended lines
 
 -- what is printed of a word: that it names no path, or what came of getting the file
-abbrev pub said : Did → Text
-said Did.BadPath = ended (codes "invalid name")
-said (Did.Got result) = lines_text (got_lines result)
+abbrev pub did_text : PathDid → Text
+did_text PathDid.BadPath = ended (codes "invalid name")
+did_text (PathDid.Got result) = lines_text (got_lines result)
 
 -- what is printed of words that were done one after the other
-abbrev pub printed : List Did → Text
-printed dids = flat_map said dids
+abbrev pub printed : List PathDid → Text
+printed dids = flat_map did_text dids
 
 -- the last line: how many requests for blocks were passed on, and how many were answered from the cache
 abbrev pub counts_line : ℕ → ℕ → Text
 counts_line asked kept = ended ((codes "asked " ++ decimal asked ++ codes " kept ") ++ decimal kept)
 
 -- what came of a word: what was done, or why the run ends
-abbrev pub Came : Type 0
-Came = Result Did Stop
+abbrev pub PathResult : Type 0
+PathResult = Result PathDid Stop
 
 -- what came of getting a file; where no answer came, and for want of memory, the run ends
-abbrev pub got_came : Result (List ℕ) ClientFault → Came
-got_came (Err client.Failed) = Err stop.AskFault
-got_came (Err client.OutOfMemory) = Err stop.OutOfMemory
-got_came result = Ok (Did.Got result)
+abbrev pub result_of_get : Result (List ℕ) ClientFault → PathResult
+result_of_get (Err client.Failed) = Err stop.AskFault
+result_of_get (Err client.OutOfMemory) = Err stop.OutOfMemory
+result_of_get result = Ok (PathDid.Got result)
 
 -- What comes of a word, over somebody who answers by a relation: nothing is asked where it names no path; else the client holds its
 -- conversation to get the file. There may be no memory to read the word.
-pub data PathCame {S : Type 0} (answers : S → Request → Option Reply → S → Type 0) (a : S) (word : Text) : Came → S → Type 0 where
-  bad_path : result_ok (path_of word) ≡ None → PathCame answers a word (Ok Did.BadPath) a
+pub data PathCame {S : Type 0} (answers : S → Request → Option Reply → S → Type 0) (a : S) (word : Text) : PathResult → S → Type 0 where
+  bad_path : result_ok (path_of word) ≡ None → PathCame answers a word (Ok PathDid.BadPath) a
   got : {path : PathName} {result : Result (List ℕ) ClientFault} {b : S} → result_ok (path_of word) ≡ Some path
-      → Held answers (get_talk path) a result b → PathCame answers a word (got_came result) b
+      → Held answers (get_talk path) a result b → PathCame answers a word (result_of_get result) b
   unread : PathCame answers a word (Err stop.OutOfMemory) a
 
 -- a word did this, so the run goes on
-abbrev pub PathDoes : {S : Type 0} → (S → Request → Option Reply → S → Type 0) → S → Text → Did → S → Type 0
+abbrev pub PathDoes : {S : Type 0} → (S → Request → Option Reply → S → Type 0) → S → Text → PathDid → S → Type 0
 PathDoes answers a word did b = PathCame answers a word (Ok did) b
 
 -- ---- the run
@@ -107,7 +108,7 @@ pub record Copied {S : Type 0} (answers : S → Request → Option Reply → S �
   pub done : List Text
   pub rest : List Text
   pub cut : done ++ rest ≡ words
-  pub dids : List Did
+  pub dids : List PathDid
   pub last : Caching S
   pub run : Run (PathDoes (CachedAnswers answers)) a done dids last
   pub tail : Text
@@ -125,14 +126,14 @@ pub record CopiedOver {S : Type 0} (answers : S → Request → Option Reply →
 -- ---- over a table
 
 -- what is done where each request has its reply of a table
-pub data PlainDid (rows : List (Request × Reply)) (word : Text) : Did → Type 0 where
-  plain_none : result_ok (path_of word) ≡ None → PlainDid rows word Did.BadPath
+pub data PlainDid (rows : List (Request × Reply)) (word : Text) : PathDid → Type 0 where
+  plain_none : result_ok (path_of word) ≡ None → PlainDid rows word PathDid.BadPath
   plain_got : {path : PathName} {result : Result (List ℕ) ClientFault} → result_ok (path_of word) ≡ Some path
-      → Plain rows (get_talk path) result → PlainDid rows word (Did.Got result)
+      → Plain rows (get_talk path) result → PlainDid rows word (PathDid.Got result)
 
 -- each word was done so, and what they print was written, with the last line behind it
 pub record PlainlyCopied (rows : List (Request × Reply)) (old new : Option Text) (words : List Text) : Type 0 where
-  pub dids : List Did
+  pub dids : List PathDid
   pub each : AllZip (PlainDid rows) words dids
   pub asked : ℕ
   pub kept : ℕ

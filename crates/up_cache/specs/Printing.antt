@@ -10,7 +10,7 @@ use Rattle.up_names.specs.PathNames.{PathName}
 use Rattle.up_names.specs.Texts.{Text}
 use Rattle.up_wire.specs.declared.replies.Reply.{Reply}
 use Rattle.up_wire.specs.declared.requests.Request.{Request}
-use Rattle.up_cache.specs.Copying.{Came, Did, PathCame, PathDoes, got_came, printed, said}
+use Rattle.up_cache.specs.Copying.{PathResult, PathDid, PathCame, PathDoes, result_of_get, printed, did_text}
 use Rattle.up_cache.specs.declared.stop.Stop.{Stop}
 use Rattle.up_cache.specs.declared.stop.Stop.TheVariants as stop
 
@@ -29,23 +29,23 @@ PrintedAs old new text (Err stop.OutOfMemory) = WritesPart old new text
 PrintedAs old new text (Err stop.AskFault) = ⊥
 
 -- what was done is printed; or the run ends where nothing was
-abbrev pub ToldAs : Option Text → Option Text → Came → Result (Unit {0}) Stop → Type 0
-ToldAs old new (Ok did) result = PrintedAs old new (said did) result
-ToldAs old new (Err why) result = (result ≡ Err why) × (new ≡ old)
+abbrev pub PrintedResult : Option Text → Option Text → PathResult → Result (Unit {0}) Stop → Type 0
+PrintedResult old new (Ok did) result = PrintedAs old new (did_text did) result
+PrintedResult old new (Err why) result = (result ≡ Err why) × (new ≡ old)
 
 -- Something came of a word, and it was told.
 pub record WordCopied {S : Type 0} (answers : S → Request → Option Reply → S → Type 0)
     (old new : Option Text) (a : S) (word : Text) (result : Result (Unit {0}) Stop) (b : S) : Type 0 where
-  pub came : Came
+  pub came : PathResult
   pub path : PathCame answers a word came b
-  pub told : ToldAs old new came result
+  pub printed : PrintedResult old new came result
 
 -- The file at a path was got, and what came of that was told.
 pub record FileCopied {S : Type 0} (answers : S → Request → Option Reply → S → Type 0) (old new : Option Text)
     (a : S) (path : PathName) (result : Result (Unit {0}) Stop) (b : S) : Type 0 where
   pub got : Result (List ℕ) ClientFault
   pub talk : Held answers (get_talk path) a got b
-  pub told : ToldAs old new (got_came got) result
+  pub printed : PrintedResult old new (result_of_get got) result
 
 module _ {S : Type 0} (answers : S → Request → Option Reply → S → Type 0) where
   -- what comes of the next word by why a run ends there
@@ -66,7 +66,7 @@ module _ {S : Type 0} (answers : S → Request → Option Reply → S → Type 0
     pub done : List Text
     pub rest : List Text
     pub cut : done ++ rest ≡ words
-    pub dids : List Did
+    pub dids : List PathDid
     pub last : S
     pub run : Run (PathDoes answers) a done dids last
     pub stops : StopsBy last rest why b
@@ -74,7 +74,7 @@ module _ {S : Type 0} (answers : S → Request → Option Reply → S → Type 0
 
   -- all words were done one after the other and printed
   pub record Running (old new : Option Text) (a : S) (words : List Text) (b : S) : Type 0 where
-    pub dids : List Did
+    pub dids : List PathDid
     pub run : Run (PathDoes answers) a words dids b
     pub written : Appends old new (printed dids)
 

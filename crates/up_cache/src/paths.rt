@@ -2,7 +2,7 @@
 ghost use Rattle.std.specs.Prelude.{◌≡◌, IfOk, IsErrOf, map, string_bytes};
 ghost use Rattle.std.specs.Result.{result_ok};
 ghost use Rattle.up_cache.specs.Caching.{CachedAnswers};
-ghost use Rattle.up_cache.specs.Copying.{got_came};
+ghost use Rattle.up_cache.specs.Copying.{result_of_get};
 ghost use Rattle.up_cache.specs.Printing.{FileCopied, WordCopied, WordsCopied};
 ghost use Rattle.up_client.specs.Getting.{get_talk};
 ghost use Rattle.up_client.specs.Talks.{Held};

@@ -1,8 +1,8 @@
 //! What is printed, piece by piece. The bytes of a file are written from where they lie, but for the pieces of them that are coded.
 ghost use Rattle.std.specs.Prelude.{◌≡◌, ◌++◌, ◌<◌, ◌≤◌, IfOk, OnOk, IsErrOf, Err, codes, decimal, length};
 ghost use Rattle.std.specs.List.{flat_map, list_any};
-ghost use Rattle.up_cache.specs.Copying.{counts_line, got_came, lines_text};
-ghost use Rattle.up_cache.specs.Printing.{PrintedAs, ToldAs};
+ghost use Rattle.up_cache.specs.Copying.{counts_line, result_of_get, lines_text};
+ghost use Rattle.up_cache.specs.Printing.{PrintedAs, PrintedResult};
 ghost use Rattle.up_command.specs.Printed.{ended, got_lines};
 ghost use Rattle.up_lists.specs.Counts.{HasCause, StaysUnless};
 ghost use Rattle.up_text.specs.Words.{coded, coded_byte, is_coded};
@@ -38,7 +38,7 @@ pub(crate) fn print_got<K: Sink>(
     got: Result<Bytes, ClientFault>,
     sink: &mut K,
 ) -> Result<(), Stop>
-    ensures told { ToldAs (K.held sink.old) (K.held sink.new) (got_came got) result }
+    ensures printed { PrintedResult (K.held sink.old) (K.held sink.new) (result_of_get got) result }
     ensures failed { IsErrOf result Stop.AskFault → IsErrOf got ClientFault.Failed }
     ensures unanswered { IsErrOf got ClientFault.Failed → IsErrOf result Stop.AskFault }
     ensures cause { HasCause (K.faults sink.old) (K.faults sink.new)
@@ -62,7 +62,7 @@ pub(crate) fn print_got<K: Sink>(
 
 // Prints why a file was not got.
 fn print_fault<K: Sink>(alloc: Global, fault: &ClientFault, sink: &mut K) -> Result<(), Stop>
-    ensures told { ToldAs (K.held sink.old) (K.held sink.new) (got_came (Err fault.now)) result }
+    ensures printed { PrintedResult (K.held sink.old) (K.held sink.new) (result_of_get (Err fault.now)) result }
     ensures failed { IsErrOf result Stop.AskFault → fault.now ≡ ClientFault.Failed }
     ensures unanswered { fault.now ≡ ClientFault.Failed → IsErrOf result Stop.AskFault }
     ensures cause { HasCause (K.faults sink.old) (K.faults sink.new)

@@ -1,8 +1,9 @@
 //! Whoever is asked, and the blocks that are held, both lent for a while.
+ghost use Rattle.std.proofs.Common.{◌∙◌};
 ghost use Rattle.std.specs.Prelude.{◌≡◌, IsErr, None, refl};
 ghost use Rattle.std.specs.Result.{result_ok};
 ghost use Rattle.up_cache.specs.Caching.{CachedAnswers, Keeps, PassedOn, RecalledReply, brought, held_for, is_get, reply_of, wanted};
-ghost use Rattle.up_cache.specs.Ties.{IsSame, seen, stays_still};
+ghost use Rattle.up_cache.specs.Ties.{IsSame, seen};
 ghost use Rattle.up_lists.specs.Counts.{HasCause, StaysUnless};
 
 use crate::block_cache::BlockCache;
@@ -83,8 +84,8 @@ impl<'a, A: Ask> Ask for Through<'a, A> {
     ghost same = { λ a. (refl, refl, A.same a.ask.now) };
 
     ghost joined = { λ a b c p q. (
-      stays_still p.0 q.0,
-      stays_still p.1 q.1,
+      q.0 ∙ p.0,
+      q.1 ∙ p.1,
       A.joined a.ask.now b.ask.now c.ask.now p.2 q.2,
     ) };
 }

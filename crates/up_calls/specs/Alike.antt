@@ -14,6 +14,8 @@ use Rattle.up_wire.specs.declared.replies.Reply.TheVariants as reply
 -- uses of what was loaded, with the log over which it is the answer: with the same loaded and fetched, at the same moment. What such a
 -- log has besides, and the user does not see, is not told.
 pub record TellsNoMore (b : Views) (q : Question) (e : Event) : Type 0 where
-  pub alike : (owner : UserName) (w : SeenTree) (other : Log) → refusal b q ≡ None → log_asked q ≡ Some (LogName.OfTree owner) → b.tree owner ≡ Some w
-      → e.reply ≢ reply.Io → e.reply ≢ reply.OutOfMemory → IsWhole other → Agree q.user (used q.request e.loaded ∷ []) (log_after w e.position) other
+  pub alike : (owner : UserName) (w : SeenTree) (other : Log) → refusal b q ≡ None
+      → log_asked q ≡ Some (LogName.OfTree owner) → b.tree owner ≡ Some w
+      → e.reply ≢ reply.Io → e.reply ≢ reply.OutOfMemory → IsWhole other
+      → Agree q.user (used q.request e.loaded ∷ []) (log_after w e.position) other
       → answer other e.loaded e.fetched q.user q.request e.moment ≡ e.reply

@@ -22,7 +22,8 @@ use Rattle.up_wire.specs.declared.replies.Reply.TheVariants as reply
 
 -- The tree of an owner answered, with what was loaded for it in rounds, and with these blocks. What its last turn told is told of the
 -- whole call, since no own record came to it before.
-pub record TreeAnswered {L : Type 0} (loader : Ghosts L) (operator : UserName) (rises : Type 0) (a b : Views) (owner : UserName) (q : Question) (old new : L) (fetched : Fetched) (now : ℕ) (e : Event) : Type 0 where
+pub record TreeAnswered {L : Type 0} (loader : Ghosts L) (operator : UserName) (rises : Type 0) (a b : Views)
+    (owner : UserName) (q : Question) (old new : L) (fetched : Fetched) (now : ℕ) (e : Event) : Type 0 where
   pub v : SeenTree
   pub w : SeenTree
   pub before : a.tree owner ≡ Some v
@@ -38,7 +39,8 @@ pub record TreeAnswered {L : Type 0} (loader : Ghosts L) (operator : UserName) (
   pub moment_is : e.moment ≡ now
 
 -- The blocks at these locations were fetched, and then the tree answered.
-pub record TreeServed {L : Type 0} (loader : Ghosts L) (operator : UserName) (rises : LogName → Type 0) (a b : Views) (owner : UserName) (q : Question) (old new : L) (locations : List Location) (now : ℕ) (e : Event) : Type 0 where
+pub record TreeServed {L : Type 0} (loader : Ghosts L) (operator : UserName) (rises : LogName → Type 0) (a b : Views)
+    (owner : UserName) (q : Question) (old new : L) (locations : List Location) (now : ℕ) (e : Event) : Type 0 where
   pub between : L
   pub blocks : BlocksGathered loader (rises LogName.OfStore) a.store b.store old between [] e.fetched
   pub located : map (λ (got : Got). got.0) e.fetched ≡ locations
@@ -56,17 +58,20 @@ pub data HasFailed (rises : LogName → Type 0) (before after : ℕ) (q : Questi
   ByBlock : rises LogName.OfStore → HasFailed rises before after q
   ByLoader : Rose before after → HasFailed rises before after q
 
+-- where Io is told, something failed in this call
 pub record Risen (rises : LogName → Type 0) (before after : ℕ) (q : Question) (e : Event) : Type 0 where
   pub io : e.reply ≡ reply.Io → HasFailed rises before after q
 
 -- What was loaded for the answer of a tree was loaded in rounds: each for what was missing over some first records, no fewer than the
 -- caller had seen, and no more than those of the answer.
 pub record LoadsInRounds (a b : Views) (q : Question) (e : Event) : Type 0 where
-  pub rounds : (owner : UserName) (v w : SeenTree) → refusal a q ≡ None → log_asked q ≡ Some (LogName.OfTree owner) → e.reply ≢ reply.OutOfMemory
+  pub rounds : (owner : UserName) (v w : SeenTree) → refusal a q ≡ None
+      → log_asked q ≡ Some (LogName.OfTree owner) → e.reply ≢ reply.OutOfMemory
       → a.tree owner ≡ Some v → b.tree owner ≡ Some w → LoadedInRounds (missing_over w q) (length v.seen) e.position e.loaded
 
 -- What a call came to, as its caller sees it and besides.
-pub record Came {L : Type 0} (loader : Ghosts L) (operator : UserName) (left : LogName → ℕ → Type 0) (rises : LogName → Type 0) (a b : Views) (q : Question) (old new : L) (e : Event) : Type 0 where
+pub record Came {L : Type 0} (loader : Ghosts L) (operator : UserName) (left : LogName → ℕ → Type 0)
+    (rises : LogName → Type 0) (a b : Views) (q : Question) (old new : L) (e : Event) : Type 0 where
   pub outcome : Outcome operator a b q e
   pub loads : AsksLoader loader operator a old new e
   pub leaves : Leaves left a q e

@@ -5,14 +5,15 @@ use Rattle.std.specs.List.{flat_map, list_any}
 use Rattle.up_lists.specs.Counts.{HasCause, StaysUnless}
 use Rattle.up_lists.specs.Runs.{Run}
 
--- it was asked exactly these questions, in order, and its count rose where an answer is a failure, and nowhere else
-pub record Asks {L Q A X : Type 0} (step : L → Q → A → L → Type 0) (faults : L → ℕ) (tied : L → L → Type 0) (is_failed : A → Bool) (question : X → List Q) (answer : X → List A) (old new : L) (things : List X) : Type 0 where
+-- somebody was asked exactly these questions, in order, and its count rose where an answer is a failure, and nowhere else
+pub record Asks {L Q A X : Type 0} (step : L → Q → A → L → Type 0) (faults : L → ℕ) (tied : L → L → Type 0)
+    (is_failed : A → Bool) (question : X → List Q) (answer : X → List A) (old new : L) (things : List X) : Type 0 where
   pub asked : Run step old (flat_map question things) (flat_map answer things) new
   pub counts : HasCause (faults old) (faults new) (list_any is_failed (flat_map answer things) ≡ true)
   pub quiet : StaysUnless (faults old) (faults new) (list_any is_failed (flat_map answer things) ≡ true)
   pub tie : tied old new
 
--- it was asked some questions
+-- somebody was asked some questions
 pub record Tries {L Q A : Type 0} (step : L → Q → A → L → Type 0) (faults : L → ℕ) (tied : L → L → Type 0) (old new : L) : Type 0 where
   pub questions : List Q
   pub answers : List A

@@ -31,15 +31,16 @@ pub record IsGiven (v w : SeenStore) (reference : List ℕ) (given : Fetch) : Ty
   pub to : position ≤ length w.seen
   pub by : GivenBy (take position w.seen) reference given
 
--- or its disk failed
+-- the host's own store gave this for a block, or its disk failed
 abbrev pub IsFromStore : SeenStore → SeenStore → List ℕ → Fetch → Type 0
 IsFromStore v w reference given = IsGiven v w reference given ⊎ ((given ≡ fetch.Failed) × Rose v.failed w.failed)
 
--- so it was with each block of the host's own store
+-- what was fetched for a block of the host's own store came from there
 abbrev pub OwnBlock : SeenStore → SeenStore → Endpoint → List ℕ → Fetch → Type 0
 OwnBlock v w endpoint.Local reference given = IsFromStore v w reference given
 OwnBlock v w (endpoint.Address address) reference given = Unit {0}
 
+-- each block of the host's own store that was fetched came from there
 abbrev pub OwnBlocks : SeenStore → SeenStore → Fetched → Type 0
 OwnBlocks v w fetched = AllByRecursion (λ (got : Got). OwnBlock v w got.0.endpoint got.0.reference got.1) fetched
 
@@ -48,13 +49,15 @@ abbrev pub question_of : List ℕ → Endpoint → List BlockQuestion
 question_of reference endpoint.Local = []
 question_of reference (endpoint.Address address) = record { address = address; reference = reference } ∷ []
 
+-- what the loader is asked of a block: nothing where it is of the host's own store
 abbrev pub block_question : Got → List BlockQuestion
 block_question got = question_of got.0.reference got.0.endpoint
 
--- its answer, which is none on want of memory
+-- the loader's answer for a block with an address; there is none for one of the host's own store
 abbrev pub answer_at : Fetch → Endpoint → List (Option Fetch)
 answer_at given endpoint.Local = []
 answer_at given (endpoint.Address address) = Some given ∷ []
 
+-- what the loader answered of a block: nothing where it was not asked
 abbrev pub block_answer : Got → List (Option Fetch)
 block_answer got = answer_at got.1 got.0.endpoint

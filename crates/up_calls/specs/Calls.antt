@@ -29,7 +29,7 @@ pub record IsAskedFor {L : Type 0} (loader : Ghosts L) (operator : UserName) (a 
   pub blocks : Asks loader.fetches loader.faults loader.tied is_failed block_question block_answer old between e.fetched
   pub groups : Asks loader.loads loader.faults loader.tied load_failed (group_question operator a) (group_answer a) between new e.loaded
 
--- it was asked for some blocks, and then for some groups
+-- the loader was asked for some blocks, and then for some groups
 pub record IsTried {L : Type 0} (loader : Ghosts L) (old new : L) : Type 0 where
   pub between : L
   pub blocks : Tries loader.fetches loader.faults loader.tied old between
@@ -44,14 +44,17 @@ pub record AsksLoader {L : Type 0} (loader : Ghosts L) (operator : UserName) (a 
 
 -- the answer over a list of records, each of which fits those before it, with what was loaded and fetched; its record is added where
 -- it is a position
-pub record TreeSays (view : SeenTree) (q : Question) (e : Event) (records : List Rec) (said : Reply) (records_added : List Rec) : Type 0 where
+pub record TreeSays (view : SeenTree) (q : Question) (e : Event)
+    (records : List Rec) (said : Reply) (records_added : List Rec) : Type 0 where
   pub legal : IsLog view.fixed.0 records
   pub reply : said ≡ answer (record (log_seen view) { records = records }) e.loaded e.fetched q.user q.request e.moment
-  pub added : records_added ≡ (if is_changed said then added (record (log_seen view) { records = records }) e.loaded e.fetched q.user q.request e.moment else [])
+  pub added : records_added
+      ≡ (if is_changed said then added (record (log_seen view) { records = records }) e.loaded e.fetched q.user q.request e.moment else [])
 
--- it would be a position
+-- the answer over these records would be a position, for which the disk is needed
 abbrev pub TreeNeedsDisk : SeenTree → Question → Event → List Rec → Type 0
-TreeNeedsDisk view q e records = is_changed (answer (record (log_seen view) { records = records }) e.loaded e.fetched q.user q.request e.moment) ≡ true
+TreeNeedsDisk view q e records =
+    is_changed (answer (record (log_seen view) { records = records }) e.loaded e.fetched q.user q.request e.moment) ≡ true
 
 -- What was fetched and loaded for an answer over the first n records: one answer for each location, in order; a loading for n, of at
 -- most 1,024 names; and what the host has itself came from its own store and trees.
@@ -62,7 +65,7 @@ pub record IsReady (operator : UserName) (a b : Views) (v w : SeenTree) (q : Que
   pub few : length e.loaded ≤ 1024
   pub texts : OwnTexts operator a b e.loaded
 
--- at one point of the log, or the disk failed
+-- a tree answered at one point of its log, or its disk failed
 abbrev pub TreeTurn : UserName → Views → Views → SeenTree → SeenTree → Question → Event → Type 0
 TreeTurn operator a b v w q e =
     (IsReplied (TreeSays w q e) v w e × IsReady operator a b v w q e e.position)
@@ -70,16 +73,18 @@ TreeTurn operator a b v w q e =
 
 -- ---- the store's and the keys'
 
--- nothing is loaded or fetched for them
+-- nothing was loaded or fetched
 pub record IsPlain (e : Event) : Type 0 where
   pub loaded : e.loaded ≡ []
   pub fetched : e.fetched ≡ []
 
+-- the store answered at one point of its log, or its disk failed
 abbrev pub StoreTurn : UserName → SeenStore → SeenStore → Question → Event → Type 0
 StoreTurn operator v w q e =
     IsReplied (λ records. StoreSays records (store_leads operator q.user q.request w.fixed records)) v w e
     ⊎ IsFailed (λ records. NeedsDisk (store_leads operator q.user q.request w.fixed records)) v w e
 
+-- the keys answered at one point of their log, or their disk failed
 abbrev pub KeysTurn : SeenKeys → SeenKeys → Question → Event → Type 0
 KeysTurn v w q e =
     IsReplied (λ records. KeysSay (key_leads q.user q.request w.fixed records)) v w e
@@ -93,13 +98,15 @@ pub data Outcome (operator : UserName) (a b : Views) (q : Question) (e : Event) 
   Refused : refusal a q ≡ Some e.reply → e.position ≡ 0 → IsPlain e → OwnStays None a b → Outcome operator a b q e
   ByTree : (owner : UserName) (v w : SeenTree) → refusal a q ≡ None → log_asked q ≡ Some (LogName.OfTree owner)
       → a.tree owner ≡ Some v → b.tree owner ≡ Some w → TreeTurn operator a b v w q e → Outcome operator a b q e
-  ByStore : refusal a q ≡ None → log_asked q ≡ Some LogName.OfStore → IsPlain e → StoreTurn operator a.store b.store q e → Outcome operator a b q e
+  ByStore : refusal a q ≡ None → log_asked q ≡ Some LogName.OfStore → IsPlain e
+      → StoreTurn operator a.store b.store q e → Outcome operator a b q e
   ByKeys : refusal a q ≡ None → log_asked q ≡ Some LogName.OfKeys → IsPlain e → KeysTurn a.keys b.keys q e → Outcome operator a b q e
   Wanting : e.reply ≡ reply.OutOfMemory → OwnStays None a b → Outcome operator a b q e
 
 -- One call of a host: what its caller had of the logs and the loader before it, the question, what came of it, and what it has after
 -- it. No own record came to any log but the one that the question goes to.
-pub record Asked {L : Type 0} (loader : Ghosts L) (operator : UserName) (a : Views) (old : L) (q : Question) (e : Event) (b : Views) (new : L) : Type 0 where
+pub record Asked {L : Type 0} (loader : Ghosts L) (operator : UserName) (a : Views)
+    (old : L) (q : Question) (e : Event) (b : Views) (new : L) : Type 0 where
   pub later : Later a b
   pub others : OwnStays (log_asked q) a b
   pub loads : AsksLoader loader operator a old new e

@@ -41,15 +41,20 @@ pub record AsksGroup {L : Type 0} (loader : Ghosts L) (old new : L) (question : 
 
 -- One name was loaded: its owner's tree is the host's, and gave it; or it is missing, its owner being the snapshot user of one whose
 -- tree is the host's; or the loader was asked for it; or memory was wanting.
-pub data NameLoaded {L : Type 0} (loader : Ghosts L) (operator : UserName) (a b : Views) (old new : L) (name : PathName) (given : Option LoadAnswer) : Type 0 where
-  ByTree : (answer : LoadAnswer) → given ≡ Some answer → OwnText operator a b name (Some answer) → new ≡ old → NameLoaded loader operator a b old new name given
-  ByUser : given ≡ Some loads.Missing → a.tree name.owner ≡ None → is_some (a.tree (log_owner name.owner)) ≡ true → new ≡ old → NameLoaded loader operator a b old new name given
-  ByLoader : a.tree name.owner ≡ None → a.tree (log_owner name.owner) ≡ None → AsksGroup loader old new (record { asker = operator; name = name }) given
+pub data NameLoaded {L : Type 0} (loader : Ghosts L) (operator : UserName) (a b : Views)
+    (old new : L) (name : PathName) (given : Option LoadAnswer) : Type 0 where
+  ByTree : (answer : LoadAnswer) → given ≡ Some answer → OwnText operator a b name (Some answer)
+      → new ≡ old → NameLoaded loader operator a b old new name given
+  ByUser : given ≡ Some loads.Missing → a.tree name.owner ≡ None → is_some (a.tree (log_owner name.owner)) ≡ true
+      → new ≡ old → NameLoaded loader operator a b old new name given
+  ByLoader : a.tree name.owner ≡ None → a.tree (log_owner name.owner) ≡ None
+      → AsksGroup loader old new (record { asker = operator; name = name }) given
       → NameLoaded loader operator a b old new name given
   Wanting : given ≡ None → new ≡ old → NameLoaded loader operator a b old new name given
 
 -- One name was loaded, and noted behind the others.
-pub record AddsName {L : Type 0} (loader : Ghosts L) (operator : UserName) (a b : Views) (old new : L) (name : PathName) (before after : Loading) : Type 0 where
+pub record AddsName {L : Type 0} (loader : Ghosts L) (operator : UserName) (a b : Views)
+    (old new : L) (name : PathName) (before after : Loading) : Type 0 where
   pub answer : LoadAnswer
   pub whole : after ≡ before ++ (name, answer) ∷ []
   pub loaded : NameLoaded loader operator a b old new name (Some answer)
@@ -60,7 +65,8 @@ own_failed endpoint.Local fetch.Failed = true
 own_failed at other = false
 
 -- One block was fetched: the own store gave it, or failed, which whoever has it counts as `rises` says; or the loader was asked for it.
-pub record BlockGathered {L : Type 0} (loader : Ghosts L) (rises : Type 0) (v w : SeenStore) (old new : L) (location : Location) (given : Fetch) : Type 0 where
+pub record BlockGathered {L : Type 0} (loader : Ghosts L) (rises : Type 0)
+    (v w : SeenStore) (old new : L) (location : Location) (given : Fetch) : Type 0 where
   pub own : OwnBlock v w location.endpoint location.reference given
   pub rose : own_failed location.endpoint given ≡ true → rises
   pub asks : Asks loader.fetches loader.faults loader.tied is_failed block_question block_answer old new ((location, given) ∷ [])
@@ -69,7 +75,8 @@ pub record BlockGathered {L : Type 0} (loader : Ghosts L) (rises : Type 0) (v w 
 
 -- More was loaded behind what was loaded before: each name was wanted with those before it; the host's own trees gave what is theirs,
 -- at a position between what the caller had seen and what it has seen; and the loader was asked for the others.
-pub record Gathered {L : Type 0} (loader : Ghosts L) (operator : UserName) (a b : Views) (wanted : Loading → PathName → Type 0) (old new : L) (before after : Loading) : Type 0 where
+pub record Gathered {L : Type 0} (loader : Ghosts L) (operator : UserName) (a b : Views)
+    (wanted : Loading → PathName → Type 0) (old new : L) (before after : Loading) : Type 0 where
   pub more : Loading
   pub whole : after ≡ before ++ more
   pub needed : EachAfter (λ so_far (pair : Pair). wanted so_far pair.0) before more
@@ -78,7 +85,8 @@ pub record Gathered {L : Type 0} (loader : Ghosts L) (operator : UserName) (a b 
 
 -- More was fetched behind what was fetched before: the own store gave what is its own, or failed, which whoever has it counts as
 -- `rises` says; and the loader was asked for the others.
-pub record BlocksGathered {L : Type 0} (loader : Ghosts L) (rises : Type 0) (v w : SeenStore) (old new : L) (before after : Fetched) : Type 0 where
+pub record BlocksGathered {L : Type 0} (loader : Ghosts L) (rises : Type 0)
+    (v w : SeenStore) (old new : L) (before after : Fetched) : Type 0 where
   pub more : Fetched
   pub whole : after ≡ before ++ more
   pub own : OwnBlocks v w more

@@ -26,11 +26,12 @@ Pair = PathName × LoadAnswer
 abbrev pub group_text_answer : Log → UserName → PathName → Reply
 group_text_answer log user path = answer log [] [] user (request.GroupText (canonical path)) 0
 
--- what is loaded by the reply to a GroupText of this owner's tree: a text is read, Io is a failure, and all else is Missing
+-- what is loaded by what a GroupText of this owner's tree did: a text is read, and all else is Missing
 abbrev pub load_of_done : UserName → Done → LoadAnswer
 load_of_done owner (done.Text bytes) = text_answer (group_of owner bytes)
 load_of_done owner other = loads.Missing
 
+-- what is loaded by the reply to a GroupText of this owner's tree: a text is read, Io is a failure, and all else is Missing
 abbrev pub load_of : UserName → Reply → LoadAnswer
 load_of owner (reply.Ok what) = load_of_done owner what
 load_of owner reply.Io = loads.Failed
@@ -43,7 +44,7 @@ pub record IsFromOwn (operator : UserName) (v w : SeenTree) (pair : Pair) : Type
   pub to : position ≤ length w.seen
   pub given : pair.1 ≡ load_of pair.0.owner (group_text_answer (log_after w position) operator pair.0)
 
--- so with a name whose owner's tree the host has
+-- a name whose owner's tree the host has was answered from there
 abbrev pub IsOwn : UserName → Views → Views → Pair → Type 0
 IsOwn operator a b pair = (v w : SeenTree) → a.tree pair.0.owner ≡ Some v → b.tree pair.0.owner ≡ Some w → IsFromOwn operator v w pair
 
@@ -51,7 +52,7 @@ IsOwn operator a b pair = (v w : SeenTree) → a.tree pair.0.owner ≡ Some v �
 abbrev pub IsOld : Views → Pair → Type 0
 IsOld a pair = a.tree pair.0.owner ≡ None → is_some (a.tree (log_owner pair.0.owner)) ≡ true → pair.1 ≡ loads.Missing
 
--- so it was with each name
+-- each name whose owner's tree the host has was answered from there, and one of the snapshot user of such an owner is missing
 abbrev pub OwnTexts : UserName → Views → Views → Loading → Type 0
 OwnTexts operator a b loaded = AllByRecursion (λ (pair : Pair). IsOwn operator a b pair × IsOld a pair) loaded
 
@@ -64,17 +65,20 @@ abbrev pub asked_of_others : UserName → Option SeenTree → PathName → List 
 asked_of_others operator None name = record { asker = operator; name = name } ∷ []
 asked_of_others operator (Some view) name = []
 
+-- what the loader is asked of a group: nothing where the host has its owner's tree
 abbrev pub group_question : UserName → Views → Pair → List GroupQuestion
 group_question operator a pair = asked_of_others operator (tree_by a pair.0.owner) pair.0
 
--- its answer, which is none on want of memory
+-- the loader's answer for a name; there is none for one whose owner's tree the host has
 abbrev pub answered_by_others : Option SeenTree → LoadAnswer → List (Option LoadAnswer)
 answered_by_others None answer = Some answer ∷ []
 answered_by_others (Some view) answer = []
 
+-- what the loader answered of a group: nothing where it was not asked
 abbrev pub group_answer : Views → Pair → List (Option LoadAnswer)
 group_answer a pair = answered_by_others (tree_by a pair.0.owner) pair.1
 
+-- whether a load failed
 abbrev pub load_failed : Option LoadAnswer → Bool
 load_failed (Some loads.Failed) = true
 load_failed other = false

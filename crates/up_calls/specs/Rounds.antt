@@ -27,7 +27,7 @@ pub record IsWhole (missing : List PathName) (loaded : Loading) : Type 0 where
 abbrev pub AreRound : List PathName → Loading → Loading → Type 0
 AreRound names before round = map (λ (pair : Pair). pair.0) round ≡ take (bound - length before) names
 
--- it was loaded behind what was loaded before
+-- one round of these names was loaded, and stands after what was loaded before
 pub record LoadsRound (names : List PathName) (before after : Loading) : Type 0 where
   pub round : Loading
   pub whole : after ≡ before ++ round
@@ -53,7 +53,7 @@ abbrev pub AreRounds : (Loading → List PathName) → Loading → List Loading 
 AreRounds missing before [] = IsWhole (missing before) before
 AreRounds missing before (round ∷ rounds) = IsRound (missing before) before round × AreRounds missing (before ++ round) rounds
 
--- so more was loaded behind what was loaded before
+-- more was loaded, round by round, and stands after what was loaded before
 pub record InRounds (missing : Loading → List PathName) (before after : Loading) : Type 0 where
   pub rounds : List Loading
   pub whole : after ≡ before ++ flat_map (λ (round : Loading). round) rounds
@@ -66,12 +66,12 @@ pub record RoundMade : Type 0 where
   pub position : ℕ
   pub round : Loading
 
--- It was made over no fewer records than the one before it. `missing n loaded` is what is missing over the first n records.
+-- A round was loaded over no fewer records than the one before it. `missing n loaded` is what is missing over the first n records.
 pub record IsRoundOver (missing : ℕ → Loading → List PathName) (from : ℕ) (before : Loading) (made : RoundMade) : Type 0 where
   pub not_before : from ≤ made.position
   pub is_round : IsRound (missing made.position before) before made.round
 
--- one round after the other
+-- rounds were loaded, one after the other, each over no fewer records than the one before it
 abbrev pub AreRoundsOver : (ℕ → Loading → List PathName) → ℕ → ℕ → Loading → List RoundMade → Loading → Type 0
 AreRoundsOver missing from to before [] after = (from ≤ to) × (after ≡ before)
 AreRoundsOver missing from to before (made ∷ rounds) after =
@@ -82,7 +82,7 @@ pub record InRoundsOver (missing : ℕ → Loading → List PathName) (from to :
   pub rounds : List RoundMade
   pub made : AreRoundsOver missing from to before rounds after
 
--- all of them: at the end nothing is missing, or the bound is reached
+-- All that was loaded came in rounds: at the end nothing is missing, or the bound is reached.
 pub record LoadedInRounds (missing : ℕ → Loading → List PathName) (from to : ℕ) (loaded : Loading) : Type 0 where
   pub rounds : InRoundsOver missing from to [] loaded
   pub whole : IsWhole (missing to loaded) loaded

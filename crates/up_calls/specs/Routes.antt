@@ -40,6 +40,7 @@ abbrev pub tree_on : Route → Option LogName
 tree_on (route.Refused refusal) = None
 tree_on (route.Tree owner locations) = Some (LogName.OfTree owner)
 
+-- the log that a request goes to, by who answers it
 abbrev pub log_by : Service → Route → Option LogName
 log_by service.Directory on = tree_on on
 log_by service.Store on = Some LogName.OfStore
@@ -59,11 +60,13 @@ abbrev pub route_refusal : Views → Route → Option Reply
 route_refusal a (route.Refused refusal) = Some refusal
 route_refusal a (route.Tree owner locations) = if is_some (a.tree owner) then None else Some reply.WrongHost
 
+-- the reply for which no log is looked at, by who answers the request
 abbrev pub refusal_by : Views → Question → Service → Option Reply
 refusal_by a q service.Directory = route_refusal a (route_of q.user q.request)
 refusal_by a q service.Store = option_map (λ what. reply.Invalid what) (store_fault q.request)
 refusal_by a q service.Keys = option_map (λ what. reply.Invalid what) (key_fault q.request)
 
+-- the reply to a question for which no log is looked at, whoever is asked
 unfoldable pub refusal : Views → Question → Option Reply
 refusal a q = refusal_by a q (service_of q.request)
 

@@ -33,22 +33,24 @@ abbrev pub reference_fault : Option (List ℕ) → Option What
 reference_fault None = Some Reference
 reference_fault (Some reference) = None
 
--- to a store: no reference, or a block that is too long
+-- what is malformed of a request to a store: it has no reference, or a block that is too long
 abbrev pub store_fault : Request → Option What
 store_fault (request.Get text) = reference_fault (reference_in text)
 store_fault (request.StorePut bytes) = if nat_lt largest_block (length bytes) then Some Block else None
 store_fault (request.StoreDelete text) = reference_fault (reference_in text)
 store_fault other = None
 
--- to the keys: no user, or bounds that are not kept
+-- what is malformed of a lookup of the keys: it names no user
 abbrev pub lookup_fault : {E : Type 0} → Result UserName E → Option What
 lookup_fault (Ok user) = None
 lookup_fault (Err fault) = Some Name
 
+-- what is malformed of a key record that is put, by what its user's name is read as: the name, or the bounds
 abbrev pub card_fault : {E : Type 0} → KeyCard → Result UserName E → Option What
 card_fault card (Ok user) = if keeps_bounds card.dirs card.stores card.key then None else Some Key
 card_fault card (Err fault) = Some Name
 
+-- what is malformed of a request to the keys
 abbrev pub key_fault : Request → Option What
 key_fault (request.KeyLookup text) = lookup_fault (user_of text)
 key_fault (request.KeyPut card) = card_fault card (user_of card.user)
@@ -75,7 +77,8 @@ get_leads log (Some reference) = if holds log reference then Leads.Reads referen
 abbrev pub put_leads : Limits → List BlockRecord → List ℕ → Leads BlockRecord
 put_leads limits log bytes =
     if holds log (sha256 bytes) then Leads.Says (reply.Ok (done.Reference (sha256 bytes)))
-    else adding (is_full limits (sizes_of log) (size_of (put_record true bytes))) (length log) (put_record true bytes) (reply.Ok (done.Reference (sha256 bytes)))
+    else adding (is_full limits (sizes_of log) (size_of (put_record true bytes)))
+    (length log) (put_record true bytes) (reply.Ok (done.Reference (sha256 bytes)))
 
 -- StoreDelete: Permission to anybody but the operator; NotExist where no such block is held; else the record's position
 abbrev pub delete_leads : UserName → UserName → Limits → List BlockRecord → Option (List ℕ) → Leads BlockRecord
@@ -83,7 +86,8 @@ delete_leads operator user limits log None = Leads.Says (reply.Invalid Reference
 delete_leads operator user limits log (Some reference) =
     if not (bytes_eq user operator) then Leads.Says (reply.Permission right.Delete)
     else if not (holds log reference) then Leads.Says reply.NotExist
-    else adding (is_full limits (sizes_of log) (size_of (block.Delete reference))) (length log) (block.Delete reference) (reply.Ok (done.Changed (length log + 1)))
+    else adding (is_full limits (sizes_of log) (size_of (block.Delete reference)))
+    (length log) (block.Delete reference) (reply.Ok (done.Changed (length log + 1)))
 
 -- what a request to the store of an operator leads to
 unfoldable pub store_leads : UserName → UserName → Request → Limits → List BlockRecord → Leads BlockRecord
@@ -117,14 +121,16 @@ pub record IsBlock (log : List BlockRecord) (reference bytes : List ℕ) : Type 
 
 -- the record, but that a store whose disk tells nothing has that of a Put without its bytes
 abbrev pub SameRecord : BlockRecord → BlockRecord → Type 0
-SameRecord (block.Put reference size bytes) added = (told : Option (List ℕ)) × (added ≡ block.Put reference size told) × IfSome told (λ these. bytes ≡ Some these)
+SameRecord (block.Put reference size bytes) added =
+    (told : Option (List ℕ)) × (added ≡ block.Put reference size told) × IfSome told (λ these. bytes ≡ Some these)
 SameRecord (block.Delete reference) added = added ≡ block.Delete reference
 
 -- what a store replied, and the records that it added, by what the request leads to
 abbrev pub StoreSays : List BlockRecord → Leads BlockRecord → Reply → List BlockRecord → Type 0
 StoreSays log (Leads.Says meant) answer added = (answer ≡ meant) × (added ≡ [])
 StoreSays log (Leads.Adds rec meant) answer added = (answer ≡ meant) × ((one : BlockRecord) × (added ≡ one ∷ []) × SameRecord rec one)
-StoreSays log (Leads.Reads reference) answer added = (added ≡ []) × ((bytes : List ℕ) × (answer ≡ reply.Ok (done.Bytes bytes)) × IsBlock log reference bytes)
+StoreSays log (Leads.Reads reference) answer added =
+    (added ≡ []) × ((bytes : List ℕ) × (answer ≡ reply.Ok (done.Bytes bytes)) × IsBlock log reference bytes)
 
 -- what the keys replied
 abbrev pub KeysSay : Leads KeyRecord → Reply → List KeyRecord → Type 0

@@ -44,15 +44,18 @@ pub record Takes {E F : Type 0} (before after : List E) (v w : Seen E F) (faults
 -- ---- a tree
 
 -- A tree answered: nothing is needed over its log, or as many names are loaded as one call may load.
-pub record Answers {D : Type 0} (disks : Ghosts D) (q : Question) (loaded : Loading) (fetched : Fetched) (now : ℕ) (old new : State D) (said : Reply) (position : ℕ) : Type 0 where
+pub record Answers {D : Type 0} (disks : Ghosts D) (q : Question) (loaded : Loading)
+    (fetched : Fetched) (now : ℕ) (old new : State D) (said : Reply) (position : ℕ) : Type 0 where
   pub enough : said ≢ reply.OutOfMemory
   pub whole : IsWhole (needs (log_of old) loaded q.user q.request) loaded
   pub position_is : position ≡ length old.log
-  pub steps : Steps disks (answer (log_of old) loaded fetched q.user q.request now) (added (log_of old) loaded fetched q.user q.request now) old new said
+  pub steps : Steps disks (answer (log_of old) loaded fetched q.user q.request now)
+      (added (log_of old) loaded fetched q.user q.request now) old new said
   pub legal : IsLog old.owner old.log
 
 -- Memory was wanting: its log stays, and perhaps a doubtful record was settled.
-pub record Wants {D : Type 0} (disks : Ghosts D) (q : Question) (loaded : Loading) (fetched : Fetched) (now : ℕ) (old new : State D) : Type 0 where
+pub record Wants {D : Type 0} (disks : Ghosts D) (q : Question) (loaded : Loading)
+    (fetched : Fetched) (now : ℕ) (old new : State D) : Type 0 where
   pub log : new.log ≡ old.log
   pub stands : (new ≡ old) ⊎ IsApplied disks (added (log_of old) loaded fetched q.user q.request now) old new reply.OutOfMemory
 
@@ -68,7 +71,7 @@ abbrev pub said_at : Reply → ℕ → Turn
 said_at reply.OutOfMemory position = turn.Wanting
 said_at other position = turn.Said other position
 
--- one turn of a tree
+-- one turn of a tree came to this
 abbrev pub Tried : {D : Type 0} → Ghosts D → Question → Loading → Fetched → ℕ → State D → State D → Turn → Type 0
 Tried disks q loaded fetched now old new (turn.Missing names) = Lacks q loaded old new names
 Tried disks q loaded fetched now old new (turn.Said said position) = Answers disks q loaded fetched now old new said position
@@ -93,18 +96,23 @@ FetchedAs (Err why.OutOfMemory) given = given ≡ None
 
 -- what the store's log gives for a reference, or its disk failed, whose count rose
 abbrev pub BlockRead : {D : Type 0} → Ghosts D → LogState D BlockRecord → LogState D BlockRecord → List ℕ → Fetch → Type 0
-BlockRead disks old new reference given = GivenBy old.log reference given ⊎ ((given ≡ fetch.Failed) × Rose (disks.faults old.disk) (disks.faults new.disk))
+BlockRead disks old new reference given =
+    GivenBy old.log reference given ⊎ ((given ≡ fetch.Failed) × Rose (disks.faults old.disk) (disks.faults new.disk))
 
 -- The store answered, over so many records.
-pub record StoreTried {D : Type 0} (disks : Ghosts D) (operator : UserName) (q : Question) (old new : LogState D BlockRecord) (said : Reply) (position : ℕ) : Type 0 where
-  pub done : IsDone StoreSays (store_fault q.request) (store_leads operator q.user q.request old.limits old.log) old.log new.log (disks.faults old.disk) (disks.faults new.disk) said
+pub record StoreTried {D : Type 0} (disks : Ghosts D) (operator : UserName) (q : Question)
+    (old new : LogState D BlockRecord) (said : Reply) (position : ℕ) : Type 0 where
+  pub done : IsDone StoreSays (store_fault q.request) (store_leads operator q.user q.request old.limits old.log)
+      old.log new.log (disks.faults old.disk) (disks.faults new.disk) said
   pub rose : said ≡ reply.Io → Rose (disks.faults old.disk) (disks.faults new.disk)
   pub stays : KeepsSettled disks old new
   pub position_is : position ≡ length old.log
 
--- so did the keys
-pub record KeysTried {D : Type 0} (disks : Ghosts D) (q : Question) (old new : LogState D KeyRecord) (said : Reply) (position : ℕ) : Type 0 where
-  pub done : IsDone (λ log. KeysSay) (key_fault q.request) (key_leads q.user q.request old.limits old.log) old.log new.log (disks.faults old.disk) (disks.faults new.disk) said
+-- the keys were asked in one turn, as the store is
+pub record KeysTried {D : Type 0} (disks : Ghosts D) (q : Question)
+    (old new : LogState D KeyRecord) (said : Reply) (position : ℕ) : Type 0 where
+  pub done : IsDone (λ log. KeysSay) (key_fault q.request) (key_leads q.user q.request old.limits old.log)
+      old.log new.log (disks.faults old.disk) (disks.faults new.disk) said
   pub rose : said ≡ reply.Io → Rose (disks.faults old.disk) (disks.faults new.disk)
   pub stays : KeepsSettled disks old new
   pub position_is : position ≡ length old.log

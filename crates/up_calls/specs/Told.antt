@@ -44,11 +44,13 @@ pub record IsSaid (rises : Type 0) (v w : SeenTree) (q : Question) (e : Event) :
 abbrev pub TurnTold : Type 0 → SeenTree → SeenTree → Question → Loading → Fetched → ℕ → Turn → Type 0
 TurnTold rises v w q loaded fetched now (turn.Missing names) = Misses v w q loaded names × (w.own ≡ v.own)
 TurnTold rises v w q loaded fetched now (turn.Said answer position) =
-    (answer ≢ reply.OutOfMemory) × IsSaid rises v w q (record { reply = answer; position = position; loaded = loaded; fetched = fetched; moment = now })
+    (answer ≢ reply.OutOfMemory)
+    × IsSaid rises v w q (record { reply = answer; position = position; loaded = loaded; fetched = fetched; moment = now })
 TurnTold rises v w q loaded fetched now turn.Wanting = w.own ≡ v.own
 
 -- One turn of the tree of an owner, and of no other log: what was missing for it, or the reply, or want of memory.
-pub record TreeTold (rises : Type 0) (a b : Views) (owner : UserName) (q : Question) (loaded : Loading) (fetched : Fetched) (now : ℕ) (came : Turn) : Type 0 where
+pub record TreeTold (rises : Type 0) (a b : Views) (owner : UserName) (q : Question)
+    (loaded : Loading) (fetched : Fetched) (now : ℕ) (came : Turn) : Type 0 where
   pub v : SeenTree
   pub w : SeenTree
   pub before : a.tree owner ≡ Some v

@@ -17,17 +17,19 @@ pub record Seen (E F : Type 0) : Type 0 where
   pub failed : ℕ
   pub fixed : F
 
--- of a tree's log the owner and the limits never change
+-- what a caller has of a tree's log, whose owner and limits never change
 abbrev pub SeenTree : Type 0
 SeenTree = Seen Rec (UserName × Limits)
 
+-- what a caller has of the store's log, whose limits never change
 abbrev pub SeenStore : Type 0
 SeenStore = Seen BlockRecord Limits
 
+-- what a caller has of the log of the keys, whose limits never change
 abbrev pub SeenKeys : Type 0
 SeenKeys = Seen KeyRecord Limits
 
--- of all logs of a host: of each owner the tree, if the host has it, the store, and the keys
+-- what a caller has of all logs of a host: of each owner's tree, if the host has it, of the store, and of the keys
 pub record Views : Type 0 where
   pub tree : UserName → Option SeenTree
   pub store : SeenStore
@@ -37,7 +39,7 @@ pub record Views : Type 0 where
 abbrev pub log_after : SeenTree → ℕ → Log
 log_after view n = record { owner = view.fixed.0; limits = view.fixed.1; records = take n view.seen }
 
--- all of it that was seen
+-- the log of a tree, as far as it was seen
 abbrev pub log_seen : SeenTree → Log
 log_seen view = record { owner = view.fixed.0; limits = view.fixed.1; records = view.seen }
 
@@ -54,6 +56,7 @@ LaterTree (Some v) (Some w) = LaterSeen v w
 LaterTree None (Some w) = ⊥
 LaterTree (Some v) None = ⊥
 
+-- what was seen of any log stays seen, and a host neither gains nor loses a tree
 pub record Later (a b : Views) : Type 0 where
   pub trees : (owner : UserName) → LaterTree (a.tree owner) (b.tree owner)
   pub store : LaterSeen a.store b.store

@@ -1,7 +1,7 @@
 //! What users who ask a tree are answered: whole requests, one after the other, each as one step, and looks and watches alone. A line
 //! tells the tree's next record, or what a request comes with, or asks; what is told stands until the next line `tree`, which begins
 //! with an empty one.
-use crate::looked::{look_line, met_line};
+use crate::looked::{could_line, look_line, met_line};
 use crate::tree::{put_files, record_turn};
 use std::alloc::Global;
 use std::hash::RandomState;
@@ -69,7 +69,7 @@ impl Stage {
         answer: &mut Answer,
     ) -> Result<(), Fault> {
         match keyword {
-            "ask" | "watch" | "count" | "glob" | "lookup" | "which" => {
+            "ask" | "watch" | "count" | "glob" | "lookup" | "which" | "could" => {
                 self.user_line(alloc, keyword, words, answer)
             }
             "met" | "above" => met_line(alloc, &self.tree, keyword, words, answer),
@@ -104,6 +104,7 @@ impl Stage {
             "ask" => ask(alloc, &mut self.tree, &mut self.given, user, words, answer),
             "watch" => self.watch_line(alloc, user, words, true, answer),
             "count" => self.watch_line(alloc, user, words, false, answer),
+            "could" => could_line(alloc, &self.tree, &self.given.loaded, user, words, answer),
             _ => look_line(
                 alloc,
                 &self.tree,

@@ -6,10 +6,10 @@ use up_case_asks::path_in;
 use up_case_lines::{Answer, Fault, Words, path_of, text_of};
 use up_disk::MemDisk;
 use up_entry::Entry;
-use up_list::{Onlooker, TreeLook, first_link, glob, lookup, which_access};
+use up_list::{Onlooker, TreeLook, TreeView, first_link, glob, lookup, which_access};
 use up_names::{Path, User};
 use up_pattern::{Pattern, parse_pattern};
-use up_policy::Loaded;
+use up_policy::{Loaded, can};
 use up_rights::Right;
 use up_tree::TreeState;
 use up_wire::{Done, Reply, Row};
@@ -61,6 +61,42 @@ fn path_reply(
         which_access(alloc, look, &path)
     };
     Ok(reply?)
+}
+
+/// `could USER RIGHT PATH N`: whether a user had a right on a path after the first N records, with what was loaded.
+pub fn could_line(
+    alloc: Global,
+    tree: &TreeState<MemDisk>,
+    loaded: &Loaded,
+    user: &User,
+    mut words: Words<'_>,
+    answer: &mut Answer,
+) -> Result<(), Fault> {
+    let right = Right::from_word(words.word()?.as_bytes()).ok_or(Fault::BadLine)?;
+    let asked = words.word()?;
+    let n = words.last_number()?;
+    let had = could(alloc, tree, loaded, user, right, asked, n)?;
+    answer.word(if had { "yes" } else { "no" });
+    Ok(())
+}
+
+#[tactic(auto, unfolding(up_log_tree::specs::Rights::facts_of))]
+fn could(
+    alloc: Global,
+    tree: &TreeState<MemDisk>,
+    loaded: &Loaded,
+    user: &User,
+    right: Right,
+    asked: &str,
+    n: u64,
+) -> Result<bool, Fault> {
+    if n > tree.position() {
+        return Err(Fault::BadLine);
+    }
+    let path = path_in(alloc, tree.owner(), asked)?;
+    let had = can(alloc, &TreeView::at(tree, n), loaded, user, right, &path);
+    drop(path);
+    Ok(had?)
 }
 
 /// `met PATH`, `above PATH`: the link on the way to a path, the path itself included, or else not.

@@ -29,7 +29,7 @@ abbrev pub insert : ℕ → List ℕ → List ℕ
 insert y [] = y ∷ []
 insert y (x ∷ xs) = if nat_lt y x then y ∷ x ∷ xs else x ∷ insert y xs
 
--- both lists, in order
+-- the positions of both lists, in order
 abbrev pub merged : List ℕ → List ℕ → List ℕ
 merged [] ys = ys
 merged (x ∷ xs) ys = insert x (merged xs ys)

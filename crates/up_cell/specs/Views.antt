@@ -56,7 +56,7 @@ module _ {E F : Type 0} where
   abbrev pub looked : View E F → ℕ → View E F
   looked v n = record v { floor = n; looks = v.looks + 1 }
 
-  -- its share, in parts of which 2 ^ depth are one
+  -- a seat's share, in parts of which 2 ^ depth are one
   abbrev pub weight : ℕ → View E F → ℕ
   weight depth v = v.part * 2 ^ (depth - v.halvings)
 

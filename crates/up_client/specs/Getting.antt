@@ -56,13 +56,15 @@ block_from i block reply = do
 
 -- block i is asked for where it is kept beside the entry, and nowhere else
 abbrev pub fetched_at : Endpoint → ℕ → Block → Talking (List ℕ)
-fetched_at endpoints.Local i block = and_then (reply_to (requests.Get (text_of block.location.reference))) (λ reply. done (block_from i block reply))
+fetched_at endpoints.Local i block =
+    and_then (reply_to (requests.Get (text_of block.location.reference))) (λ reply. done (block_from i block reply))
 fetched_at (endpoints.Address address) i block = done (Err (Elsewhere i))
 
 -- these blocks, of which the first is block i, are read in order; before them the others were
 abbrev pub fetching : ℕ → List Block → List (List ℕ) → Talking (List (List ℕ))
 fetching i [] read = done (Ok read)
-fetching i (block ∷ blocks) read = and_then (fetched_at block.location.endpoint i block) (λ bytes. fetching (i + 1) blocks (read ++ bytes ∷ []))
+fetching i (block ∷ blocks) read =
+    and_then (fetched_at block.location.endpoint i block) (λ bytes. fetching (i + 1) blocks (read ++ bytes ∷ []))
 
 -- blocks are read in order, and then joined
 abbrev pub joined_blocks : List Block → Talking (List ℕ)

@@ -16,16 +16,17 @@ use Rattle.up_client.specs.declared.links.Step.TheVariants as steps
 use Rattle.up_client.specs.Replies.{◌>>=◌, outcome}
 use Rattle.up_client.specs.Talks.{Talking, done, and_then, reply_to}
 
+-- whether an entry is a link
 abbrev pub is_link : Kind → Bool
 is_link kinds.Link = true
 is_link kinds.File = false
 is_link kinds.Directory = false
 
--- the target, and behind it what stands in the path behind its first n elements
+-- the target, and after it what stands in the path after its first n elements
 abbrev pub behind : ℕ → PathName → PathName → PathName
 behind n path target = record { owner = target.owner; elements = target.elements ++ drop n path.elements }
 
--- Where a reply leads: a link that stands at the path or above it leads to its target and what stands behind the link.
+-- Where a reply leads: a link that stands at the path or above it leads to its target and what stands after the link.
 abbrev pub leads_to : PathName → Reply → Option PathName
 leads_to path (replies.FollowLink entry) =
     if is_link entry.attr.kind && is_under path entry.name
@@ -52,7 +53,8 @@ unfoldable pub following : (PathName → Request) → ℕ → PathName → Talki
 following request zero path =
     and_then (reply_to (request path)) (λ reply. led (leads_to path reply) (λ next. done (Err TooManyLinks)) reply)
 following request (suc more) path =
-    and_then (reply_to (request path)) (λ reply. led (leads_to path reply) (λ next. and_then (done (short next)) (following request more)) reply)
+    and_then (reply_to (request path))
+    (λ reply. led (leads_to path reply) (λ next. and_then (done (short next)) (following request more)) reply)
 
 -- the path where it is asked next, of at most so many more: none where the reply leads nowhere
 abbrev pub next_to : ℕ → Option PathName → Result (Option PathName) ClientFault
@@ -60,11 +62,11 @@ next_to more None = Ok None
 next_to zero (Some next) = Err TooManyLinks
 next_to (suc more) (Some next) = short next >>= (λ fit. Ok (Some fit))
 
--- it is asked there, or what was done is done
+-- what a reply leads to: the client asks at the next path, or what was done is done
 abbrev pub step_of : Reply → Option PathName → Result Step ClientFault
 step_of reply (Some next) = Ok (steps.On next)
 step_of reply None = outcome reply >>= (λ d. Ok (steps.Done d))
 
--- where a reply leads, of at most so many more, or what was done
+-- what a reply at a path leads to, of at most so many more links
 abbrev pub step_to : ℕ → PathName → Reply → Result Step ClientFault
 step_to more path reply = next_to more (leads_to path reply) >>= step_of reply

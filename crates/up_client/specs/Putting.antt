@@ -24,7 +24,7 @@ pieces_in zero bytes = []
 pieces_in (suc most) [] = []
 pieces_in (suc most) (b ∷ bytes) = take block_size (b ∷ bytes) ∷ pieces_in most (drop block_size (b ∷ bytes))
 
--- all of them: no bytes give no piece, and any piece has a byte
+-- all pieces of some bytes, one after the other: no bytes give no piece, and any piece has a byte
 abbrev pub pieces_of : List ℕ → List (List ℕ)
 pieces_of bytes = pieces_in (length bytes) bytes
 

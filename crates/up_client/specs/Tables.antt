@@ -35,14 +35,17 @@ pub record AnswersFrom (old : Table) (request : Request) (given : Option Reply) 
   pub counted : new.calls ≡ after_call old.calls (is_none given)
 
 -- Somebody is steady with a table while he is in such states: each reply is the table's, or want of memory, and leaves him so.
-pub record IsSteady {S : Type 0} (answers : S → Request → Option Reply → S → Type 0) (rows : List (Request × Reply)) (such : S → Type 0) : Type 0 where
-  pub replies : (a b : S) (request : Request) (reply : Reply) → such a → answers a request (Some reply) b → reply ≢ replies.OutOfMemory → IsReplyIn rows request reply
+pub record IsSteady {S : Type 0} (answers : S → Request → Option Reply → S → Type 0)
+    (rows : List (Request × Reply)) (such : S → Type 0) : Type 0 where
+  pub replies : (a b : S) (request : Request) (reply : Reply) → such a
+      → answers a request (Some reply) b → reply ≢ replies.OutOfMemory → IsReplyIn rows request reply
   pub stays : (a b : S) (request : Request) (given : Option Reply) → such a → answers a request given b → such b
 
 -- From a path on, links of the table lead to the last path, at most so many.
 pub data LinksLead (rows : List (Request × Reply)) : ℕ → PathName → PathName → Type 0 where
   there : {more : ℕ} {path : PathName} → LinksLead rows more path path
-  along : {more : ℕ} {path next last : PathName} (reply : Reply) → IsReplyIn rows (look_up_at path) reply → leads_to path reply ≡ Some next → short next ≡ Ok next → LinksLead rows more next last → LinksLead rows (suc more) path last
+  along : {more : ℕ} {path next last : PathName} (reply : Reply) → IsReplyIn rows (look_up_at path) reply
+      → leads_to path reply ≡ Some next → short next ≡ Ok next → LinksLead rows more next last → LinksLead rows (suc more) path last
 
 -- The table has a block with this content: it is asked for by its reference, and that is the digest of the bytes that come.
 pub record HasBlock (rows : List (Request × Reply)) (block : Block) (bytes : List ℕ) : Type 0 where

@@ -31,8 +31,10 @@ reply_to request = asking request (λ reply. done (Ok reply))
 pub data Held {S X : Type 0} (answers : S → Request → Option Reply → S → Type 0) : Talking X → S → Result X ClientFault → S → Type 0 where
   ended : {result : Result X ClientFault} {a : S} → Held answers (done result) a result a
   wanting : {talk : Talking X} {a : S} → Held answers talk a (Err OutOfMemory) a
-  unanswered : {request : Request} {hear : Reply → Talking X} {a b : S} → answers a request None b → Held answers (asking request hear) a (Err Failed) b
-  heard : {request : Request} {hear : Reply → Talking X} {result : Result X ClientFault} {a next b : S} (reply : Reply) → answers a request (Some reply) next → Held answers (hear reply) next result b → Held answers (asking request hear) a result b
+  unanswered : {request : Request} {hear : Reply → Talking X} {a b : S}
+      → answers a request None b → Held answers (asking request hear) a (Err Failed) b
+  heard : {request : Request} {hear : Reply → Talking X} {result : Result X ClientFault} {a next b : S} (reply : Reply)
+      → answers a request (Some reply) next → Held answers (hear reply) next result b → Held answers (asking request hear) a result b
 
 -- what was meant, or want of memory
 abbrev pub Meant : {X : Type 0} → Result X ClientFault → Result X ClientFault → Type 0

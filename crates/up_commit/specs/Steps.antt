@@ -11,6 +11,7 @@ use Rattle.up_wire.specs.declared.replies.Done.TheVariants as done
 use Rattle.up_wire.specs.declared.replies.Reply.{Reply}
 use Rattle.up_wire.specs.declared.replies.Reply.TheVariants as reply
 
+-- whether what was done is told by a position
 abbrev pub is_position : Done → Bool
 is_position (done.Changed position) = true
 is_position other = false
@@ -40,7 +41,8 @@ pub record IsApplied {D : Type 0} (disks : Ghosts D) (added : List Rec) (old new
 -- the reply is a position, and but for a disk that failed all else stays as it was.
 pub record Steps {D : Type 0} (disks : Ghosts D) (answer : Reply) (added : List Rec) (old new : State D) (answered : Reply) : Type 0 where
   pub exact : answered ≢ reply.OutOfMemory → answered ≢ reply.Io → answered ≡ answer
-  pub failed : answered ≡ reply.Io → (answer ≡ reply.Io) ⊎ ((is_changed answer ≡ true) × Rose (disks.faults old.disk) (disks.faults new.disk))
+  pub failed : answered ≡ reply.Io
+      → (answer ≡ reply.Io) ⊎ ((is_changed answer ≡ true) × Rose (disks.faults old.disk) (disks.faults new.disk))
   pub log : new.log ≡ old.log ++ (if is_changed answered then added else [])
   pub untouched : is_changed answered ≡ false → (answered ≡ reply.Io → answer ≡ reply.Io) → new ≡ old
   pub stands : (new ≡ old) ⊎ IsApplied disks added old new answered

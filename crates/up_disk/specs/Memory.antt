@@ -20,7 +20,8 @@ moment_of disk = length disk.calls.items
 
 -- what a crash since a moment might have left
 abbrev pub left_since_of : MemDisk → ℕ → List ℕ → Type 0
-left_since_of disk t image = (k : ℕ) × (t ≤ k) × (k ≤ length disk.calls.items) × MayLeave disk.first disk.first (take k disk.calls.items) image
+left_since_of disk t image =
+    (k : ℕ) × (t ≤ k) × (k ≤ length disk.calls.items) × MayLeave disk.first disk.first (take k disk.calls.items) image
 
 -- which calls fail, how many were made, and how many failed
 abbrev pub plan_of : MemDisk → CallPlan

@@ -4,7 +4,7 @@ use Rattle.up_disk.specs.Disk.{CutShort, Torn, written}
 use Rattle.up_disk.specs.declared.call.Call.{Call}
 use Rattle.up_disk.specs.declared.call.Call.TheVariants.{Write, Cut, Sync}
 
--- the bytes, with zeros behind them up to a size
+-- the bytes, with zeros after them up to a size
 abbrev pub padded : ℕ → List ℕ → List ℕ
 padded size bytes = bytes ++ replicate (size - length bytes) 0
 

@@ -8,24 +8,31 @@ use Rattle.up_disk.specs.Pending.{done, content_after, MayMake, MayLeave, padded
 use Rattle.up_disk.specs.declared.call.Call.{Call}
 use Rattle.up_disk.specs.declared.call.Call.TheVariants.{Write, Cut, Sync}
 
+-- a write may have left all as it was
 pub torn_self : (at n : ℕ) (bytes : List ℕ) → Torn at n bytes bytes
 torn_self at n bytes = record { before = take_min at bytes; after = refl; no_shorter = omega arith; no_longer = omega arith }
 
+-- a cut may have left all as it was
 pub cut_self : (size : ℕ) (bytes : List ℕ) → CutShort size bytes bytes
 cut_self size bytes = record { no_shorter = omega arith; front = take_all (length bytes) bytes (omega arith) }
 
+-- a cut may have been done
 pub cut_done : (size : ℕ) (bytes : List ℕ) → CutShort size bytes (take size bytes)
 cut_done size bytes = record {
   no_shorter = omega (arith, length-take size bytes);
   front = ap (λ n. take n bytes) (length-take size bytes) ∙ take_min size bytes;
 }
 
+-- bytes with zeros after them up to a size have that size, or are as long as they were
 pub length-padded : (size : ℕ) (bytes : List ℕ) → length (padded size bytes) ≡ max (length bytes) size
-length-padded size bytes = omega (arith, length-append bytes (replicate (size - length bytes) 0), length-replicate {A = ℕ} (size - length bytes) 0)
+length-padded size bytes =
+    omega (arith, length-append bytes (replicate (size - length bytes) 0), length-replicate {A = ℕ} (size - length bytes) 0)
 
+-- bytes with zeros after them begin as they began
 take-padded : (n size : ℕ) (bytes : List ℕ) → n ≤ length bytes → take n (padded size bytes) ≡ take n bytes
 take-padded n size bytes le = take-append-le n bytes (replicate (size - length bytes) 0) le
 
+-- bytes with zeros after them up to a size are after that size as they were
 drop-padded : (n size : ℕ) (bytes : List ℕ) → size ≤ n → drop n (padded size bytes) ≡ drop n bytes
 drop-padded n size bytes le = elim (cases_lt n (length bytes)) [
   | inl short ↦
@@ -49,14 +56,18 @@ torn_put at n place new bytes low high =
     let k = min at (length bytes) in
     let gap = at + n - end in
     record {
-      before = take-append-le k front rest (omega arith) ∙ take-append-le k (take place old) new (omega arith) ∙ take-take k place old (omega arith) ∙ take-padded k place bytes (omega arith) ∙ take_min at bytes;
+      before =
+          take-append-le k front rest (omega arith) ∙ take-append-le k (take place old) new
+          (omega arith) ∙ take-take k place old (omega arith) ∙ take-padded k place bytes (omega arith) ∙ take_min at bytes;
       after = let split : at + n ≡ end + gap = omega arith in
-          ap (λ (i : ℕ). drop i (front ++ rest)) split ∙ sym (drop-drop gap end (front ++ rest)) ∙ ap (λ (l : List ℕ). drop gap l) (drop_at front rest end front_size)
+          ap (λ (i : ℕ). drop i (front ++ rest)) split ∙ sym (drop-drop gap end (front ++ rest)) ∙ ap
+          (λ (l : List ℕ). drop gap l) (drop_at front rest end front_size)
           ∙ drop-drop gap end old ∙ ap (λ (i : ℕ). drop i old) (sym split) ∙ drop-padded (at + n) place bytes (omega arith);
       no_shorter = omega arith;
       no_longer = omega arith;
     }
 
+-- a write may have left zeros where the bytes had ended, and nothing else
 pub torn_padded : (at n : ℕ) (bytes : List ℕ) → Torn at n bytes (padded (at + n) bytes)
 torn_padded at n bytes = record {
   before = take-padded (min at (length bytes)) (at + n) bytes (omega arith) ∙ take_min at bytes;
@@ -65,8 +76,10 @@ torn_padded at n bytes = record {
   no_longer = omega (arith, length-padded (at + n) bytes);
 }
 
+-- what a call did is one of the things that it may have made
 pub made : (call : Call) (bytes : List ℕ) → MayMake call bytes bytes (done call bytes)
-made (Write w) bytes = torn_put w.at (length w.bytes) w.at (take w.landed w.bytes) bytes (omega arith) (omega (arith, length-take w.landed w.bytes))
+made (Write w) bytes =
+    torn_put w.at (length w.bytes) w.at (take w.landed w.bytes) bytes (omega arith) (omega (arith, length-take w.landed w.bytes))
 made (Cut size) bytes = cut_done size bytes
 made Sync bytes = refl
 

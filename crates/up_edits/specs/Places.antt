@@ -19,7 +19,7 @@ abbrev pub rank : Endpoint → List ℕ
 rank Local = []
 rank (Address bytes) = 1 ∷ bytes
 
--- by the reference, and then by the endpoint
+-- locations in order of reference, and then of endpoint
 abbrev pub location_cmp : Location → Location → Ordering
 location_cmp a b = ordering_then (slice_cmp nat_cmp a.reference b.reference) (slice_cmp nat_cmp (rank a.endpoint) (rank b.endpoint))
 
@@ -40,6 +40,7 @@ or_else (Some answer) other = Some answer
 pub record NotesOne (old new : List (Location × Bor Fetch)) (location : Location) (fetch : Fetch) : Type 0 where
   pub same : (other : Location) → noted new other ≡ or_else (noted old other) (if location_eq other location then Some fetch else None)
 
--- with the rest of what was fetched behind them, the answers that are noted are the first for each location in all of it
+-- with the rest of what was fetched after them, the answers that are noted are the first for each location in all of it
 pub record AreFirst (answers : List (Location × Bor Fetch)) (rest all : Fetched) : Type 0 where
-  pub same : (location : Location) → or_else (noted answers location) (lookup (location_eq location) rest) ≡ lookup (location_eq location) all
+  pub same : (location : Location)
+      → or_else (noted answers location) (lookup (location_eq location) rest) ≡ lookup (location_eq location) all

@@ -20,6 +20,6 @@ may_put look put =
     unless (check look (ways put.entry.name) put.entry.name (Some (right_to_put (node_at look.tree put.entry.name))))
     >>= λ allowed. place_refusal (node_at look.tree put.entry.name) look.tree put
 
--- the text, and then the record behind n others
+-- the text, and then the record after n others
 unfoldable pub recorded : UserName → ℕ → Fetched → Entry → Result Rec Reply
 recorded owner n fetched entry = text_put owner fetched entry >>= λ text. std.Ok (rec.Put (record entry { sequence = n + 1 }) text)

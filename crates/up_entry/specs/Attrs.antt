@@ -4,11 +4,13 @@ use Rattle.up_entry.specs.declared.entries.Attr.{Attr}
 use Rattle.up_entry.specs.declared.entries.Kind.{Kind}
 use Rattle.up_entry.specs.declared.entries.Kind.TheVariants.{File, Directory, Link}
 
+-- the byte of a kind
 abbrev pub kind_byte : Kind → ℕ
 kind_byte File = 0
 kind_byte Directory = 1
 kind_byte Link = 2
 
+-- the byte of a kind, with 4 more where the incomplete mark is set
 abbrev pub attr_byte : Attr → ℕ
 attr_byte attr = if attr.incomplete then kind_byte attr.kind + 4 else kind_byte attr.kind
 

@@ -6,6 +6,7 @@ use Rattle.up_names.specs.declared.paths.Control.TheVariants.{Ordinary, Access, 
 use Rattle.up_entry.specs.declared.entries.Kind.{Kind}
 use Rattle.up_entry.specs.declared.entries.Kind.TheVariants.{File, Directory, Link}
 
+-- whether a file is no control file
 abbrev pub is_ordinary : Control → Bool
 is_ordinary Ordinary = true
 is_ordinary Access = false

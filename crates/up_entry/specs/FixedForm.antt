@@ -32,7 +32,7 @@ link_fits Directory (Some target) = false
 link_fits Link None = false
 link_fits Link (Some target) = true
 
--- the same rules as a test
+-- whether an entry keeps these rules, as a test
 unfoldable pub has_fixed_form : Entry → Bool
 has_fixed_form e =
     path_eq e.signed_name e.name

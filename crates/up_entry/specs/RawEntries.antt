@@ -10,6 +10,7 @@ use Rattle.up_entry.specs.declared.puts.PutEntry.{PutEntry}
 use Rattle.up_entry.specs.Reading.{blocks_at}
 use Rattle.up_entry.specs.Spelling.{block, heading, HasAddress, IsBlock}
 
+-- the bytes of an entry as it is handed to Put: its fields one after the other
 unfoldable pub raw_entry : PutEntry → List ℕ
 raw_entry put =
     heading put.name put.signed_name put.packing put.time put.writer put.attr
@@ -18,6 +19,7 @@ raw_entry put =
     ++ list block put.blocks
     ++ int put.sequence
 
+-- an entry as it is handed to Put, field by field
 unfoldable pub raw_entry_at : Input → Result (PutEntry × Input) FieldFault
 raw_entry_at input = do
   name ← text_at input
@@ -59,9 +61,10 @@ pub record IsRawEntry (put : PutEntry) : Type 0 where
   pub blocks : IsList IsBlock put.blocks
   pub sequence : IsI64 put.sequence
 
--- it has a spelling where no address of its blocks is empty
+-- an entry as it is handed to Put has a spelling where no address of its blocks is empty
 abbrev pub IsSpelledRaw : PutEntry → Type 0
 IsSpelledRaw put = AllByRecursion (λ b. HasAddress b.location.endpoint) put.blocks
 
+-- an entry that the program can hold and that has a spelling
 abbrev pub FitsRawEntry : PutEntry → Type 0
 FitsRawEntry put = IsRawEntry put × IsSpelledRaw put

@@ -1,4 +1,4 @@
--- Reading an entry or a record, field by field: its value and what is left behind it, or the first fault. A field that
+-- Reading an entry or a record, field by field: its value and what is left after it, or the first fault. A field that
 -- the input ends within is Short. A field whose bytes are no spelling of a value that may stand there is Spelling, with
 -- the field's place.
 use Rattle.std.specs.Prelude.{ℕ, Bool, false, not, ◌&&◌, ◌||◌, ◌==◌, if◌then◌else◌, List, [], ◌∷◌, length, Option, Some, None, option_map, Result, Ok, Err}
@@ -35,6 +35,7 @@ canonical_user text = elim (user_of text) [
   | Err fault ↦ None
 ]
 
+-- a path: a canonical text
 unfoldable pub path_at : Input → Result (PathName × Input) FieldFault
 path_at input = do
   text ← text_at input
@@ -52,6 +53,7 @@ attr_in marks byte = elim (attr_of byte) [
   | None ↦ None
 ]
 
+-- the attributes of an entry: one byte
 unfoldable pub attr_at : Bool → Input → Result (Attr × Input) FieldFault
 attr_at marks input = do
   found ← byte_at input
@@ -63,6 +65,7 @@ link_in Link text = option_map (λ target. Some target) (canonical_path text)
 link_in File text = if length text == 0 then Some None else None
 link_in Directory text = if length text == 0 then Some None else None
 
+-- the target of an entry of this kind: a text
 unfoldable pub link_at : Kind → Input → Result (Option PathName × Input) FieldFault
 link_at kind input = do
   text ← text_at input
@@ -72,11 +75,13 @@ link_at kind input = do
 abbrev pub endpoint_in : List ℕ → Endpoint
 endpoint_in address = if length address == 0 then Local else Address address
 
+-- an endpoint: a text
 unfoldable pub endpoint_at : Input → Result (Endpoint × Input) FieldFault
 endpoint_at input = do
   address ← text_at input
   Ok (endpoint_in address.0, address.1)
 
+-- a block: its endpoint, its reference, its offset, its size and its packdata
 unfoldable pub block_at : Input → Result (Block × Input) FieldFault
 block_at input = do
   endpoint ← endpoint_at input
@@ -84,8 +89,10 @@ block_at input = do
   offset ← num_at reference.1
   size ← num_at offset.1
   packdata ← text_at size.1
-  Ok (record { location = record { endpoint = endpoint.0; reference = reference.0 }; offset = offset.0; size = size.0; packdata = packdata.0 }, packdata.1)
+  Ok
+      (record { location = record { endpoint = endpoint.0; reference = reference.0 }; offset = offset.0; size = size.0; packdata = packdata.0 }, packdata.1)
 
+-- blocks: their number, and each of them
 abbrev pub blocks_at : Input → Result (List Block × Input) FieldFault
 blocks_at = list_at block_at
 
@@ -140,13 +147,14 @@ control_text_at entry input = do
   text ← text_at input
   known (place input) (if is_control_file entry.attr.kind entry.name || length text.0 == 0 then Some text.0 else None) text.1
 
+-- a record of a put: an entry without the mark, and the text kept beside it
 unfoldable pub put_at : Input → Result (Rec × Input) FieldFault
 put_at input = do
   entry ← entry_at false input
   control ← control_text_at entry.0 entry.1
   Ok (Put entry.0 control.0, control.1)
 
--- the fields behind each tag
+-- the fields after each tag
 abbrev pub rec_table : List (ℕ × (Input → Result (Rec × Input) FieldFault))
 rec_table =
     (1, put_at)
@@ -154,6 +162,7 @@ rec_table =
     ∷ (3, made_of (λ time. Snap time) num_at)
     ∷ []
 
+-- a record is read by its tag
 abbrev pub rec_at : Input → Result (Rec × Input) FieldFault
 rec_at = tagged_at rec_table
 

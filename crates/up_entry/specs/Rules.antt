@@ -30,6 +30,7 @@ packing_fits attr path packing = if is_plain_only attr path then packing == 1 el
 unfoldable pub is_address : List ℕ → Bool
 is_address address = nat_le 1 (length address) && nat_le (length address) 255 && list_all (λ b. nat_le 0x21 b && nat_le b 0x7E) address
 
+-- an endpoint may be that of a block: the host's own store, or a store at an address
 abbrev pub endpoint_fits : Endpoint → Bool
 endpoint_fits Local = true
 endpoint_fits (Address address) = is_address address
@@ -55,6 +56,7 @@ packdata_fits File packdata = true
 packdata_fits Directory packdata = length packdata == 0
 packdata_fits Link packdata = length packdata == 0
 
+-- whether an entry is a directory
 abbrev pub is_directory : Kind → Bool
 is_directory File = false
 is_directory Directory = true

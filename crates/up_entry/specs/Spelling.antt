@@ -62,16 +62,19 @@ rec_tag (Put e control) = 1
 rec_tag (Delete path) = 2
 rec_tag (Snap time) = 3
 
+-- the fields of a record, after its tag
 abbrev pub rec_fields : Rec → List ℕ
 rec_fields (Put e control) = entry e ++ text control
 rec_fields (Delete path) = text (canonical path)
 rec_fields (Snap time) = num time
 
+-- the bytes of a record: its tag and its fields
 abbrev pub rec : Rec → List ℕ
 rec r = byte (rec_tag r) ++ rec_fields r
 
 -- ---- what each value of the program is, by its types
 
+-- a block as the program can hold it
 pub record IsBlock (b : Block) : Type 0 where
   pub endpoint : IsText (endpoint_text b.location.endpoint)
   pub reference : HasLength 32 b.location.reference
@@ -79,10 +82,12 @@ pub record IsBlock (b : Block) : Type 0 where
   pub size : IsU64 b.size
   pub packdata : IsText b.packdata
 
+-- a target, where there is one, is a canonical path
 abbrev pub IsTarget : Option PathName → Type 0
 IsTarget None = ⊤
 IsTarget (Some target) = IsCanonical target
 
+-- an entry as the program can hold it
 pub record IsEntry (e : Entry) : Type 0 where
   pub name : IsCanonical e.name
   pub signed_name : IsCanonical e.signed_name
@@ -94,6 +99,7 @@ pub record IsEntry (e : Entry) : Type 0 where
   pub blocks : IsList IsBlock e.blocks
   pub sequence : IsU64 e.sequence
 
+-- a record as the program can hold it
 abbrev pub IsRec : Rec → Type 0
 IsRec (Put e control) = IsEntry e × IsText control
 IsRec (Delete path) = IsCanonical path
@@ -112,6 +118,7 @@ HasItsLink Link target = IsSome target
 HasItsLink File target = target ≡ None
 HasItsLink Directory target = target ≡ None
 
+-- an entry has a spelling: a link has a target and another kind has none, and no block has an empty address
 pub record IsSpelled (e : Entry) : Type 0 where
   pub link : HasItsLink e.attr.kind e.link
   pub addresses : AllByRecursion (λ b. HasAddress b.location.endpoint) e.blocks
@@ -132,6 +139,7 @@ FitsUser user = user_of user ≡ Ok user
 abbrev pub FitsEndpoint : Endpoint → Type 0
 FitsEndpoint endpoint = IsText (endpoint_text endpoint) × HasAddress endpoint
 
+-- a block that the program can hold and that has a spelling
 abbrev pub FitsBlock : Block → Type 0
 FitsBlock b = IsBlock b × HasAddress b.location.endpoint
 
@@ -139,12 +147,14 @@ FitsBlock b = IsBlock b × HasAddress b.location.endpoint
 abbrev pub FitsBlocks : List Block → Type 0
 FitsBlocks = IsList FitsBlock
 
+-- an entry that the program can hold and that has a spelling
 abbrev pub FitsEntry : Entry → Type 0
 FitsEntry e = IsEntry e × IsSpelled e
 
--- those without the incomplete mark
+-- an entry that fits, without the incomplete mark
 abbrev pub FitsWhole : Entry → Type 0
 FitsWhole e = FitsEntry e × (e.attr.incomplete ≡ false)
 
+-- a record that the program can hold and that has a spelling
 abbrev pub FitsRec : Rec → Type 0
 FitsRec r = IsRec r × IsSpelledRec r

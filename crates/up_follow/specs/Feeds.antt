@@ -19,7 +19,7 @@ OnlyLonger None None = ⊤
 OnlyLonger (Some log) None = ⊥
 OnlyLonger None (Some later) = ⊥
 
--- A batch from a position on: texts that stand directly behind so many of the leader's log, and none exactly where it has no more.
+-- A batch from a position on: texts that stand directly after so many of the leader's log, and none exactly where it has no more.
 pub record IsBatch (from : ℕ) (batch leader : List (List ℕ)) : Type 0 where
   pub behind : Begins batch (drop from leader)
   pub none : (batch ≡ []) ↔ (length leader ≤ from)
@@ -35,7 +35,7 @@ pub record AreFirst (records : List Rec) (texts : List (List ℕ)) : Type 0 wher
 abbrev pub Follows : List Rec → List (List ℕ) → Type 0
 Follows log leader = AreFirst log leader
 
--- It is the whole of it.
+-- a log is the whole of the leader's, whose texts spell its records
 abbrev pub IsAllOf : List Rec → List (List ℕ) → Type 0
 IsAllOf log leader = records_of record_in leader ≡ Some log
 

@@ -48,7 +48,7 @@ module _ {D : Type 0} where
     pub first : AreFirst some batch
     pub has : image_log old image ≡ Ok (old.log ++ some)
 
-  -- it has the log of before, or that log with its doubtful record, or with some first records of the batch
+  -- an image has the log of before, or that log with its doubtful record, or with some first records of the batch
   abbrev pub MayHaveSome : State D → List (List ℕ) → List ℕ → Type 0
   MayHaveSome old batch image = StandsForLog (image_log old) old.log old.further image ⊎ HasSome old batch image
 

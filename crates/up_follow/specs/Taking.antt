@@ -12,11 +12,11 @@ use Rattle.up_log_tree.specs.Fits.{fits}
 use Rattle.up_log_tree.specs.Sizes.{size_of, sizes_of}
 use Rattle.up_tree.specs.States.{Applies, State, record_in}
 
--- the record, where it fits behind a log
+-- the record, where it fits after a log
 abbrev pub if_fits : UserName → List Rec → Rec → Option Rec
 if_fits owner log rec = if fits owner log rec then Some rec else None
 
--- the record that a text spells and that fits behind a log, if there is one
+-- the record that a text spells and that fits after a log, if there is one
 abbrev pub fitting_in : UserName → List Rec → List ℕ → Option Rec
 fitting_in owner log text = option_and_then (if_fits owner log) (record_in text)
 
@@ -38,7 +38,8 @@ module _ {D : Type 0} (disks : Ghosts D) where
   -- what came of a record that fits
   abbrev pub TakesRecord : Rec → State D → State D → Result (Unit {0}) FollowWhy → Type 0
   TakesRecord rec old new (Ok done) = IsAdded rec old new
-  TakesRecord rec old new (Err (why.Full records)) = (new ≡ old) × (passes_limits old.limits old.log rec ≡ true) × (records ≡ length old.log)
+  TakesRecord rec old new (Err (why.Full records)) =
+      (new ≡ old) × (passes_limits old.limits old.log rec ≡ true) × (records ≡ length old.log)
   TakesRecord rec old new (Err why.Io) = IsHindered rec old new
   TakesRecord rec old new (Err why.OutOfMemory) = new ≡ old
   TakesRecord rec old new (Err (why.Strange position)) = ⊥
@@ -53,7 +54,8 @@ module _ {D : Type 0} (disks : Ghosts D) where
 
   -- what came of a text
   abbrev pub TakesText : List ℕ → State D → State D → Result (Unit {0}) FollowWhy → Type 0
-  TakesText text old new (Err (why.Strange position)) = (new ≡ old) × (fitting_in old.owner old.log text ≡ None) × (position ≡ length old.log + 1)
+  TakesText text old new (Err (why.Strange position)) =
+      (new ≡ old) × (fitting_in old.owner old.log text ≡ None) × (position ≡ length old.log + 1)
   TakesText text old new (Err why.OutOfMemory) = new ≡ old
   TakesText text old new (Ok done) = TakesFitting text old new (Ok done)
   TakesText text old new (Err (why.Full records)) = TakesFitting text old new (Err (why.Full records))

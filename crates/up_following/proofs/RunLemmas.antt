@@ -17,7 +17,7 @@ use Rattle.up_lists.specs.Runs.{Run}
 use Rattle.up_names.specs.Texts.{Text}
 use Rattle.up_following.proofs.StayLemmas.{line_stays, stays_same, stays_then}
 use Rattle.up_following.specs.FollowRuns.{Ends, Followed, LineDoes, Stays, code_by, is_cut, printed, stop_code, stop_text}
-use Rattle.up_following.specs.FollowTurns.{Came, Did, LineCame, Turned, World, said}
+use Rattle.up_following.specs.FollowTurns.{LineResult, LineDid, LineCame, LineGathered, World, did_text}
 use Rattle.up_following.specs.declared.stop.LineStop.{LineStop}
 use Rattle.up_following.specs.declared.stop.LineStop.TheVariants as stop
 
@@ -33,7 +33,7 @@ module _ {D F : Type 0} (disks : disk.Ghosts D) (feeds : feed.Ghosts F) where
   pub record Running (old now : Option Text) (gathered : Text) (a b : World D F) (lines left : List Text) (number : ℕ) : Type 0 where
     pub done : List Text
     pub cut : done ++ left ≡ lines
-    pub dids : List Did
+    pub dids : List LineDid
     pub run : Run (LineDoes disks feeds) a done dids b
     pub text : Going old now gathered (printed dids)
     pub count : number ≡ length done + 1
@@ -50,8 +50,8 @@ module _ {D F : Type 0} (disks : disk.Ghosts D) (feeds : feed.Ghosts F) where
     stays = stays_same disks feeds a;
   }
 
-  printed-more : (dids : List Did) (did : Did) → printed (dids ++ did ∷ []) ≡ printed dids ++ said did
-  printed-more dids did = flat_map-append said dids (did ∷ []) ∙ ap (λ xs. printed dids ++ xs) (append-nil (said did))
+  printed-more : (dids : List LineDid) (did : LineDid) → printed (dids ++ did ∷ []) ≡ printed dids ++ did_text did
+  printed-more dids did = flat_map-append did_text dids (did ∷ []) ∙ ap (λ xs. printed dids ++ xs) (append-nil (did_text did))
 
   -- what was gathered, and a text behind it, are a part of the whole; this much of them is gathered still
   going-more : (old mid now : Option Text) (gathered kept text all : Text) → Going old mid gathered all → Going mid now kept (gathered ++ text) → Going old now kept (all ++ text)
@@ -71,14 +71,14 @@ module _ {D F : Type 0} (disks : disk.Ghosts D) (feeds : feed.Ghosts F) where
       Going-all (going-more old mid now gathered [] text all before done)
 
   -- a line was done
-  Running-more : (old mid now : Option Text) (gathered kept : Text) (a b c : World D F) (lines : List Text) (line : Text) (more : List Text) (number : ℕ) (did : Did)
-      → Running old mid gathered a b lines (line ∷ more) number → LineCame disks feeds b line (Ok did) c → Going mid now kept (gathered ++ said did) → Running old now kept a c lines more (number + 1)
+  Running-more : (old mid now : Option Text) (gathered kept : Text) (a b c : World D F) (lines : List Text) (line : Text) (more : List Text) (number : ℕ) (did : LineDid)
+      → Running old mid gathered a b lines (line ∷ more) number → LineCame disks feeds b line (Ok did) c → Going mid now kept (gathered ++ did_text did) → Running old now kept a c lines more (number + 1)
   Running-more old mid now gathered kept a b c lines line more number did h came text = record {
     done = h.done ++ line ∷ [];
     cut = append_assoc h.done (line ∷ []) more ∙ h.cut;
     dids = h.dids ++ did ∷ [];
     run = Run-snoc (LineDoes disks feeds) a b c h.done line h.dids did h.run came;
-    text = subst (λ xs. Going old now kept xs) (sym (printed-more h.dids did)) (going-more old mid now gathered kept (said did) (printed h.dids) h.text text);
+    text = subst (λ xs. Going old now kept xs) (sym (printed-more h.dids did)) (going-more old mid now gathered kept (did_text did) (printed h.dids) h.text text);
     count = let k : length (h.done ++ line ∷ []) ≡ length h.done + 1 = length-append h.done (line ∷ []) in omega (arith, h.count, k);
     stays = stays_then disks feeds a b c h.stays (line_stays disks feeds b c line (Ok did) came);
   }
@@ -148,7 +148,7 @@ module _ {D F : Type 0} (disks : disk.Ghosts D) (feeds : feed.Ghosts F) where
 
   -- a line was done, and perhaps all that is gathered was written
   pub Running-turned : (old mid now : Option Text) (gathered next kept : Text) (a b c : World D F) (lines : List Text) (line : Text) (more : List Text) (number : ℕ) (result : Result (Unit {0}) LineStop)
-      → Running old mid gathered a b lines (line ∷ more) number → Turned (λ came. LineCame disks feeds b line came c) gathered result next → result ≡ Ok tt → Going mid now kept next → Running old now kept a c lines more (number + 1)
+      → Running old mid gathered a b lines (line ∷ more) number → LineGathered (λ came. LineCame disks feeds b line came c) gathered result next → result ≡ Ok tt → Going mid now kept next → Running old now kept a c lines more (number + 1)
   Running-turned old mid now gathered next kept a b c lines line more number (Ok done) h turned is text =
       Running-more old mid now gathered kept a b c lines line more number turned.0 h turned.1.0 (subst (λ xs. Going mid now kept xs) turned.1.1 text)
   Running-turned old mid now gathered next kept a b c lines line more number (Err why) h turned is text = absurd (cc)
@@ -166,7 +166,7 @@ module _ {D F : Type 0} (disks : disk.Ghosts D) (feeds : feed.Ghosts F) where
 
   -- what a line printed is gathered, and could not be written
   pub Followed-unwritten : (old mid now : Option Text) (gathered next : Text) (a b c : World D F) (lines : List Text) (line : Text) (more : List Text) (number : ℕ) (result : Result (Unit {0}) LineStop) (why : Stop) (ended : Result Status Stop)
-      → Running old mid gathered a b lines (line ∷ more) number → Turned (λ came. LineCame disks feeds b line came c) gathered result next → result ≡ Ok tt → ended ≡ Err why → WritesPart mid now next → Followed disks feeds old now a lines (code_by ended) c
+      → Running old mid gathered a b lines (line ∷ more) number → LineGathered (λ came. LineCame disks feeds b line came c) gathered result next → result ≡ Ok tt → ended ≡ Err why → WritesPart mid now next → Followed disks feeds old now a lines (code_by ended) c
   Followed-unwritten old mid now gathered next a b c lines line more number result why ended h turned done is part =
       Followed-fault old mid now next a c lines more (number + 1) why ended is (Running-turned old mid mid gathered next next a b c lines line more number result h turned done (Going-none mid next)) (subst (WritesPart mid now) (sym (append-nil next)) part)
 
@@ -180,7 +180,7 @@ module _ {D F : Type 0} (disks : disk.Ghosts D) (feeds : feed.Ghosts F) where
 
   -- a line was not done, or there was no memory for its text
   pub Followed-turned : (old mid now : Option Text) (gathered next : Text) (a b c : World D F) (lines : List Text) (line : Text) (more : List Text) (number : ℕ) (why : LineStop) (ended : Result Status Stop)
-      → Running old mid gathered a b lines (line ∷ more) number → Turned (λ came. LineCame disks feeds b line came c) gathered (Err why) next
+      → Running old mid gathered a b lines (line ∷ more) number → LineGathered (λ came. LineCame disks feeds b line came c) gathered (Err why) next
       → IfOk ended (λ status. code_of status ≡ stop_code why) → OnOk ended (Appends mid now (next ++ stop_text number why)) → WritesPart mid now (next ++ stop_text number why) → (why ≡ stop.OutOfMemory → now ≡ mid) → (why ≡ stop.OutOfMemory → ended ≡ Err out.OutOfMemory)
       → Followed disks feeds old now a lines (code_by ended) c
   Followed-turned old mid now gathered next a b c lines line more number stop.Malformed ended h turned code whole part same kind =
@@ -193,7 +193,7 @@ module _ {D F : Type 0} (disks : disk.Ghosts D) (feeds : feed.Ghosts F) where
       (λ uncut. absurd (let e : is_cut (code_by ended) ≡ true = ap (λ r. is_cut (code_by r)) (kind refl) in let k : true ≡ false = sym e ∙ uncut in cc))
       (subst (λ to. WritesPart mid to (gathered ++ [])) (sym (same refl)) (WritesPart-none mid (gathered ++ [])))
   Followed-turned old mid now gathered next a b c lines line more number stop.OutOfMemory ended h (inr made) code whole part same kind =
-      let go : Going mid mid (gathered ++ said made.0) (gathered ++ said made.0) = Going-none mid (gathered ++ said made.0) in
-      let after = Running-more old mid mid gathered (gathered ++ said made.0) a b c lines line more number made.0 h made.1 go in
-      Followed-cut old mid now (gathered ++ said made.0) a c lines more (number + 1) (code_by ended) after (ap (λ r. is_cut (code_by r)) (kind refl))
-      (subst (λ to. WritesPart mid to ((gathered ++ said made.0) ++ [])) (sym (same refl)) (WritesPart-none mid ((gathered ++ said made.0) ++ [])))
+      let go : Going mid mid (gathered ++ did_text made.0) (gathered ++ did_text made.0) = Going-none mid (gathered ++ did_text made.0) in
+      let after = Running-more old mid mid gathered (gathered ++ did_text made.0) a b c lines line more number made.0 h made.1 go in
+      Followed-cut old mid now (gathered ++ did_text made.0) a c lines more (number + 1) (code_by ended) after (ap (λ r. is_cut (code_by r)) (kind refl))
+      (subst (λ to. WritesPart mid to ((gathered ++ did_text made.0) ++ [])) (sym (same refl)) (WritesPart-none mid ((gathered ++ did_text made.0) ++ [])))

@@ -9,7 +9,7 @@ use Rattle.up_follow.specs.declared.feed.Feed as feed
 use Rattle.up_lists.proofs.BeginsLemmas.{Begins-self, Begins-trans}
 use Rattle.up_tree.specs.States.{State, entries_of, fixed_of}
 use Rattle.up_following.specs.FollowRuns.{Stays}
-use Rattle.up_following.specs.FollowTurns.{Came, LineCame, PullCame, SaysCame, World}
+use Rattle.up_following.specs.FollowTurns.{LineResult, LineCame, PullCame, SaysCame, World}
 use Rattle.up_following.specs.declared.line.FollowLine.{FollowLine}
 use Rattle.up_following.specs.declared.line.FollowLine.TheVariants as lines
 
@@ -54,7 +54,7 @@ module _ {D F : Type 0} (disks : disk.Ghosts D) (feeds : feed.Ghosts F) where
     follows = follows_then a.state.log b.state.log c.state.log (feeds.leader a.feed) (feeds.leader b.feed) (feeds.leader c.feed) one.feed_grows one.follows two.follows;
   }
 
-  pulled : (a b : World D F) (came : Came) → PullCame disks feeds a came b → Stays disks feeds a b
+  pulled : (a b : World D F) (came : LineResult) → PullCame disks feeds a came b → Stays disks feeds a b
   pulled a b came p = record {
     grows = p.grows;
     feed_grows = p.feed_grows;
@@ -64,13 +64,13 @@ module _ {D F : Type 0} (disks : disk.Ghosts D) (feeds : feed.Ghosts F) where
   same_stays : (a b : World D F) → b ≡ a → Stays disks feeds a b
   same_stays a b same = subst (λ (w : World D F). Stays disks feeds a w) (sym same) (stays_same a)
 
-  says_stays : (a b : World D F) (what : FollowLine) (came : Came) → SaysCame disks feeds a what came b → Stays disks feeds a b
+  says_stays : (a b : World D F) (what : FollowLine) (came : LineResult) → SaysCame disks feeds a what came b → Stays disks feeds a b
   says_stays a b lines.Silent came says = same_stays a b says.1
   says_stays a b lines.Pull came says = pulled a b came says
   says_stays a b (lines.Ask user request) came says = same_stays a b says.1
 
   -- whatever came of a line
-  pub line_stays : (a b : World D F) (line : List ℕ) (came : Came) → LineCame disks feeds a line came b → Stays disks feeds a b
+  pub line_stays : (a b : World D F) (line : List ℕ) (came : LineResult) → LineCame disks feeds a line came b → Stays disks feeds a b
   line_stays a b line came (LineCame.malformed none) = stays_same a
   line_stays a b line came (LineCame.says {what} is says) = says_stays a b what came says
   line_stays a b line came LineCame.unread = stays_same a

@@ -4,39 +4,39 @@ use Rattle.std.specs.Result.{IsErrAnd}
 use Rattle.up_names.specs.Texts.{Text}
 use Rattle.up_wire.specs.declared.replies.Reply.{Reply}
 use Rattle.up_wire.specs.declared.replies.Reply.TheVariants as reply
-use Rattle.up_following.specs.FollowTurns.{Came, Did, Turned, reply_said, said}
+use Rattle.up_following.specs.FollowTurns.{LineResult, LineDid, LineGathered, result_of_reply, did_text}
 use Rattle.up_following.specs.declared.stop.LineStop.{LineStop}
 use Rattle.up_following.specs.declared.stop.LineStop.TheVariants as stop
 
 -- there was no memory to do it
-pub unmade : (came : Came → Type 0) (old new : Text) (result : Result (Unit {0}) LineStop) → came (Err stop.OutOfMemory) → IsErrAnd result (λ why. why ≡ stop.OutOfMemory) → Turned came old result new
+pub unmade : (came : LineResult → Type 0) (old new : Text) (result : Result (Unit {0}) LineStop) → came (Err stop.OutOfMemory) → IsErrAnd result (λ why. why ≡ stop.OutOfMemory) → LineGathered came old result new
 unmade came old new (Ok done) made is = absurd is
 unmade came old new (Err stop.OutOfMemory) made is = inl made
 unmade came old new (Err stop.Malformed) made is = absurd (cc)
 
 -- or none for the text of what it did
-pub unsaid : (came : Came → Type 0) (did : Did) (old new : Text) (result : Result (Unit {0}) LineStop) → came (Ok did) → IsErrAnd result (λ why. why ≡ stop.OutOfMemory) → Turned came old result new
+pub unsaid : (came : LineResult → Type 0) (did : LineDid) (old new : Text) (result : Result (Unit {0}) LineStop) → came (Ok did) → IsErrAnd result (λ why. why ≡ stop.OutOfMemory) → LineGathered came old result new
 unsaid came did old new (Ok done) made is = absurd is
 unsaid came did old new (Err stop.OutOfMemory) made is = inr (did, made)
 unsaid came did old new (Err stop.Malformed) made is = absurd (cc)
 
 -- what is said of a part is said of the whole
-pub weaker : (one two : Came → Type 0) (old new : Text) (result : Result (Unit {0}) LineStop) → ((came : Came) → one came → two came) → Turned one old result new → Turned two old result new
+pub weaker : (one two : LineResult → Type 0) (old new : Text) (result : Result (Unit {0}) LineStop) → ((came : LineResult) → one came → two came) → LineGathered one old result new → LineGathered two old result new
 weaker one two old new (Ok done) each turned = (turned.0, (each (Ok turned.0) turned.1.0, turned.1.1))
 weaker one two old new (Err stop.OutOfMemory) each (inl came) = inl (each (Err stop.OutOfMemory) came)
 weaker one two old new (Err stop.OutOfMemory) each (inr made) = inr (made.0, each (Ok made.0) made.1)
 weaker one two old new (Err stop.Malformed) each turned = (each (Err stop.Malformed) turned.0, turned.1)
 
 -- nothing was done, and nothing is printed
-pub silent : (came : Came → Type 0) (text : Text) → came (Ok Did.Nothing) → Turned came text (Ok tt) text
-silent came text is = (Did.Nothing, (is, sym (append-nil text)))
+pub silent : (came : LineResult → Type 0) (text : Text) → came (Ok LineDid.Nothing) → LineGathered came text (Ok tt) text
+silent came text is = (LineDid.Nothing, (is, sym (append-nil text)))
 
 -- something was done and said
-pub says : (came : Came) (did : Did) (old new : Text) → came ≡ Ok did → new ≡ old ++ said did → (x : Did) × ((Ok x ≡ came) × (new ≡ old ++ said x))
+pub says : (came : LineResult) (did : LineDid) (old new : Text) → came ≡ Ok did → new ≡ old ++ did_text did → (x : LineDid) × ((Ok x ≡ came) × (new ≡ old ++ did_text x))
 says came did old new is text = (did, (sym is, text))
 
 -- what is said of a reply that is not want of memory
-pub replied_so : (given : Reply) → (given ≡ reply.OutOfMemory → ⊥) → reply_said given ≡ Ok (Did.Replied given)
+pub replied_so : (given : Reply) → (given ≡ reply.OutOfMemory → ⊥) → result_of_reply given ≡ Ok (LineDid.Replied given)
 replied_so reply.OutOfMemory not = absurd (not refl)
 replied_so (reply.Ok what) not = refl
 replied_so (reply.Invalid what) not = refl

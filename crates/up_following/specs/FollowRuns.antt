@@ -15,13 +15,13 @@ use Rattle.up_follow.specs.declared.feed.Feed as feed
 use Rattle.up_lists.specs.Runs.{Run}
 use Rattle.up_names.specs.Texts.{Text}
 use Rattle.up_tree.specs.States.{State, entries_of, fixed_of}
-use Rattle.up_following.specs.FollowTurns.{Did, LineCame, World, said}
+use Rattle.up_following.specs.FollowTurns.{LineDid, LineCame, World, did_text}
 use Rattle.up_following.specs.declared.stop.LineStop.{LineStop}
 use Rattle.up_following.specs.declared.stop.LineStop.TheVariants as stop
 
 -- what is printed of all that lines did, in order
-abbrev pub printed : List Did → Text
-printed dids = flat_map said dids
+abbrev pub printed : List LineDid → Text
+printed dids = flat_map did_text dids
 
 -- the status of a run that ends at a line that was not done
 abbrev pub stop_code : LineStop → ℕ
@@ -45,7 +45,7 @@ code_by (Err out.OutOfMemory) = 4
 
 module _ {D F : Type 0} (disks : disk.Ghosts D) (feeds : feed.Ghosts F) where
   -- a line did something, and did not end the run
-  abbrev pub LineDoes : World D F → Text → Did → World D F → Type 0
+  abbrev pub LineDoes : World D F → Text → LineDid → World D F → Type 0
   LineDoes a line did b = LineCame disks feeds a line (Ok did) b
 
   -- What lines leave: what stood in the log stands there, and so does what stood in the leader's, where it is told; and a log that
@@ -69,7 +69,7 @@ module _ {D F : Type 0} (disks : disk.Ghosts D) (feeds : feed.Ghosts F) where
     pub done : List Text
     pub left : List Text
     pub cut : done ++ left ≡ lines
-    pub dids : List Did
+    pub dids : List LineDid
     pub last : World D F
     pub run : Run LineDoes a done dids last
     pub tail : Text

@@ -28,49 +28,49 @@ use Rattle.up_following.specs.declared.stop.LineStop.TheVariants as stop
 -- ---- what a line did, and the text that it prints
 
 -- what a line did: of a pull, how many records it took or why it took none; of a request, its reply, or that it does not only look
-pub data Did : Type 0 where
-  Nothing : Did
-  Pulled : ℕ → Did
-  FeedFailed : Did
-  Strange : ℕ → Did
-  Full : ℕ → Did
-  DiskFailed : Did
-  ReadOnly : Did
-  Replied : Reply → Did
+pub data LineDid : Type 0 where
+  Nothing : LineDid
+  Pulled : ℕ → LineDid
+  FeedFailed : LineDid
+  Strange : ℕ → LineDid
+  Full : ℕ → LineDid
+  DiskFailed : LineDid
+  ReadOnly : LineDid
+  Replied : Reply → LineDid
 
 -- the text that is printed of what a line did
-abbrev pub said : Did → Text
-said Did.Nothing = []
-said (Did.Pulled count) = ended (codes "pulled " ++ decimal count)
-said Did.FeedFailed = ended (codes "failed")
-said (Did.Strange position) = ended (codes "strange " ++ decimal position)
-said (Did.Full records) = ended (codes "full " ++ decimal records)
-said Did.DiskFailed = ended (codes "io")
-said Did.ReadOnly = ended (codes "readonly")
-said (Did.Replied given) = flat_map ended (reply_lines given)
+abbrev pub did_text : LineDid → Text
+did_text LineDid.Nothing = []
+did_text (LineDid.Pulled count) = ended (codes "pulled " ++ decimal count)
+did_text LineDid.FeedFailed = ended (codes "failed")
+did_text (LineDid.Strange position) = ended (codes "strange " ++ decimal position)
+did_text (LineDid.Full records) = ended (codes "full " ++ decimal records)
+did_text LineDid.DiskFailed = ended (codes "io")
+did_text LineDid.ReadOnly = ended (codes "readonly")
+did_text (LineDid.Replied given) = flat_map ended (reply_lines given)
 
 -- what came of a line: what it did, or why it was not done
-abbrev pub Came : Type 0
-Came = Result Did LineStop
+abbrev pub LineResult : Type 0
+LineResult = Result LineDid LineStop
 
--- what is said of a pull; want of memory ends the run
-abbrev pub pull_said : Result ℕ FollowWhy → Came
-pull_said (Ok count) = Ok (Did.Pulled count)
-pull_said (Err why.Failed) = Ok Did.FeedFailed
-pull_said (Err (why.Strange position)) = Ok (Did.Strange position)
-pull_said (Err (why.Full records)) = Ok (Did.Full records)
-pull_said (Err why.Io) = Ok Did.DiskFailed
-pull_said (Err why.OutOfMemory) = Err stop.OutOfMemory
+-- the result of a line that pulls; want of memory ends the run
+abbrev pub result_of_pull : Result ℕ FollowWhy → LineResult
+result_of_pull (Ok count) = Ok (LineDid.Pulled count)
+result_of_pull (Err why.Failed) = Ok LineDid.FeedFailed
+result_of_pull (Err (why.Strange position)) = Ok (LineDid.Strange position)
+result_of_pull (Err (why.Full records)) = Ok (LineDid.Full records)
+result_of_pull (Err why.Io) = Ok LineDid.DiskFailed
+result_of_pull (Err why.OutOfMemory) = Err stop.OutOfMemory
 
--- what is said of a reply; want of memory ends the run
-abbrev pub reply_said : Reply → Came
-reply_said reply.OutOfMemory = Err stop.OutOfMemory
-reply_said given = Ok (Did.Replied given)
+-- the result of a line that got a reply; want of memory ends the run
+abbrev pub result_of_reply : Reply → LineResult
+result_of_reply reply.OutOfMemory = Err stop.OutOfMemory
+result_of_reply given = Ok (LineDid.Replied given)
 
--- what is said of an answer, which is none where the request does not only look
-abbrev pub answer_said : Option Reply → Came
-answer_said None = Ok Did.ReadOnly
-answer_said (Some given) = reply_said given
+-- the result of a line that asks, which gets no answer where the request does not only look
+abbrev pub result_of_answer : Option Reply → LineResult
+result_of_answer None = Ok LineDid.ReadOnly
+result_of_answer (Some given) = result_of_reply given
 
 -- ---- where it happens
 
@@ -86,42 +86,43 @@ world state feed = record { state = state; feed = feed }
 module _ {D : Type 0} where
   -- A user asks: the reply is the answer over the follower's log with nothing loaded, or want of memory, exactly where the request only
   -- looks.
-  pub record AskCame (user : UserName) (request : Request) (state : State D) (came : Came) : Type 0 where
+  pub record AskCame (user : UserName) (request : Request) (state : State D) (came : LineResult) : Type 0 where
     pub given : Option Reply
     pub answers : is_some given ≡ is_read request
-    pub told : IfSome given (IsTold (answer (log_of state) [] [] user request 0))
-    pub came_is : came ≡ answer_said given
+    pub reply_is : IfSome given (IsTold (answer (log_of state) [] [] user request 0))
+    pub came_is : came ≡ result_of_answer given
 
 module _ {D F : Type 0} (disks : disk.Ghosts D) (feeds : feed.Ghosts F) where
   -- A batch is pulled. The feed failed, or the disk, only where its count rose; the log only grows, and so does the leader's.
-  pub record PullCame (a : World D F) (came : Came) (b : World D F) : Type 0 where
+  pub record PullCame (a : World D F) (came : LineResult) (b : World D F) : Type 0 where
     pub result : Result ℕ FollowWhy
     pub pulls : Pulls disks (feeds.leader b.feed) a.state b.state result
     pub disk_cause : HasCause (disks.faults a.state.disk) (disks.faults b.state.disk) (result ≡ Err why.Io)
     pub feed_cause : HasCause (feeds.faults a.feed) (feeds.faults b.feed) (result ≡ Err why.Failed)
     pub grows : OnlyGrows entries_of (λ (state : State D). disks.faults state.disk) fixed_of a.state b.state
     pub feed_grows : OnlyLonger (feeds.leader a.feed) (feeds.leader b.feed)
-    pub came_is : came ≡ pull_said result
+    pub came_is : came ≡ result_of_pull result
 
   -- ---- a line
 
   -- what came of what a line says
-  abbrev pub SaysCame : World D F → FollowLine → Came → World D F → Type 0
-  SaysCame a lines.Silent came b = (came ≡ Ok Did.Nothing) × (b ≡ a)
+  abbrev pub SaysCame : World D F → FollowLine → LineResult → World D F → Type 0
+  SaysCame a lines.Silent came b = (came ≡ Ok LineDid.Nothing) × (b ≡ a)
   SaysCame a lines.Pull came b = PullCame a came b
   SaysCame a (lines.Ask user request) came b = AskCame user request a.state came × (b ≡ a)
 
   -- What came of a line: it is malformed; or it says something, of which this came; or there was no memory to read it.
-  pub data LineCame (a : World D F) (line : Text) : Came → World D F → Type 0 where
+  pub data LineCame (a : World D F) (line : Text) : LineResult → World D F → Type 0 where
     malformed : line_of line ≡ None → LineCame a line (Err stop.Malformed) a
-    says : {what : FollowLine} {came : Came} {b : World D F} → line_of line ≡ Some what → SaysCame a what came b → LineCame a line came b
+    says : {what : FollowLine} {came : LineResult} {b : World D F}
+        → line_of line ≡ Some what → SaysCame a what came b → LineCame a line came b
     unread : LineCame a line (Err stop.OutOfMemory) a
 
 -- ---- what comes of a call
 
 -- A call did something, and its text stands behind what was gathered; or it stopped, and gathered nothing; or there was no memory, also
 -- for the text of what it did.
-abbrev pub Turned : (Came → Type 0) → Text → Result (Unit {0}) LineStop → Text → Type 0
-Turned came old (Ok done) new = (did : Did) × (came (Ok did) × (new ≡ old ++ said did))
-Turned came old (Err stop.OutOfMemory) new = came (Err stop.OutOfMemory) ⊎ ((did : Did) × came (Ok did))
-Turned came old (Err stop.Malformed) new = came (Err stop.Malformed) × (new ≡ old)
+abbrev pub LineGathered : (LineResult → Type 0) → Text → Result (Unit {0}) LineStop → Text → Type 0
+LineGathered came old (Ok done) new = (did : LineDid) × (came (Ok did) × (new ≡ old ++ did_text did))
+LineGathered came old (Err stop.OutOfMemory) new = came (Err stop.OutOfMemory) ⊎ ((did : LineDid) × came (Ok did))
+LineGathered came old (Err stop.Malformed) new = came (Err stop.Malformed) × (new ≡ old)

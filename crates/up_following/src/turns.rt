@@ -3,7 +3,7 @@ ghost use Rattle.std.specs.Prelude.{◌≡◌, ◌++◌, OnOk};
 ghost use Rattle.std.specs.List.{flat_map};
 ghost use Rattle.up_command.specs.Printed.{ended};
 ghost use Rattle.up_follow.specs.declared.feed.Feed as feeds;
-ghost use Rattle.up_following.specs.FollowTurns.{AskCame, LineCame, PullCame, SaysCame, Turned, pull_said, reply_said, world};
+ghost use Rattle.up_following.specs.FollowTurns.{AskCame, LineCame, PullCame, SaysCame, LineGathered, result_of_pull, result_of_reply, world};
 ghost use Rattle.up_text.specs.Replies.{reply_lines};
 
 use crate::line::{FollowLine, follow_line};
@@ -25,7 +25,7 @@ pub(crate) fn run_line<D: Disk, F: Feed>(
     line: &[u8],
     out: &mut Vec<u8>,
 ) -> Result<(), LineStop>
-    ensures came { Turned (λ came. LineCame D.Disk F.Feed (world follower.old feed.old) line.now came
+    ensures came { LineGathered (λ came. LineCame D.Disk F.Feed (world follower.old feed.old) line.now came
         (world follower.new feed.new)) out.old.items result out.new.items }
     ensures tie { F.tied feed.old feed.new }
 {
@@ -43,7 +43,7 @@ fn do_line<D: Disk, F: Feed>(
     says: FollowLine,
     out: &mut Vec<u8>,
 ) -> Result<(), LineStop>
-    ensures came { Turned (λ came. SaysCame D.Disk F.Feed (world follower.old feed.old) says came
+    ensures came { LineGathered (λ came. SaysCame D.Disk F.Feed (world follower.old feed.old) says came
         (world follower.new feed.new)) out.old.items result out.new.items }
     ensures tie { F.tied feed.old feed.new }
 {
@@ -66,17 +66,17 @@ fn pull<D: Disk, F: Feed>(
     feed: &mut F,
     out: &mut Vec<u8>,
 ) -> Result<(), LineStop>
-    ensures came { Turned (λ came. PullCame D.Disk F.Feed (world follower.old feed.old) came
+    ensures came { LineGathered (λ came. PullCame D.Disk F.Feed (world follower.old feed.old) came
         (world follower.new feed.new)) out.old.items result out.new.items }
     ensures tie { F.tied feed.old feed.new }
 {
     let pulled = follower.pull(alloc, feed);
-    say_pulled(out, pulled)
+    say_pull_result(out, pulled)
 }
 
 // What came of a pull.
-fn say_pulled(out: &mut Vec<u8>, pulled: Result<u64, FollowWhy>) -> Result<(), LineStop>
-    ensures { Turned (λ came. came ≡ pull_said pulled) out.old.items result out.new.items }
+fn say_pull_result(out: &mut Vec<u8>, pulled: Result<u64, FollowWhy>) -> Result<(), LineStop>
+    ensures { LineGathered (λ came. came ≡ result_of_pull pulled) out.old.items result out.new.items }
 {
     match pulled {
         Ok(count) => Ok(say_count(out, b"pulled ", count)?),
@@ -96,13 +96,13 @@ fn ask<D: Disk>(
     request: &Request,
     out: &mut Vec<u8>,
 ) -> Result<(), LineStop>
-    ensures came { Turned (λ came. AskCame user.now request.now follower.old came)
+    ensures came { LineGathered (λ came. AskCame user.now request.now follower.old came)
         out.old.items result out.new.items }
     ensures unchanged { follower.new ≡ follower.old }
 {
     match follower.answer(alloc, user, request) {
         Some(reply) => {
-            let said = say_replied(alloc, out, &reply);
+            let said = say_reply_result(alloc, out, &reply);
             drop(reply);
             said
         }
@@ -111,8 +111,8 @@ fn ask<D: Disk>(
 }
 
 // What is said of a reply.
-fn say_replied(alloc: Global, out: &mut Vec<u8>, reply: &Reply) -> Result<(), LineStop>
-    ensures { Turned (λ came. came ≡ reply_said reply.now) out.old.items result out.new.items }
+fn say_reply_result(alloc: Global, out: &mut Vec<u8>, reply: &Reply) -> Result<(), LineStop>
+    ensures { LineGathered (λ came. came ≡ result_of_reply reply.now) out.old.items result out.new.items }
 {
     if let Reply::OutOfMemory = reply {
         return Err(LineStop::OutOfMemory);

@@ -16,6 +16,7 @@ use Rattle.up_mem_tree.specs.MemTrees.{TreeLog}
 abbrev pub needed_in : UserName → Loading → Place → List PathName
 needed_in owner loaded place = needed (facts_of owner place.0) (group_paths place.0) loaded place.1
 
+-- a path, in this tree
 abbrev pub in_tree : Tree → PathName → Place
 in_tree tree path = (tree, path)
 

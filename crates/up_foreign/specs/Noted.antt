@@ -17,6 +17,7 @@ abbrev pub HasNeeded : UserName → Loading → Tree → PathName → List PathN
 HasNeeded owner loaded tree dir names = (rules : List Rule) → (facts_of owner tree).access dir ≡ Some rules → (group : PathName) →
     Contains (needed_by (facts_of owner tree) (group_paths tree) loaded rules) group → Contains names group
 
--- the same for the text of each directory that was looked at, as it was then
+-- of the text of each directory that was looked at, as it was then, the needed groups are among the names
 pub record AreNoted (tree : TreeLog) (loaded : Loading) (noted : Noted) (names : List PathName) : Type 0 where
-  pub each : (dir : PathName) (at : ℕ) → find path_cmp dir noted.dirs.entries ≡ Some at → HasNeeded tree.owner loaded (tree_at tree.log at) dir names
+  pub each : (dir : PathName) (at : ℕ) → find path_cmp dir noted.dirs.entries ≡ Some at
+      → HasNeeded tree.owner loaded (tree_at tree.log at) dir names

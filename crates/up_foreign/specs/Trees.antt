@@ -2,6 +2,6 @@
 use Rattle.up_mem_tree.specs.MemTrees.{TreeLog}
 use Rattle.up_log_tree.specs.Logs.{Limits, Log}
 
--- its log, with limits that it does not keep
+-- the log of a tree in memory, with limits that the tree does not keep
 abbrev pub log_over : Limits → TreeLog → Log
 log_over limits tree = record { owner = tree.owner; limits = limits; records = tree.log }

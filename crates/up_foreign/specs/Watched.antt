@@ -1,4 +1,4 @@
--- What a Watch looks at behind its path, by its sequence.
+-- What a Watch looks at after its path, by its sequence.
 use Rattle.std.specs.Prelude.{zero, suc, ℤ, pos, negsuc}
 use Rattle.up_foreign.specs.declared.needed.Watched.{Watched}
 use Rattle.up_foreign.specs.declared.needed.Watched.TheVariants.{Above, Items, Nothing}

@@ -19,13 +19,13 @@ IsFront limit bytes (Whole n) = IsWhole limit bytes n
 IsFront limit bytes Partial = IsPartial limit bytes
 IsFront limit bytes Bad = IsBad limit bytes
 
--- the first n bytes are the whole frames, and behind them is a bad one, or less than a whole one
+-- the first n bytes are the whole frames, and after them is a bad one, or less than a whole one
 pub record Cuts (limit : ℕ) (bytes : List ℕ) (payloads : List (List ℕ)) (n : ℕ) : Type 0 where
   pub whole : bytes ≡ frames payloads ++ drop n bytes
   pub each : AllByRecursion (IsPayload limit) payloads
   pub before : n ≡ length (frames payloads)
   pub within : n ≤ length bytes
 
--- what is behind them
+-- what is after them
 abbrev pub IsBehind : ℕ → Bool → List ℕ → Type 0
 IsBehind limit is_bad bytes = MatchBool is_bad (IsBad limit bytes) (IsPartial limit bytes)

@@ -3,7 +3,7 @@ use Rattle.std.specs.Prelude.{◌≡◌, ℕ, List, ◌++◌, length, Option}
 use Rattle.up_frame.specs.Stream.{Reads}
 
 -- the limit of a payload, how many bytes were fed, the payloads of whole frames that wait to be given, the bytes
--- behind them, and the place of a bad frame
+-- after them, and the place of a bad frame
 pub record Holding : Type 0 where
   pub limit : ℕ
   pub fed : ℕ

@@ -4,6 +4,7 @@ use Rattle.std.specs.Fmt.{decimal}
 use Rattle.up_frame.specs.declared.fault.FrameFault.{FrameFault}
 use Rattle.up_frame.specs.declared.fault.FrameFault.TheVariants.{BadFrame, OutOfMemory}
 
+-- the words of each fault of a stream of frames
 abbrev pub message : FrameFault → List ℕ
 message (BadFrame place) = codes "no frame at byte " ++ decimal place
 message OutOfMemory = codes "out of memory"

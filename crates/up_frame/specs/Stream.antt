@@ -17,7 +17,7 @@ pub record IsPayload (limit : ℕ) (payload : List ℕ) : Type 0 where
 unfoldable pub told : List ℕ → ℕ
 told bytes = from_be_bytes w32 (take 4 bytes)
 
--- a good length, and fewer bytes behind it than it tells
+-- a good length, and fewer bytes after it than it tells
 pub record IsBegun (limit : ℕ) (bytes : List ℕ) : Type 0 where
   pub some : 0 < told bytes
   pub most : told bytes ≤ limit
@@ -49,7 +49,7 @@ pub record Breaks (limit : ℕ) (stream : List ℕ) (payloads : List (List ℕ))
   pub bad : IsBad limit tail
   pub before : place ≡ length (frames payloads)
 
--- How a stream reads: its whole frames, the rest behind them, and the place of a bad frame where there is one.
+-- How a stream reads: its whole frames, the rest after them, and the place of a bad frame where there is one.
 -- What stands from a bad frame on is no rest: it is dropped.
 abbrev pub Reads : ℕ → List ℕ → List (List ℕ) → List ℕ → Option ℕ → Type 0
 Reads limit stream payloads rest None = Splits limit stream payloads rest

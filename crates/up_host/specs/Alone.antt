@@ -37,15 +37,19 @@ abbrev pub positions : ℕ → ℕ → List ℕ
 positions base zero = []
 positions base (suc n) = if nat_le base n then positions base n ++ suc n ∷ [] else positions base n
 
+-- what the one caller of a host has of a log: all its records are seen, and those above the base are its own
 abbrev pub view_of : {E F : Type 0} → List E → ℕ → ℕ → F → Seen E F
 view_of log base failed fixed = record { seen = log; own = positions base (length log); failed = failed; fixed = fixed }
 
+-- what the one caller has of a tree's log
 abbrev pub tree_view : {D : Type 0} → Ghosts D → Held (State D) → SeenTree
 tree_view disks held = view_of held.state.log held.base (disks.faults held.state.disk) (fixed_of held.state)
 
+-- what the one caller has of the store's log
 abbrev pub store_view : {D : Type 0} → Ghosts D → Held (LogState D BlockRecord) → SeenStore
 store_view disks held = view_of held.state.log held.base (disks.faults held.state.disk) held.state.limits
 
+-- what the one caller has of the log of the keys
 abbrev pub keys_view : {D : Type 0} → Ghosts D → Held (LogState D KeyRecord) → SeenKeys
 keys_view disks held = view_of held.state.log held.base (disks.faults held.state.disk) held.state.limits
 
@@ -57,6 +61,7 @@ is_of owner held = bytes_eq held.state.owner owner
 abbrev pub tree_for : {D : Type 0} → List (Held (State D)) → UserName → Option (Held (State D))
 tree_for trees owner = find (is_of owner) trees
 
+-- what the one caller has of all logs of a host
 abbrev pub views : {D : Type 0} → Ghosts D → HostState D → Views
 views disks host = record {
   tree = λ owner. option_map (tree_view disks) (tree_for host.trees owner);
@@ -87,14 +92,17 @@ pub record IsAlone (a b : Views) (q : Question) (e : Event) : Type 0 where
   pub tree_grown : (owner : UserName) (v w : SeenTree) → a.tree owner ≡ Some v → b.tree owner ≡ Some w → AddsOwn v w
   pub store_grown : AddsOwn a.store b.store
   pub keys_grown : AddsOwn a.keys b.keys
-  pub rounds : (owner : UserName) (v : SeenTree) → refusal a q ≡ None → log_asked q ≡ Some (LogName.OfTree owner) → a.tree owner ≡ Some v → e.reply ≢ reply.OutOfMemory
+  pub rounds : (owner : UserName) (v : SeenTree) → refusal a q ≡ None
+      → log_asked q ≡ Some (LogName.OfTree owner) → a.tree owner ≡ Some v → e.reply ≢ reply.OutOfMemory
       → InRounds (λ so_far. needs (log_seen v) so_far q.user q.request) [] e.loaded
 
 -- what a host keeps: no base is past the end of its log, and there is room for the disk of each log
 abbrev pub IsBase : {D : Type 0} → Held (State D) → Type 0
 IsBase held = held.base ≤ length held.state.log
 
-pub record IsHost {D : Type 0} (trees : List (Held (State D))) (store : Held (LogState D BlockRecord)) (keys : Held (LogState D KeyRecord)) (spare : ℕ) : Type 0 where
+-- what a host keeps: no base is past the end of its log, and there is room for the disk of each log
+pub record IsHost {D : Type 0} (trees : List (Held (State D))) (store : Held (LogState D BlockRecord))
+    (keys : Held (LogState D KeyRecord)) (spare : ℕ) : Type 0 where
   pub trees_base : AllByRecursion IsBase trees
   pub store_base : store.base ≤ length store.state.log
   pub keys_base : keys.base ≤ length keys.state.log
@@ -103,8 +111,10 @@ pub record IsHost {D : Type 0} (trees : List (Held (State D))) (store : Held (Lo
 -- how often the disks of a host failed, together
 abbrev pub disk_faults : {D : Type 0} → Ghosts D → HostState D → ℕ
 disk_faults disks host =
-    sum_by (λ (held : Held (State _)). disks.faults held.state.disk) host.trees + (disks.faults host.store.state.disk + disks.faults host.keys.state.disk)
+    sum_by (λ (held : Held (State _)). disks.faults held.state.disk) host.trees +
+    (disks.faults host.store.state.disk + disks.faults host.keys.state.disk)
 
+-- 1 for the reply Io, and 0 for every other
 abbrev pub io_of : Reply → ℕ
 io_of reply.Io = 1
 io_of other = 0
@@ -117,7 +127,8 @@ pub record Counts (disks_before disks_after loader_before loader_after : ℕ) (e
   pub io : disks_after + loader_after < 2 ^ 64 - 1 → disks_before + loader_before + io_of e.reply ≤ disks_after + loader_after
 
 -- a record was put to the keys, and nothing else of the host changed
-pub record Enrols {D : Type 0} (disks : Ghosts D) (card : KeyRecord) (host after : HostState D) (result : std.Result ℕ AppendWhy) : Type 0 where
+pub record Enrols {D : Type 0} (disks : Ghosts D) (card : KeyRecord)
+    (host after : HostState D) (result : std.Result ℕ AppendWhy) : Type 0 where
   pub state : LogState D KeyRecord
   pub whole : after ≡ record host { keys = record { state = state; base = host.keys.base } }
   pub puts : PutsRecord disks card host.keys.state state result

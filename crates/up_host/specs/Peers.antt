@@ -39,7 +39,7 @@ abbrev pub text_by : {D : Type 0} → Option (Held (tree.State D)) → UserName 
 text_by (Some held) asker path = group_text_answer (tree.log_of held.state) asker path
 text_by None asker path = answer_elsewhere path
 
--- by a host of these trees
+-- the reply of a host of these trees to the question for a group's text
 abbrev pub group_text_by : {D : Type 0} → List (Held (tree.State D)) → UserName → PathName → Reply
 group_text_by trees asker path = text_by (tree_on trees path.owner) asker path
 
@@ -50,6 +50,7 @@ abbrev pub peer_done : Done → PeerAnswer
 peer_done (done.Text bytes) = peer.Got bytes
 peer_done other = peer.Nothing
 
+-- what a host as a peer answers for a reply: the text or the block, a failure for Io, and nothing for all else
 abbrev pub peer_answer : Reply → PeerAnswer
 peer_answer (reply.Ok what) = peer_done what
 peer_answer reply.Io = peer.Failed
@@ -64,13 +65,15 @@ IsBlockAnswer (Err why.OutOfMemory) answer = ⊥
 IsBlockAnswer (Err other) answer = answer ≡ peer.Nothing
 
 -- a block of the store was read, and nothing else of the host changed
-pub record ReadsBlock {D : Type 0} (disks : Ghosts D) (reference : List ℕ) (host after : HostState D) (result : Result (List ℕ) BlockWhy) : Type 0 where
+pub record ReadsBlock {D : Type 0} (disks : Ghosts D) (reference : List ℕ)
+    (host after : HostState D) (result : Result (List ℕ) BlockWhy) : Type 0 where
   pub store : LogState D BlockRecord
   pub whole : after ≡ record host { store = record { state = store; base = host.store.base } }
   pub gives : GivesBlock disks reference host.store.state store result
 
 -- the store was asked for a block, and what it gave is the answer
-pub record AsksStore {D E : Type 0} (disks : Ghosts D) (reference : List ℕ) (host after : HostState D) (result : Result PeerAnswer E) : Type 0 where
+pub record AsksStore {D E : Type 0} (disks : Ghosts D) (reference : List ℕ)
+    (host after : HostState D) (result : Result PeerAnswer E) : Type 0 where
   pub given : Result (List ℕ) BlockWhy
   pub reads : ReadsBlock disks reference host after given
   pub made : IfOk result (IsBlockAnswer given)

@@ -18,7 +18,8 @@ pub record Called (D : Type 0) : Type 0 where
   pub after : HostState D
 
 -- The host was asked, and the call left this host and this loader.
-pub record IsCalled {D L : Type 0} (disks : disk.Ghosts D) (loader : Ghosts L) (host : HostState D) (old : L) (c : Called D) (new : L) : Type 0 where
+pub record IsCalled {D L : Type 0} (disks : disk.Ghosts D) (loader : Ghosts L)
+    (host : HostState D) (old : L) (c : Called D) (new : L) : Type 0 where
   pub asked : Asked loader host.operator (views disks host) old c.question c.event (views disks c.after) new
   pub alone : IsAlone (views disks host) (views disks c.after) c.question c.event
   pub counts : Counts (disk_faults disks host) (disk_faults disks c.after) (loader.faults old) (loader.faults new) c.event
@@ -49,17 +50,19 @@ pub record AreOrdered (own : Option (List ℕ)) (first next : Event) : Type 0 wh
   pub never_falls : first.position ≤ next.position
   pub behind_own : (n : ℕ) (positions : List ℕ) → own ≡ Some positions → Contains positions n → n ≤ next.position
 
--- in a run that starts with these views
+-- the answers of a run that starts with these views are ordered, log by log
 abbrev pub IsOrdered : {D : Type 0} → disk.Ghosts D → Views → List (Called D) → Type 0
-IsOrdered {D} disks a calls = (i j : ℕ) (first next : Called D) (log : LogName) → i < j → slice_get calls i ≡ Some first → slice_get calls j ≡ Some next
-    → LooksAt a log first.question first.event → LooksAt a log next.question next.event → AreOrdered (own_at log (views disks first.after)) first.event next.event
+IsOrdered {D} disks a calls =
+    (i j : ℕ) (first next : Called D) (log : LogName) → i < j → slice_get calls i ≡ Some first → slice_get calls j ≡ Some next
+    → LooksAt a log first.question first.event → LooksAt a log next.question next.event
+    → AreOrdered (own_at log (views disks first.after)) first.event next.event
 
 -- how many of these replies are Io
 abbrev pub number_of_io : List Event → ℕ
 number_of_io [] = 0
 number_of_io (event ∷ events) = io_of event.reply + number_of_io events
 
--- They are at most as many as the counts of the disks and of the loader rose together, unless these stand at their end.
+-- The replies Io are at most as many as the counts of the disks and of the loader rose together, unless these stand at their end.
 pub record HasFewIo (before after : ℕ) (events : List Event) : Type 0 where
   pub later : before ≤ after
   pub io : after < 2 ^ 64 - 1 → before + number_of_io events ≤ after
@@ -73,7 +76,8 @@ abbrev pub question_of : Call → Question
 question_of call = record { user = call.session.user; request = call.request }
 
 -- These calls were made, one after the other, with these events, and in order.
-pub record IsHistory {D L : Type 0} (disks : disk.Ghosts D) (loader : Ghosts L) (host : HostState D) (old : L) (calls : List Call) (after : HostState D) (new : L) (events : List Event) : Type 0 where
+pub record IsHistory {D L : Type 0} (disks : disk.Ghosts D) (loader : Ghosts L) (host : HostState D)
+    (old : L) (calls : List Call) (after : HostState D) (new : L) (events : List Event) : Type 0 where
   pub called : List (Called D)
   pub asked : map (λ (c : Called D). c.question) called ≡ map question_of calls
   pub made : map (λ (c : Called D). c.event) called ≡ events

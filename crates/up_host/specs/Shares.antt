@@ -18,7 +18,7 @@ pub record IsSharedTree {D : Type 0} (state : State D) (tree : TreeCell D) (plac
   pub limits : place.limits ≡ state.limits
   pub seat : place.seat ≡ newcomer tree.cell state.log (fixed_of state)
 
--- so with each tree, in their order
+-- each tree of a host is in a cell, with the seat of the host's first caller, in their order
 abbrev pub AreShared : {D : Type 0} → List (Held (State D)) → List (TreeCell D) → List (TreeSeat D) → Type 0
 AreShared [] [] [] = Unit {0}
 AreShared (held ∷ trees) (cell ∷ cells) (seat ∷ seats) = IsSharedTree held.state cell seat × AreShared trees cells seats

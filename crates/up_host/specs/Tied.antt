@@ -17,7 +17,8 @@ pub record IsTied {D : Type 0} (disks : Ghosts D) (but : Option LogName) (host a
   pub keys : but ≢ Some LogName.OfKeys → (views disks after).keys ≡ (views disks host).keys
   pub later : Later (views disks host) (views disks after)
   pub own : OwnStays but (views disks host) (views disks after)
-  pub tree_grown : (owner : UserName) (v w : SeenTree) → (views disks host).tree owner ≡ Some v → (views disks after).tree owner ≡ Some w → AddsOwn v w
+  pub tree_grown : (owner : UserName) (v w : SeenTree) → (views disks host).tree owner ≡ Some v
+      → (views disks after).tree owner ≡ Some w → AddsOwn v w
   pub store_grown : AddsOwn (views disks host).store (views disks after).store
   pub keys_grown : AddsOwn (views disks host).keys (views disks after).keys
   pub stays : StaysSettled disks host after

@@ -5,24 +5,24 @@ use Rattle.up_disk.specs.declared.disk.Disk.{Ghosts}
 use Rattle.up_journal.specs.Format2.{head_size}
 use Rattle.up_journal.specs.Gates.{is_open}
 
--- the image is this front, and a closed gate behind it
+-- the image is this front, and a closed gate after it
 pub record Closed (front image : List ℕ) : Type 0 where
   pub rest : List ℕ
   pub is : image ≡ front ++ rest
   pub some : 0 < length rest
   pub closed : is_open rest ≡ false
 
--- the image is this front, this gate, and these bytes behind it
+-- the image is this front, this gate, and these bytes after it
 pub record Whole (gate : ℕ) (behind front image : List ℕ) : Type 0 where
   pub rest : List ℕ
   pub is : image ≡ front ++ gate ∷ (behind ++ rest)
 
--- the image is this front, any gate, and these bytes behind it
+-- the image is this front, any gate, and these bytes after it
 pub record Ready (behind front image : List ℕ) : Type 0 where
   pub gate : ℕ
   pub whole : Whole gate behind front image
 
--- a closed gate; or these bytes behind any gate, the last of which is a closed gate
+-- a closed gate; or these bytes after any gate, the last of which is a closed gate
 abbrev pub Shape : Option (List ℕ) → List ℕ → List ℕ → Type 0
 Shape None front image = Closed front image
 Shape (Some behind) front image = Ready behind front image
@@ -31,7 +31,7 @@ Shape (Some behind) front image = Ready behind front image
 pub record EachShape (held : Option (List ℕ)) (front : List ℕ) (images : List ℕ → Type 0) : Type 0 where
   pub each : (image : List ℕ) → images image → Shape held front image
 
--- each of these images is that front, that gate, and these bytes behind it
+-- each of these images is that front, that gate, and these bytes after it
 pub record EachWhole (gate : ℕ) (behind front : List ℕ) (images : List ℕ → Type 0) : Type 0 where
   pub each : (image : List ℕ) → images image → Whole gate behind front image
 
@@ -40,7 +40,7 @@ pub record Rests (content : Option (List ℕ)) (held : Option (List ℕ)) (front
   pub told : IsSome content
   pub shape : Shape held front image
 
--- behind the front stands what was held there, or nothing, or these bytes
+-- after the front stands what was held there, or nothing, or these bytes
 abbrev pub IsOneOf : Option (List ℕ) → List ℕ → Option (List ℕ) → Type 0
 IsOneOf held behind which = (which ≡ None) ⊎ ((which ≡ held) ⊎ (which ≡ Some behind))
 
@@ -50,7 +50,7 @@ pub record RestsAsOne (content : Option (List ℕ)) (held : Option (List ℕ)) (
   pub one : IsOneOf held behind which
   pub rests : Rests content which front image
 
--- what is held behind a gate is as long as the record of a payload of that size, and a closed gate
+-- what is held after a gate is as long as the record of a payload of that size, and a closed gate
 abbrev pub IsSized : Option (List ℕ) → Option ℕ → Type 0
 IsSized held size = option_map length held ≡ option_map (λ n. n + head_size) size
 
@@ -61,7 +61,7 @@ pub record EachAsOne (held : Option (List ℕ)) (behind front : List ℕ) (size 
   pub sized : IsSized which size
   pub shape : EachShape which front images
 
--- the front ends at the gate, and behind it each image has what is held there, for a payload of that size
+-- the front ends at the gate, and after it each image has what is held there, for a payload of that size
 pub record Stands (held : Option (List ℕ)) (front : List ℕ) (gate : ℕ) (size : Option ℕ) (images : List ℕ → Type 0) : Type 0 where
   pub sized : IsSized held size
   pub place : length front ≡ gate

@@ -22,6 +22,6 @@ pub record HaveCollision (one other : List (List ℕ)) : Type 0 where
 abbrev pub AreSame : List (List ℕ) → List (List ℕ) → Type 0
 AreSame one other = (one ≡ other) ⊎ HaveCollision one other
 
--- the same of logs that are told
+-- two logs that are told are the same, or have records with one digest
 abbrev pub AreSameTold : Option (List (List ℕ)) → Option (List (List ℕ)) → Type 0
 AreSameTold one other = IfSome one (λ log. IfSome other (AreSame log))

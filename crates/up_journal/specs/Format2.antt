@@ -10,7 +10,7 @@ use Rattle.up_journal.specs.Gates.{Format, has_name, link_behind, log_behind_nam
 abbrev pub format2 : Format
 format2 = record { name = 85 ∷ 80 ∷ 83 ∷ 76 ∷ 79 ∷ 71 ∷ 50 ∷ 10 ∷ []; link_size = 32; first_link = replicate 32 0; next_link = sha256 }
 
--- a gate, the length behind it, and the link
+-- a gate, the length after it, and the link
 abbrev pub head_size : ℕ
 head_size = 37
 

@@ -1,4 +1,4 @@
--- What stands on a device behind its name, in both formats: records behind open gates, and a closed gate. This project's own.
+-- What stands on a device after its name, in both formats: records after open gates, and a closed gate. This project's own.
 use Rattle.std.specs.Prelude.{◌≡◌, ◌==◌, ◌&&◌, ◌+◌, ℕ, zero, suc, Bool, false, nat_le, nat_lt, List, [], ◌∷◌, ◌++◌, length, take, drop, Result, Ok, Err, if◌then◌else◌}
 use Rattle.std.specs.Int.{w32, from_be_bytes, to_be_bytes}
 use Rattle.std.specs.Str.{bytes_eq}
@@ -19,7 +19,7 @@ pub record IsFormat (format : Format) : Type 0 where
   pub first : length format.first_link ≡ format.link_size
   pub next : (bytes : List ℕ) → length (format.next_link bytes) ≡ format.link_size
 
--- the place of the first gate: behind the 8 bytes of the name
+-- the place of the first gate: after the 8 bytes of the name
 abbrev pub first_gate : ℕ
 first_gate = 8
 
@@ -41,7 +41,7 @@ number_of bytes = from_be_bytes w32 bytes
 abbrev pub record_bytes : List ℕ → List ℕ → List ℕ
 record_bytes link payload = length_bytes (length payload) ++ link ++ payload
 
--- what is written behind a closed gate: the record and the next gate, closed
+-- what is written after a closed gate: the record and the next gate, closed
 abbrev pub behind_gate : List ℕ → List ℕ → List ℕ
 behind_gate link payload = record_bytes link payload ++ 0 ∷ []
 
@@ -50,7 +50,7 @@ abbrev pub record_list : Format → List ℕ → List (List ℕ) → List (List 
 record_list format link [] = []
 record_list format link (payload ∷ log) = record_bytes link payload ∷ record_list format (format.next_link (record_bytes link payload)) log
 
--- these records, each behind an open gate
+-- these records, each after an open gate
 abbrev pub behind_gates : List (List ℕ) → List ℕ
 behind_gates [] = []
 behind_gates (bytes ∷ records) = 1 ∷ bytes ++ behind_gates records
@@ -60,7 +60,7 @@ abbrev pub link_behind : Format → List ℕ → List (List ℕ) → List ℕ
 link_behind format link [] = link
 link_behind format link (payload ∷ log) = link_behind format (format.next_link (record_bytes link payload)) log
 
--- the name, and the records of these payloads behind open gates
+-- the name, and the records of these payloads after open gates
 abbrev pub front_of : Format → List (List ℕ) → List ℕ
 front_of format log = format.name ++ behind_gates (record_list format format.first_link log)
 
@@ -71,7 +71,7 @@ abbrev pub is_open : List ℕ → Bool
 is_open (gate ∷ bytes) = gate == 1
 is_open [] = false
 
--- a gate, the length behind it, and the link
+-- a gate, the length after it, and the link
 abbrev pub head_size_of : Format → ℕ
 head_size_of format = 5 + format.link_size
 
@@ -83,7 +83,7 @@ size_at bytes = number_of (part 1 4 bytes)
 abbrev pub link_at : Format → List ℕ → List ℕ
 link_at format bytes = part 5 format.link_size bytes
 
--- the payload, behind so many bytes from the gate on
+-- the payload, after so many bytes from the gate on
 abbrev pub payload_at : ℕ → List ℕ → List ℕ
 payload_at head bytes = part head (size_at bytes) bytes
 
@@ -104,7 +104,7 @@ abbrev pub after_payloads : List (List ℕ) → Result (List (List ℕ)) Damage 
 after_payloads front (Ok payloads) = Ok (front ++ payloads)
 after_payloads front (Err damage) = Err damage
 
--- The payloads behind open gates, up to the first closed one, where these bytes begin with the gate at that place, whose record
+-- The payloads after open gates, up to the first closed one, where these bytes begin with the gate at that place, whose record
 -- has to carry that link; or the first damage: of one gate, that it has no whole record comes before that it carries another
 -- link. At most so many gates are looked at.
 unfoldable pub log_from : Format → ℕ → ℕ → ℕ → List ℕ → List ℕ → Result (List (List ℕ)) Damage
@@ -114,7 +114,8 @@ log_from format (suc most) largest gate link bytes =
     then (if is_whole (head_size_of format) largest bytes
     then (if bytes_eq (link_at format bytes) link
     then after_payloads (payload_at (head_size_of format) bytes ∷ [])
-    (log_from format most largest (gate + head_size_of format + size_at bytes) (format.next_link (record_at format bytes)) (next_gate (head_size_of format) bytes))
+    (log_from format most largest (gate + head_size_of format + size_at bytes) (format.next_link (record_at format bytes))
+    (next_gate (head_size_of format) bytes))
     else Err (Chain gate link (link_at format bytes)))
     else Err (Damaged gate))
     else Ok []

@@ -5,23 +5,23 @@ use Rattle.std.specs.List.{AllByRecursion}
 use Rattle.up_journal.specs.Damages.{Damage, Damaged, Chain, OldFormat}
 use Rattle.up_journal.specs.Gates.{Format, behind_gates, first_gate, front_of, head_size_of, is_open, link_at, link_behind, record_list, size_at}
 
--- From a gate on, the bytes are the records of these payloads behind open gates, of which the first carries that link, and then
+-- From a gate on, the bytes are the records of these payloads after open gates, of which the first carries that link, and then
 -- the rest, from another gate on. Each payload keeps the limit.
 pub record AreRecords (format : Format) (largest : ℕ) (link bytes : List ℕ) (log : List (List ℕ)) (rest : List ℕ) : Type 0 where
   pub whole : bytes ≡ behind_gates (record_list format link log) ++ rest
   pub fit : AllByRecursion (λ payload. length payload ≤ largest) log
   pub some : 0 < length rest
 
--- the place of the gate behind these records, where their first gate stands at that place
+-- the place of the gate after these records, where their first gate stands at that place
 abbrev pub place_behind : Format → ℕ → List ℕ → List (List ℕ) → ℕ
 place_behind format gate link log = gate + length (behind_gates (record_list format link log))
 
--- an open gate, and no whole record behind it: its length passes the limit, or its next gate does not lie within the bytes
+-- an open gate, and no whole record after it: its length passes the limit, or its next gate does not lie within the bytes
 pub record IsBroken (format : Format) (largest : ℕ) (bytes : List ℕ) : Type 0 where
   pub opened : is_open bytes ≡ true
   pub broken : (largest < size_at bytes) ⊎ (length bytes ≤ head_size_of format + size_at bytes)
 
--- an open gate, and a whole record behind it that carries another link than this
+-- an open gate, and a whole record after it that carries another link than this
 pub record IsUnlinked (format : Format) (largest : ℕ) (link bytes : List ℕ) : Type 0 where
   pub opened : is_open bytes ≡ true
   pub fits : size_at bytes ≤ largest
@@ -63,6 +63,6 @@ Reads format largest gate link bytes (Err OldFormat) = ⊥
 abbrev pub ImageReads : Format → ℕ → List ℕ → Result (List (List ℕ)) Damage → Type 0
 ImageReads format largest image answer = Reads format largest first_gate format.first_link (drop first_gate image) answer
 
--- the image that is made of a log: the name, its records behind open gates, and a closed gate
+-- the image that is made of a log: the name, its records after open gates, and a closed gate
 abbrev pub image_of : Format → List (List ℕ) → List ℕ
 image_of format log = front_of format log ++ 0 ∷ []

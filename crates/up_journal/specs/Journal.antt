@@ -20,7 +20,7 @@ pub record IsSettled {D : Type 0} (journal : State D) : Type 0 where
   pub settled : journal.doubtful ≡ false
   pub nothing : journal.further ≡ None
 
--- the place of the gate behind payloads of these sizes
+-- the place of the gate after payloads of these sizes
 abbrev pub gate_behind : List ℕ → ℕ
 gate_behind sizes = first_gate + sum_by (λ size. size + head_size) sizes
 

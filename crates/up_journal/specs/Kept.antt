@@ -22,16 +22,16 @@ EndsBy place span = span.at + span.size ≤ place
 abbrev pub log_seen : Option (List ℕ) → List Span → Option (List (List ℕ))
 log_seen content spans = option_map (payloads_at spans) content
 
--- the payload of the doubtful record behind the gate, where there is one and the content is told
+-- the payload of the doubtful record after the gate, where there is one and the content is told
 abbrev pub further_seen : Option (List ℕ) → ℕ → Option ℕ → Option (List ℕ)
 further_seen content gate None = None
 further_seen content gate (Some size) = option_map (part (gate + head_size) size) content
 
--- what stands behind a gate for the further payload: its record with that link, and a closed gate
+-- what stands after a gate for the further payload: its record with that link, and a closed gate
 abbrev pub held_for : List ℕ → Option (List ℕ) → Option (List ℕ)
 held_for link further = option_map (behind_gate link) further
 
--- from a gate on, payloads with so many bytes before each stand one behind the other, and then the last gate
+-- from a gate on, payloads with so many bytes before each stand one after the other, and then the last gate
 abbrev pub AreBehind : ℕ → ℕ → List Span → ℕ → Type 0
 AreBehind head gate [] last = gate ≡ last
 AreBehind head gate (span ∷ spans) last = (span.at ≡ gate + head) × AreBehind head (gate + head + span.size) spans last
@@ -45,8 +45,9 @@ pub record IsFront (format : Format) (front : List ℕ) (log : List (List ℕ)) 
   pub is : front ≡ front_of format log
   pub linked : link ≡ link_behind format format.first_link log
 
--- the payloads at these places are those behind the open gates up to the gate, as far as the content is told
-pub record AreGates (format : Format) (largest : ℕ) (spans : List Span) (gate : ℕ) (link : List ℕ) (device : ℕ) (content : Option (List ℕ)) : Type 0 where
+-- the payloads at these places are those after the open gates up to the gate, as far as the content is told
+pub record AreGates (format : Format) (largest : ℕ) (spans : List Span) (gate : ℕ)
+    (link : List ℕ) (device : ℕ) (content : Option (List ℕ)) : Type 0 where
   pub placed : AreBehind (head_size_of format) first_gate spans gate
   pub fitting : AllByRecursion (λ size. size ≤ largest) (sizes_of spans)
   pub inside : gate < device
@@ -54,10 +55,12 @@ pub record AreGates (format : Format) (largest : ℕ) (spans : List Span) (gate 
   pub told : IfSome content (λ bytes. IsFront format (take gate bytes) (payloads_at spans bytes) link)
 
 -- Facts about the fields of a journal. Of the disk they say what each crash image is.
-pub record IsKept {D : Type 0} (disks : Ghosts D) (disk : D) (limits : Limits) (spans : List Span) (gate : ℕ) (head : List ℕ) (doubtful : Option ℕ) : Type 0 where
+pub record IsKept {D : Type 0} (disks : Ghosts D) (disk : D) (limits : Limits)
+    (spans : List Span) (gate : ℕ) (head : List ℕ) (doubtful : Option ℕ) : Type 0 where
   pub good : AreLimits limits
   pub gates : AreGates format2 limits.largest spans gate head (disks.size_of disk) (disks.content disk)
   pub small : gate + 1 < 2 ^ 64
-  pub doubt : (n : ℕ) → doubtful ≡ Some n → (gate + head_size + n < disks.size_of disk) × (gate + head_size + n < 2 ^ 62) × (n ≤ limits.largest)
+  pub doubt : (n : ℕ) → doubtful ≡ Some n
+      → (gate + head_size + n < disks.size_of disk) × (gate + head_size + n < 2 ^ 62) × (n ≤ limits.largest)
   pub images : (bytes image : List ℕ) → disks.content disk ≡ Some bytes → disks.may_leave disk image
       → Shape (held_for head (further_seen (disks.content disk) gate doubtful)) (take gate bytes) image

@@ -33,7 +33,7 @@ pub record HasOldLog (largest : ℕ) (old image : List ℕ) : Type 0 where
 abbrev pub IsMoving : ℕ → Option (List ℕ) → List ℕ → Type 0
 IsMoving largest old image = (has_name format2 image ≡ false) ⊎ IfSome old (λ bytes. HasOldLog largest bytes image)
 
--- each of the first n of these sizes would be appended behind those before it, and not be full
+-- each of the first n of these sizes would be appended after those before it, and not be full
 abbrev pub KeepUpTo : Limits → List ℕ → ℕ → Type 0
 KeepUpTo limits sizes n = (k size : ℕ) → k < n → slice_get sizes k ≡ Some size → is_full limits (take k sizes) size ≡ false
 

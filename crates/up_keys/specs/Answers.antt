@@ -33,11 +33,12 @@ abbrev pub known_reply : Option KeyRecord → Reply
 known_reply (Some known) = reply.Ok (done.Key known)
 known_reply None = reply.NotExist
 
--- the record of the user that a text names, whoever asks
+-- the reply by what a text is read as: the user's record, or that it names no user
 abbrev pub reply_of_name : List KeyRecord → Result UserName NameFault → Reply
 reply_of_name log (Ok user) = known_reply (record_in log user)
 reply_of_name log (Err fault) = reply.Invalid Name
 
+-- the reply to who asks for the record of the user that a text names
 unfoldable pub looked_up : List KeyRecord → Text → Reply
 looked_up log text = reply_of_name log (user_of text)
 
@@ -51,7 +52,7 @@ may_put user named = bytes_eq user named || bytes_eq user (base_of named)
 abbrev pub record_of : UserName → KeyCard → KeyRecord
 record_of named card = record { user = named; dirs = card.dirs; stores = card.stores; key = card.key }
 
--- the record that a card asks to put, or the refusal: the first that fits of a bad name, bad bounds, and another's record
+-- the record that a card asks to put, or the refusal, by what the name of the card's user is read as
 abbrev pub to_put_named : UserName → KeyCard → Result UserName NameFault → Result KeyRecord Reply
 to_put_named user card (Err fault) = Err (reply.Invalid Name)
 to_put_named user card (Ok named) =
@@ -59,6 +60,7 @@ to_put_named user card (Ok named) =
     else if not (may_put user named) then Err (reply.Permission Write)
     else Ok (record_of named card)
 
+-- the record that a card asks to put, or the refusal: the first that fits of a bad name, bad bounds, and another's record
 unfoldable pub to_put : UserName → KeyCard → Result KeyRecord Reply
 to_put user card = to_put_named user card (user_of card.user)
 

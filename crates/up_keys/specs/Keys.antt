@@ -27,14 +27,18 @@ sizes_of log = map (λ known. length (logged known)) log
 abbrev pub log_of : {D : Type 0} → LogState D KeyRecord → List KeyRecord
 log_of keys = keys.log
 
+-- the part of the log of the keys that stays: its limits
 abbrev pub limits_of : {D : Type 0} → LogState D KeyRecord → Limits
 limits_of keys = keys.limits
 
 -- A record was added, or refused. It is full exactly at the limits; but for a fault, a refused one leaves all as it was.
-pub record PutsRecord {D : Type 0} (disks : Ghosts D) (known : KeyRecord) (old new : LogState D KeyRecord) (result : Result ℕ AppendWhy) : Type 0 where
+pub record PutsRecord {D : Type 0} (disks : Ghosts D) (known : KeyRecord)
+    (old new : LogState D KeyRecord) (result : Result ℕ AppendWhy) : Type 0 where
   pub added : AddsRecord disks records_in known old new result
-  pub full : is_full old.limits (sizes_of old.log) (length (logged known)) ≡ true → result ≢ Err append.OutOfMemory → result ≡ Err (append.Full (length old.log))
-  pub full_only : (n : ℕ) → result ≡ Err (append.Full n) → (is_full old.limits (sizes_of old.log) (length (logged known)) ≡ true) × (n ≡ length old.log)
+  pub full : is_full old.limits (sizes_of old.log) (length (logged known)) ≡ true
+      → result ≢ Err append.OutOfMemory → result ≡ Err (append.Full (length old.log))
+  pub full_only : (n : ℕ) → result ≡ Err (append.Full n)
+      → (is_full old.limits (sizes_of old.log) (length (logged known)) ≡ true) × (n ≡ length old.log)
   pub untouched : IfErr result (λ why. why ≢ append.Fault → new ≡ old)
   pub cause : HasCause (disks.faults old.disk) (disks.faults new.disk) (IsErrOf result append.Fault)
 

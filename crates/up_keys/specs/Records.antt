@@ -22,6 +22,7 @@ endpoints_fit endpoints = nat_le (length endpoints) 8 && list_all endpoint_fits 
 unfoldable pub keeps_bounds : List Endpoint → List Endpoint → List ℕ → Bool
 keeps_bounds dirs stores key = endpoints_fit dirs && endpoints_fit stores && (nat_le 1 (length key) && nat_le (length key) 1024)
 
+-- a record keeps the bounds of a key server's
 abbrev pub has_bounds : KeyRecord → Bool
 has_bounds known = keeps_bounds known.dirs known.stores known.key
 
@@ -35,7 +36,7 @@ largest_room = 8192
 abbrev pub decoded : List ℕ → Option KeyRecord
 decoded payload = result_ok (logged_of payload)
 
--- a record fits behind any others where it keeps its bounds
+-- a record fits after any others where it keeps its bounds
 abbrev pub fits : List KeyRecord → KeyRecord → Bool
 fits log known = has_bounds known
 

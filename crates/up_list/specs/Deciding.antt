@@ -18,10 +18,12 @@ abbrev pub decided_for : Decided → Bool → Option Rights
 decided_for decided true = decided.control
 decided_for decided false = decided.ordinary
 
+-- what was decided, with these rights for Access and Group paths, or for ordinary ones
 abbrev pub with_decided : Decided → Bool → Rights → Decided
 with_decided decided true held = record decided { control = Some held }
 with_decided decided false held = record decided { ordinary = Some held }
 
 -- what was decided holds of each path that is governed as the directory is
 pub record IsDecided (look : Look) (dir : PathName) (decided : Decided) : Type 0 where
-  pub each : (path : PathName) (held : Rights) → AreGovernedAlike look dir path → decided_for decided (is_control path) ≡ Some held → rights look path ≡ held
+  pub each : (path : PathName) (held : Rights) → AreGovernedAlike look dir path
+      → decided_for decided (is_control path) ≡ Some held → rights look path ≡ held

@@ -10,6 +10,7 @@ use Rattle.up_entry.specs.declared.entries.Entry.{Entry}
 use Rattle.up_log_tree.specs.declared.node.Node.{Node}
 use Rattle.up_log_tree.specs.Trees.{Tree, node_at, is_parent, is_link, made_of, standing_prefix}
 
+-- the entry of a node
 abbrev pub entry_of : Node → Entry
 entry_of node = node.entry
 

@@ -64,7 +64,8 @@ ends_literal (terms ∷ more ∷ rest) = ends_literal (more ∷ rest)
 
 -- a path of more than m elements that match the first elements of the pattern
 unfoldable pub is_candidate : PatternName → PathName → Bool
-is_candidate pattern path = nat_lt (length (literals pattern.elements)) (length path.elements) && matches_front pattern.elements path.elements
+is_candidate pattern path =
+    nat_lt (length (literals pattern.elements)) (length path.elements) && matches_front pattern.elements path.elements
 
 -- A path that may be shown: it is a candidate; for each of its elements that matches one that is not literal, list holds on the
 -- prefix before it; and where its last element matches a literal one, any right holds on it.

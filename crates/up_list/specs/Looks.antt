@@ -35,6 +35,6 @@ shown look entry = shown_as (rights look entry.name).read entry
 abbrev pub look_now : Log → Loading → UserName → Look
 look_now log loaded user = record { owner = log.owner; tree = tree_of log.records; loaded = loaded; user = user }
 
--- the same tree as it was directly after the first n records
+-- the tree of a log as it was directly after the first n records, as a user meets it
 abbrev pub look_after : ℕ → Log → Loading → UserName → Look
 look_after n log loaded user = record { owner = log.owner; tree = tree_at log.records n; loaded = loaded; user = user }

@@ -21,6 +21,7 @@ use Rattle.up_wire.specs.declared.replies.Row.{Row}
 abbrev pub is_before : Row → Row → Bool
 is_before one two = is_lt (path_cmp one.entry.name two.entry.name)
 
+-- the path of a place
 abbrev pub path_in : Place → PathName
 path_in place = place.path
 
@@ -30,9 +31,11 @@ pub record IsPlace (look : Look) (at : ℕ) (place : Place) : Type 0 where
   pub size : length place.path.elements ≡ at
   pub decided : IsDecided look place.path place.decided
 
+-- all of these are such places
 abbrev pub ArePlaces : Look → ℕ → List Place → Type 0
 ArePlaces look at places = AllByRecursion (IsPlace look at) places
 
+-- an entry is of the tree's owner
 abbrev pub IsOwned : Look → Entry → Type 0
 IsOwned look entry = entry.name.owner ≡ look.owner
 
@@ -44,7 +47,8 @@ pub record IsIn (look : Look) (at : ℕ) (dir : PathName) (entry : Entry) : Type
 
 -- What is known of an item in a directory, once its rights were decided: its rights, what holds below it, and what holds in the
 -- directory.
-pub record IsBelow (look : Look) (dir : PathName) (entry : Entry) (now : Decided) (result : Result (Rights × Decided) AllocError) : Type 0 where
+pub record IsBelow (look : Look) (dir : PathName) (entry : Entry) (now : Decided)
+    (result : Result (Rights × Decided) AllocError) : Type 0 where
   pub held : IfOk result (λ found. found.0 ≡ rights look entry.name)
   pub below : IfOk result (λ found. IsDecided look entry.name found.1)
   pub kept : IsDecided look dir now
@@ -57,6 +61,7 @@ pub record Meets (look : Look) (pattern : PatternName) (at : ℕ) (old new : Wal
 
 -- A walk has looked into all its places, of `at` elements: the rows of what was met are found, and what is walked into is the next level.
 pub record IsNextLevel (look : Look) (pattern : PatternName) (at : ℕ) (old new : Walk) : Type 0 where
-  pub rows : new.rows.items ≡ old.rows.items ++ filter_map (row_met look pattern at) (met_from look pattern at (map path_in old.places.items))
+  pub rows : new.rows.items
+      ≡ old.rows.items ++ filter_map (row_met look pattern at) (met_from look pattern at (map path_in old.places.items))
   pub paths : map path_in new.places.items ≡ further pattern at (met_from look pattern at (map path_in old.places.items))
   pub places : ArePlaces look (suc at) new.places.items

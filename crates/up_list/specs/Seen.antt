@@ -39,28 +39,36 @@ standing_node tree path = option_and_then (node_at tree) (standing_prefix tree p
 abbrev pub has_name : ℕ → List ℕ → Entry → Bool
 has_name at name entry = bytes_eq (slice_index_or entry.name.elements at []) name
 
-group_is : (tree : Tree) (q : PathName) → option_and_then {U = ⊤} (λ n. if is_group_file q n then Some tt else None) (node_at tree q) ≡ option_map {U = ⊤} (λ (n : Node). tt) (group_node tree q)
+-- a lemma: whether a Group file stands at a path is told by its node
+group_is : (tree : Tree) (q : PathName) → option_and_then {U = ⊤} (λ n. if is_group_file q n then Some tt else None)
+    (node_at tree q) ≡ option_map {U = ⊤} (λ (n : Node). tt) (group_node tree q)
 group_is tree q = go (node_at tree q)
   where
-    by : (b : Bool) (n : Node) → ◌≡◌ {A = Option ⊤} (if b then Some tt else None) (option_map {U = ⊤} (λ (n : Node). tt) (if b then Some n else None))
+    by : (b : Bool) (n : Node)
+        → ◌≡◌ {A = Option ⊤} (if b then Some tt else None) (option_map {U = ⊤} (λ (n : Node). tt) (if b then Some n else None))
     by true n = refl
     by false n = refl
 
-    go : (o : Option Node) → option_and_then {U = ⊤} (λ n. if is_group_file q n then Some tt else None) o ≡ option_map {U = ⊤} (λ (n : Node). tt) (elim o as (λ _. Option Node) [ None ↦ None | Some node ↦ if is_group_file q node then Some node else None ])
+    go : (o : Option Node) → option_and_then {U = ⊤} (λ n. if is_group_file q n then Some tt else None) o ≡ option_map {U = ⊤}
+        (λ (n : Node). tt) (elim o as (λ _. Option Node) [ None ↦ None | Some node ↦ if is_group_file q node then Some node else None ])
     go None = refl
     go (Some n) = by (is_group_file q n) n
 
+-- a lemma: what is found in a map has its key among the keys
 key_there : {X : Type 0} (es : List (PathName × X)) (q : PathName) → is_some (find path_cmp q es) ≡ true → Contains (keys_of es) q
 key_there es q h =
     let found = at_any (eq_by_cmp path_cmp q) (keys_of es) (sym (is_some-find path_cmp q es) ∙ h) in
     subst (Contains (keys_of es)) (sym (path_same q found.0 (path_cmp_eq q found.0 ∙ found.2))) found.1
 
 -- the path of each Group file is listed
-pub group_listed : (seen : Seen) (path : PathName) → IsSome ((facts_of seen.owner (tree_of seen.records)).group path) → Contains (group_paths (tree_of seen.records)) path
+pub group_listed : (seen : Seen) (path : PathName) → IsSome ((facts_of seen.owner (tree_of seen.records)).group path)
+    → Contains (group_paths (tree_of seen.records)) path
 unfolding facts_of group_paths
 group_listed seen path some =
     let make : PathName → Node → Option ⊤ = λ p n. if is_group_file p n then Some tt else None in
-    key_there (made_of make (tree_of seen.records)) path (ap is_some (find-made make path (tree_of seen.records) (tree_sorted seen.records) ∙ group_is (tree_of seen.records) path) ∙ go (group_node (tree_of seen.records) path) some)
+    key_there (made_of make (tree_of seen.records)) path
+    (ap is_some (find-made make path (tree_of seen.records) (tree_sorted seen.records) ∙ group_is (tree_of seen.records) path)
+    ∙ go (group_node (tree_of seen.records) path) some)
   where
     go : (o : Option Node) → IsSome (option_map (items_of seen.owner) o) → is_some (option_map {U = ⊤} (λ (n : Node). tt) o) ≡ true
     go None h = absurd (false≢true h)

@@ -6,7 +6,7 @@ use Rattle.up_policy.specs.Loadings.{Loading}
 use Rattle.up_tree.specs.States.{State, log_of}
 use Rattle.up_list.specs.Looks.{Look, look_now}
 
--- where an entry stands
+-- the path at which an entry stands
 abbrev pub name_of : Entry → PathName
 name_of entry = entry.name
 

@@ -51,7 +51,7 @@ fn link_on_way(tree: &MemTree, path: &Path) -> Result<Option<Path>, AllocError>
         ≡ option_map name_of (first_link (tree_of tree.now.log) (tested true path.now))) }
 {
     let _records = tree.position();
-    match link_of(standing(tree, path)?) {
+    match link_of(standing(tree, path)) {
         Some(link) => Ok(Some(link.name.clone()?)),
         None => Ok(None),
     }

@@ -1,15 +1,14 @@
 //! The tree of a log, as it is or as it was, and a user before it.
-ghost use Rattle.std.specs.Prelude.{◌≡◌, ◌≤◌, ◌<◌, None, Err, IfOk, IsErr, alloc_error, length, map, take};
+ghost use Rattle.std.specs.Prelude.{◌≡◌, ◌≤◌, Err, IfOk, IsErr, alloc_error, length, map, take};
 ghost use Rattle.std.specs.Option.{option_and_then, option_copied, option_map};
 ghost use Rattle.up_names.specs.Faults.{Gives};
 ghost use Rattle.up_names.specs.PathNames.{cut, extended, joined};
 ghost use Rattle.up_list.specs.Entries.{entries_in, entry_at, entry_of, entry_on_way, path_made};
 ghost use Rattle.up_list.specs.Founds.{entry_found};
 ghost use Rattle.up_list.specs.Reads.{file_text};
-ghost use Rattle.up_list.specs.Rooted.{IsRooted};
 ghost use Rattle.up_list.specs.Seen.{group_listed, has_name, look_of};
 ghost use Rattle.up_log_tree.specs.Rights.{access_path, facts_of, governing_prefix, group_paths};
-ghost use Rattle.up_log_tree.specs.Trees.{node_at, tree_of};
+ghost use Rattle.up_log_tree.specs.Trees.{tree_of};
 
 use crate::found::Found;
 use crate::globs::within;
@@ -155,7 +154,7 @@ impl Onlooker for TreeLook<'_> {
     #[tactic(auto, using(crate::proofs::ViewLemmas::rooted_log))]
     fn item_on_way(&self, _alloc: Global, path: &Path) -> Result<Option<Found<'_>>, AllocError> {
         let _records = self.tree.position();
-        Ok(kept(standing(self.tree, path)?))
+        Ok(kept(standing(self.tree, path)))
     }
 
     fn item_in(
@@ -196,50 +195,11 @@ pub(crate) fn kept<'a>(node: Option<&'a Node>) -> Option<Found<'a>>
 }
 
 /// What stands at the longest prefix of a path at which something stands, the path itself included.
-pub(crate) fn standing<'a>(tree: &'a MemTree, path: &Path) -> Result<Option<&'a Node>, AllocError>
-    ensures { IfOk result (λ found. option_map entry_of (option_copied found)
-        ≡ entry_on_way (tree_of tree.now.log) path.now) }
+pub(crate) fn standing<'a>(tree: &'a MemTree, path: &Path) -> Option<&'a Node>
+    ensures { option_map entry_of (option_copied result)
+        ≡ entry_on_way (tree_of tree.now.log) path.now }
 {
-    let _records = tree.position();
-    match tree.node(path) {
-        Some(node) => Ok(Some(node)),
-        None => standing_above(tree, path),
-    }
-}
-
-/// The same where nothing stands at the path itself. Items stand at the shorter ones of the prefixes alone, so that the last of
-/// them is found by looks at prefixes twice as long each time, and then by halving: as many as it has elements, but for the logarithm.
-fn standing_above<'a>(tree: &'a MemTree, path: &Path) -> Result<Option<&'a Node>, AllocError>
-    requires rooted { IsRooted tree.now.owner (tree_of tree.now.log) }
-    requires none { node_at (tree_of tree.now.log) path.now ≡ None }
-    ensures { IfOk result (λ found. option_map entry_of (option_copied found)
-        ≡ entry_on_way (tree_of tree.now.log) path.now) }
-{
-    let mut top = path.clone()?;
-    let mut low = 0;
-    let mut found = None;
-    while low < top.len() {
-        let middle = low + low.min((top.len() - low) / 2);
-        let way = shortened(&top, middle)?;
-        match tree.node(&way) {
-            Some(node) => {
-                found = Some(node);
-                low = middle + 1;
-            }
-            None => top = way,
-        }
-    }
-    Ok(found)
-}
-
-/// The path of the first `n` elements.
-fn shortened(path: &Path, n: u64) -> Result<Path, AllocError>
-    requires { n ≤ length path.now.elements }
-    ensures { IfOk result (λ front. front ≡ cut n path.now) }
-{
-    let mut front = path.clone()?;
-    front.shorten(n);
-    Ok(front)
+    tree.standing(path)
 }
 
 /// The items in a directory, in order of paths.

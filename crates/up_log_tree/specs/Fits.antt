@@ -96,25 +96,31 @@ pub record IsLog (owner : UserName) (records : List Rec) : Type 0 where
 
 -- ---- the same as a test that computes
 
+-- whether a directory is there
 abbrev pub is_directory_node : Option Node → Bool
 is_directory_node None = false
 is_directory_node (Some node) = is_directory (kind_of node)
 
+-- whether a path may have an item: it is the owner's root, or its parent is a directory
 unfoldable pub has_place : UserName → Tree → PathName → Bool
 has_place owner tree path = elim (parent_of path) [
   | None ↦ bytes_eq path.owner owner
   | Some parent ↦ is_directory_node (node_at tree parent)
 ]
 
+-- whether an entry of this kind may take the place of what is there: any kind where there is nothing, and any but a directory where there
+-- is a file
 abbrev pub may_replace : Option Node → Kind → Bool
 may_replace None kind = true
 may_replace (Some node) kind = is_file (kind_of node) && not (is_directory kind)
 
+-- whether the text beside an entry is one that a file of this kind may have
 abbrev pub text_fits : UserName → Control → Text → Bool
 text_fits owner Access text = is_ok (access_of owner text)
 text_fits owner Group text = is_ok (group_of owner text)
 text_fits owner Ordinary text = length text == 0
 
+-- whether a Put of this entry fits a log as its next record
 unfoldable pub put_fits : UserName → List Rec → Entry → Text → Bool
 put_fits owner before entry text =
     has_fixed_form entry
@@ -123,6 +129,7 @@ put_fits owner before entry text =
     && may_replace (node_at (tree_of before) entry.name) entry.attr.kind
     && text_fits owner (control_for entry.attr.kind entry.name) text
 
+-- whether a Delete fits a log as its next record: something stands there, with nothing below it
 unfoldable pub delete_fits : List Rec → PathName → Bool
 delete_fits before path = is_some (node_at (tree_of before) path) && length (children (tree_of before) path) == 0
 
@@ -132,9 +139,11 @@ is_snap_at time (Put entry text) = false
 is_snap_at time (Delete path) = false
 is_snap_at time (Snap at) = at == time
 
+-- whether a tree may have snapshots: its owner has no suffix, and the snapshot user's name is not too long
 abbrev pub has_snapshots : UserName → Bool
 has_snapshots owner = is_none (suffix_of owner) && nat_le (length (snapshot_user owner)) 254
 
+-- whether a Snap fits a log as its next record
 unfoldable pub snap_fits : UserName → List Rec → ℕ → Bool
 snap_fits owner before time =
     has_snapshots owner
@@ -142,6 +151,7 @@ snap_fits owner before time =
     && nat_lt time 253402207200
     && not (list_any (is_snap_at time) before)
 
+-- whether a record fits a log as its next one
 abbrev pub fits : UserName → List Rec → Rec → Bool
 fits owner before (Put entry text) = put_fits owner before entry text
 fits owner before (Delete path) = delete_fits before path

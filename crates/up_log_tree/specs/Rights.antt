@@ -31,6 +31,7 @@ access_node tree dir = node_at tree (access_path dir)
 unfoldable pub governing_prefix : Tree → PathName → Option PathName
 governing_prefix tree path = find (λ dir. is_some (access_node tree dir)) (prefixes path)
 
+-- whether a path is a Group path
 abbrev pub is_group : PathName → Bool
 is_group path = elim (control_of path) [ control.Group ↦ true | control.Access ↦ false | control.Ordinary ↦ false ]
 
@@ -46,6 +47,7 @@ group_node tree path = elim (node_at tree path) [ None ↦ None | Some node ↦ 
 abbrev pub rules_of : UserName → Node → List Rule
 rules_of owner node = said (access_of owner node.text)
 
+-- the items of a Group file in this owner's tree
 abbrev pub items_of : UserName → Node → List Item
 items_of owner node = said (group_of owner node.text)
 

@@ -38,14 +38,17 @@ tree_at records n = tree_of (take n records)
 
 -- ---- what stands at a path
 
+-- the kind of what stands there
 abbrev pub kind_of : Node → Kind
 kind_of node = node.entry.attr.kind
 
+-- whether an entry is a file
 abbrev pub is_file : Kind → Bool
 is_file File = true
 is_file Directory = false
 is_file Link = false
 
+-- whether an entry is a link
 abbrev pub is_link : Kind → Bool
 is_link File = false
 is_link Directory = false

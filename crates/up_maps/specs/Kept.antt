@@ -3,7 +3,7 @@ use Rattle.std.specs.Prelude.{◌≡◌, ◌≤◌, ◌<◌, Bool, true, List, v
 use Rattle.up_maps.specs.declared.long_list.Shape.{Shape}
 use Rattle.up_maps.specs.declared.long_list.Shape.TheVariants.{Short, Long}
 
--- its items
+-- the items of a long list, whichever shape it has
 abbrev pub items_of : {T : Type 0} → Shape T → List T
 items_of (Short items) = items.items
 items_of (Long long) = long.value.items

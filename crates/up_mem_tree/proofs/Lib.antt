@@ -33,3 +33,4 @@ pub mod Within
 pub mod Grouped
 pub mod Quiet
 pub mod Nameds
+pub mod Standings

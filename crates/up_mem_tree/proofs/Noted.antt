@@ -33,6 +33,10 @@ under-Decides p q =
       λ same. and_from _ _ (owners.1 (ap (λ (p : PathName). p.owner) same)) (elements.1 (sym (ap (λ (p : PathName). p.elements) same))),
     )
 
+-- a path of so many elements, under which another one is, is made of that one's first elements
+pub front_is : (front path : PathName) (n : ℕ) → length front.elements ≡ n → is_under path front ≡ true → front ≡ cut n path
+front_is front path n long under = sym ((under-Decides path front).0 under) ∙ ap (λ m. cut m path) long
+
 bool_cases : (b : Bool) → (b ≡ true) ⊎ (b ≡ false)
 bool_cases true = inl refl
 bool_cases false = inr refl

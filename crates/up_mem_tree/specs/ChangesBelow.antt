@@ -16,13 +16,14 @@ unders_of records path = positions_of (changes_some (λ name. is_under name path
 abbrev pub noted_all : List Under → List (List ℕ)
 noted_all changes_below = map (λ (under : Under). under.positions.items) changes_below
 
--- those at a number; behind the last list there are none
+-- the positions that are kept at a number; after the last list there are none
 abbrev pub noted_in : List (List ℕ) → ℕ → List ℕ
 noted_in lists id = unwrap_or (slice_get lists id) []
 
 -- there is room for one more position at a number
 abbrev pub HasRoomAt : List Under → ℕ → Type 0
-HasRoomAt changes_below id = (under : Under) × (slice_get changes_below id ≡ Some under) × (vec_len under.positions < vec_capacity under.positions)
+HasRoomAt changes_below id =
+    (under : Under) × (slice_get changes_below id ≡ Some under) × (vec_len under.positions < vec_capacity under.positions)
 
 -- Each slot has the changes at and below its path; a number without a slot has none.
 pub record AreNoted (records : List Rec) (slots : List Known) (lists : List (List ℕ)) : Type 0 where
@@ -34,13 +35,15 @@ pub record AreNoted (records : List Rec) (slots : List Known) (lists : List (Lis
 
 -- there is room at the slots of the first elements of a path, from so many on
 abbrev pub HasRoomFrom : List Under → List Known → PathName → ℕ → Type 0
-HasRoomFrom changes_below slots path low = (m id : ℕ) → low ≤ m → m ≤ length path.elements → path_in slots id ≡ Some (cut m path) → HasRoomAt changes_below id
+HasRoomFrom changes_below slots path low =
+    (m id : ℕ) → low ≤ m → m ≤ length path.elements → path_in slots id ≡ Some (cut m path) → HasRoomAt changes_below id
 
 -- a record that changes the path can be noted, without memory
 pub record CanNote (changes_below : List Under) (slots : List Known) (path : PathName) : Type 0 where
   pub way : HasRoomFrom changes_below slots path 0
   pub spare : HasRoomAt changes_below (length slots)
 
+-- a record that changes a path can be noted without memory
 abbrev pub CanNoteRecord : List Under → List Known → Rec → Type 0
 CanNoteRecord changes_below slots rec = IfSome (path_of_change rec) (CanNote changes_below slots)
 
@@ -54,9 +57,10 @@ pub record NotesWay (slots : List Known) (path : PathName) (low position : ℕ) 
   pub rest : (id : ℕ) → (IsOnWay slots path low id → ⊥) → slice_get new id ≡ slice_get old id
   pub size : length new ≡ length old
 
--- and at the next number, where the path has no slot yet
+-- a position was noted at the slots on the way to a path, and at the next number, where the path has no slot yet
 pub record Notes (slots : List Known) (paths : List PathName) (path : PathName) (position : ℕ) (old new : List Under) : Type 0 where
   pub way : (id : ℕ) → IsOnWay slots path 0 id → noted_in (noted_all new) id ≡ noted_in (noted_all old) id ++ position ∷ []
   pub own : has_path paths path ≡ false → noted_in (noted_all new) (length slots) ≡ noted_in (noted_all old) (length slots) ++ position ∷ []
-  pub rest : (id : ℕ) → (IsOnWay slots path 0 id → ⊥) → (has_path paths path ≡ false → id ≢ length slots) → noted_in (noted_all new) id ≡ noted_in (noted_all old) id
+  pub rest : (id : ℕ) → (IsOnWay slots path 0 id → ⊥) → (has_path paths path ≡ false → id ≢ length slots)
+      → noted_in (noted_all new) id ≡ noted_in (noted_all old) id
   pub size : length new ≡ length old

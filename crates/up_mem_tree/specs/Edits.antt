@@ -34,6 +34,7 @@ abbrev pub HasRoomFor : {X A : Type 0} → Vec (Change X) A → Option (Change X
 HasRoomFor changes None = ⊤
 HasRoomFor changes (Some change) = vec_len changes < vec_capacity changes
 
+-- the changes of a file, with one more where there is one
 abbrev pub changes_in : {X : Type 0} → List (Change X) → Option (Change X) → List (Change X)
 changes_in changes None = changes
 changes_in changes (Some change) = changes ++ change ∷ []
@@ -42,9 +43,10 @@ changes_in changes (Some change) = changes ++ change ∷ []
 unfoldable pub entered_own : Option Node → ℕ → Option (Change (List Item)) → Known → Known
 entered_own node position group slot = record slot { node = node; last = position; group = changes_in slot.group group }
 
--- that of its directory
+-- the slot of the directory of the path that a record changes
 unfoldable pub entered_parent : Edit → Edit → Option (Change (List Rule)) → Known → Known
-entered_parent named children access slot = record slot { named = edited named slot.named; children = edited children slot.children; access = changes_in slot.access access }
+entered_parent named children access slot =
+    record slot { named = edited named slot.named; children = edited children slot.children; access = changes_in slot.access access }
 
 -- the list with one of its slots changed
 abbrev pub changed_at : ℕ → (Known → Known) → List Known → List Known

@@ -12,7 +12,7 @@ use Rattle.up_log_tree.specs.Trees.{Tree, tree_at}
 unfoldable pub last_group_change : List Rec → ℕ
 last_group_change records = unwrap_or (last_or None (positions_of (changes_some is_group) 0 records)) 0
 
--- that position, for each record, among the records up to it
+-- for each record the position of the last record, up to it, that changes a Group path
 pub record AreGroupChanges (records : List Rec) (kept : List ℕ) : Type 0 where
   pub size : length kept ≡ length records
   pub each : (n : ℕ) → n < length records → slice_get kept n ≡ Some (last_group_change (take (suc n) records))

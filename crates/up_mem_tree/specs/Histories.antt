@@ -14,7 +14,8 @@ found n changes = fold (seen n) None changes
 -- whether each change is later than those before it, and none is later than that record
 abbrev pub are_rising : {X : Type 0} → ℕ → List (Change X) → Bool
 are_rising last [] = true
-are_rising last (change ∷ changes) = nat_le change.position last && list_all (λ later. nat_lt change.position later.position) changes && are_rising last changes
+are_rising last (change ∷ changes) =
+    nat_le change.position last && list_all (λ later. nat_lt change.position later.position) changes && are_rising last changes
 
 -- the changes rise, and give the text after each number of records, up to that one
 pub record Tells {X : Type 0} (changes : List (Change X)) (last : ℕ) (text : ℕ → Option X) : Type 0 where

@@ -21,9 +21,11 @@ use Rattle.up_log_tree.specs.Fits.{IsLog}
 use Rattle.up_mem_tree.specs.Slots.{AreLinked, AreSlotsOf, IsSlotOf, KeepsNumbers, Known, known, known_all, named_paths, path_in}
 use Rattle.up_log_tree.specs.Snapshots.{snapshots_of}
 
+-- what is known of the slots of a tree
 abbrev pub slots_of : Kept → List Known
 slots_of kept = known_all kept.slots.items
 
+-- the paths that the records of a tree name
 abbrev pub paths_of : Kept → List PathName
 paths_of kept = named_paths kept.log.items
 
@@ -35,7 +37,8 @@ befores_of records = map (λ n. unwrap_or (change_before records n) 0) (range_wi
 pub record Stands (kept : Kept) : Type 0 where
   pub log : IsLog kept.owner kept.log.items
   pub linked : AreLinked kept.owner (paths_of kept) (slots_of kept)
-  pub slots : (i : ℕ) (slot : Known) → slice_get (slots_of kept) i ≡ Some slot → IsSlotOf kept.owner kept.log.items (path_in (slots_of kept)) slot
+  pub slots : (i : ℕ) (slot : Known) → slice_get (slots_of kept) i ≡ Some slot
+      → IsSlotOf kept.owner kept.log.items (path_in (slots_of kept)) slot
   pub before : kept.before.items ≡ befores_of kept.log.items
   pub snaps : kept.snaps.entries ≡ snapshots_of kept.log.items
 
@@ -53,15 +56,18 @@ HasAbove paths path = MatchOption (parent_of path) ⊤ (λ dir. has_path paths d
 -- what changes in the directory of a path, where `after` makes its children others
 abbrev pub IsAboveIn : Kept → PathName → ℕ → (List PathName → List PathName) → Option (Change (List Rule)) → Option ParentStep → Type 0
 IsAboveIn kept path id after access above = MatchOption (parent_of path) (above ≡ None) (λ dir. MatchOption above ⊥
-    (IsAboveTo (paths_of kept) (slots_of kept) path id dir (children (tree_of kept.log.items) dir) (after (children (tree_of kept.log.items) dir)) access))
+    (IsAboveTo (paths_of kept) (slots_of kept) path id dir (children (tree_of kept.log.items) dir)
+    (after (children (tree_of kept.log.items) dir)) access))
 
 -- the step of a record that changes a path, after which that node stands there
 abbrev pub IsStepIn : Kept → Rec → PathName → Option Node → Step → Type 0
-IsStepIn kept rec path after step = IsStepOf kept.owner kept.log.items rec path after (paths_of kept) (slots_of kept) step × HasOwnRoom step.own step.group
+IsStepIn kept rec path after step =
+    IsStepOf kept.owner kept.log.items rec path after (paths_of kept) (slots_of kept) step × HasOwnRoom step.own step.group
 
 -- the step of a record; that of a Snap is none
 abbrev pub IsStepFor : Kept → Rec → Option Step → Type 0
-IsStepFor kept (Put entry text) step = MatchOption step ⊥ (IsStepIn kept (Put entry text) entry.name (Some (record { entry = entry; text = text })))
+IsStepFor kept (Put entry text) step =
+    MatchOption step ⊥ (IsStepIn kept (Put entry text) entry.name (Some (record { entry = entry; text = text })))
 IsStepFor kept (Delete path) step = MatchOption step ⊥ (IsStepIn kept (Delete path) path None)
 IsStepFor kept (Snap time) step = step ≡ None
 

@@ -21,17 +21,17 @@ pub record TreeLog : Type 0 where
 abbrev pub ready_record : Option Ready → Option Rec
 ready_record ready = option_map (λ (made : Ready). made.rec) ready
 
--- it fits, and can be entered
+-- the record that was made ready fits, and can be entered without memory
 abbrev pub CanEnter : Kept → Option Ready → Type 0
 CanEnter kept None = ⊤
 CanEnter kept (Some made) = Fits kept.owner kept.log.items made.rec × IsReadyFor kept made.rec made.step
 
--- and its position can be noted
+-- the position of the record that was made ready can be noted without memory
 abbrev pub CanBeNoted : Kept → List Under → Option Ready → Type 0
 CanBeNoted kept changes_below None = ⊤
 CanBeNoted kept changes_below (Some made) = CanNoteRecord changes_below (slots_of kept) made.rec
 
--- and the last change of a Group file be kept for it
+-- the last change of a Group file can be kept for the record that was made ready, without memory
 abbrev pub HasRoomFor : {A : Type 0} → Vec ℕ A → Option Ready → Type 0
 HasRoomFor groups None = ⊤
 HasRoomFor groups (Some made) = vec_len groups < vec_capacity groups

@@ -30,6 +30,7 @@ pub record Known : Type 0 where
   pub access : List (Change (List Rule))
   pub group : List (Change (List Item))
 
+-- what is known of a slot
 unfoldable pub known : Slot → Known
 known slot = record {
   path = slot.path;
@@ -42,6 +43,7 @@ known slot = record {
   group = slot.group.items;
 }
 
+-- what is known of each of these slots
 abbrev pub known_all : List Slot → List Known
 known_all slots = map known slots
 
@@ -90,9 +92,12 @@ pub record AreLinked (owner : List ℕ) (paths : List PathName) (slots : List Kn
   pub all : (path : PathName) → has_path paths path ≡ true → (i : ℕ) × (path_in slots i ≡ Some path)
   pub only : (i : ℕ) (path : PathName) → path_in slots i ≡ Some path → has_path paths path ≡ true
   pub root : (path : PathName) → path_in slots 0 ≡ Some path → path ≡ root_of owner
-  pub parents : (i : ℕ) (slot : Known) → slice_get slots i ≡ Some slot → option_map (path_in slots) slot.parent ≡ option_map Some (parent_of slot.path)
-  pub named : (i : ℕ) (slot : Known) → slice_get slots i ≡ Some slot → map (path_in slots) slot.named ≡ map Some (filter (is_parent slot.path) paths)
-  pub closed : (path : PathName) → has_path paths path ≡ true → MatchOption (parent_of path) (path.owner ≡ owner) (λ dir. has_path paths dir ≡ true)
+  pub parents : (i : ℕ) (slot : Known) → slice_get slots i ≡ Some slot
+      → option_map (path_in slots) slot.parent ≡ option_map Some (parent_of slot.path)
+  pub named : (i : ℕ) (slot : Known) → slice_get slots i ≡ Some slot
+      → map (path_in slots) slot.named ≡ map Some (filter (is_parent slot.path) paths)
+  pub closed : (path : PathName) → has_path paths path ≡ true
+      → MatchOption (parent_of path) (path.owner ≡ owner) (λ dir. has_path paths dir ≡ true)
 
 -- What a slot has of its path, and of the directory at it, is what the records give.
 pub record IsSlotOf (owner : List ℕ) (records : List Rec) (paths : ℕ → Option PathName) (slot : Known) : Type 0 where
@@ -110,14 +115,15 @@ pub record AreSlotsOf (owner : List ℕ) (records : List Rec) (slots : List Know
 -- the slot of the longest prefix of a path that has one, with the number of its elements
 pub record IsDeepest (paths : List PathName) (slots : List Known) (path : PathName) (found : Option (ℕ × ℕ)) : Type 0 where
   pub none : found ≡ None → (m : ℕ) → m ≤ length path.elements → has_path paths (cut m path) ≡ false
-  pub some : (n id : ℕ) → found ≡ Some (n, id) → (n ≤ length path.elements) × (path_in slots id ≡ Some (cut n path)) × ((m : ℕ) → n < m → m ≤ length path.elements → has_path paths (cut m path) ≡ false)
+  pub some : (n id : ℕ) → found ≡ Some (n, id) → (n ≤ length path.elements) × (path_in slots id ≡ Some (cut n path))
+      × ((m : ℕ) → n < m → m ≤ length path.elements → has_path paths (cut m path) ≡ false)
 
 -- the slot of the path, where it has one
 abbrev pub IsIdOf : List PathName → List Known → PathName → Option ℕ → Type 0
 IsIdOf paths slots path None = has_path paths path ≡ false
 IsIdOf paths slots path (Some id) = path_in slots id ≡ Some path
 
--- that of its parent, where it has one
+-- the slot of a path's parent, where the path has one
 abbrev pub IsParentIdOf : List PathName → List Known → PathName → Option ℕ → Type 0
 IsParentIdOf paths slots path id = MatchOption (parent_of path) (id ≡ None) (λ dir. IsIdOf paths slots dir id)
 

@@ -30,11 +30,12 @@ unfoldable pub stepped_above : Option ParentStep → List Known → List Known
 stepped_above None slots = slots
 stepped_above (Some parent) slots = changed_at parent.id (entered_parent parent.named parent.children parent.access) slots
 
--- and then at the path
+-- the slots after what is changed at the path
 unfoldable pub stepped_own : Own → Option Node → ℕ → Option (Change (List Item)) → List Known → List Known
 stepped_own (There id) node position group slots = changed_at id (entered_own node position group) slots
 stepped_own (New slot) node position group slots = slots ++ entered_own node position group (known slot) ∷ []
 
+-- what is known of the slots after a step: above the path, and then at it
 abbrev pub stepped : Step → List Known → List Known
 stepped step slots = stepped_own step.own step.node step.position step.group (stepped_above step.parent slots)
 
@@ -45,10 +46,14 @@ last_before (New slot) slots = 0
 
 -- ---- when it can be made, without memory
 
+-- the step can be made at the directory above, without memory
 abbrev pub CanEnterAbove : List Slot → Option ParentStep → Type 0
 CanEnterAbove slots None = ⊤
-CanEnterAbove slots (Some parent) = (slot : Slot) × (slice_get slots parent.id ≡ Some slot) × CanEdit slot.named parent.named × CanEdit slot.children parent.children × HasRoomFor slot.access parent.access
+CanEnterAbove slots (Some parent) =
+    (slot : Slot) × (slice_get slots parent.id ≡ Some slot) × CanEdit slot.named parent.named
+    × CanEdit slot.children parent.children × HasRoomFor slot.access parent.access
 
+-- the step can be made at the path, without memory
 abbrev pub CanEnterOwn : {A : Type 0} → Vec Slot A → Own → Option (Change (List Item)) → Type 0
 CanEnterOwn slots (There id) group = (slot : Slot) × (slice_get slots.items id ≡ Some slot) × HasRoomFor slot.group group
 CanEnterOwn slots (New slot) group = HasRoomFor slot.group group × (vec_len slots < vec_capacity slots)
@@ -77,7 +82,9 @@ IsInRange slots (New slot) = ⊤
 
 -- the edits are within the slot's siblings
 abbrev pub IsParentWithin : List Slot → ParentStep → Type 0
-IsParentWithin slots parent = (slot : Slot) × (slice_get slots parent.id ≡ Some slot) × IsWithin slot.named.items parent.named × IsWithin slot.children.items parent.children
+IsParentWithin slots parent =
+    (slot : Slot) × (slice_get slots parent.id ≡ Some slot)
+    × IsWithin slot.named.items parent.named × IsWithin slot.children.items parent.children
 
 -- ---- the step of a record
 
@@ -94,7 +101,7 @@ access_change owner path after position = elim (control_of path) [
   | control.Ordinary ↦ None
 ]
 
--- and of the text of the Group file at it
+-- what becomes of the text of the Group file at a path, after which that node stands there
 abbrev pub group_change : List ℕ → PathName → Option Node → ℕ → Option (Change (List Item))
 group_change owner path after position = elim (control_of path) [
   | control.Group ↦ Some (record { position = position; text = option_map (items_of owner) (group_file path after) })
@@ -121,25 +128,29 @@ abbrev pub own_id : List Known → Own → ℕ
 own_id slots (There id) = id
 own_id slots (New slot) = length slots
 
+-- this is the path's own slot: one that is there, or a new one
 abbrev pub IsOwnOf : List PathName → List Known → PathName → Option ℕ → Own → Type 0
 IsOwnOf paths slots path parent (There id) = path_in slots id ≡ Some path
 IsOwnOf paths slots path parent (New slot) = (has_path paths path ≡ false) × (known slot ≡ fresh_slot path parent)
 
 -- what changes in the directory at `dir`, where the path's slot has that number: its siblings there, by their paths, become
 -- those with the path, and the children these others
-pub record IsAboveTo (paths : List PathName) (slots : List Known) (path : PathName) (id : ℕ) (dir : PathName) (now after : List PathName) (access : Option (Change (List Rule))) (parent : ParentStep) : Type 0 where
+pub record IsAboveTo (paths : List PathName) (slots : List Known) (path : PathName) (id : ℕ) (dir : PathName)
+    (now after : List PathName) (access : Option (Change (List Rule))) (parent : ParentStep) : Type 0 where
   pub at : path_in slots parent.id ≡ Some dir
   pub named : IsEditTo parent.named id path (filter (is_parent dir) paths) (filter (is_parent dir) (with_path path paths))
   pub children : IsEditTo parent.children id path now after
   pub texts : parent.access ≡ access
 
--- the same, as the records go on by one that changes the path
+-- What changes in the directory at `dir`, as the records go on by one that changes the path.
 abbrev pub IsAboveOf : List ℕ → List Rec → Rec → PathName → Option Node → List PathName → List Known → ℕ → PathName → ParentStep → Type 0
 IsAboveOf owner records rec path after paths slots id dir parent =
-    IsAboveTo paths slots path id dir (children (tree_of records) dir) (children (tree_of (records ++ rec ∷ [])) dir) (access_change owner path after (length records + 1)) parent
+    IsAboveTo paths slots path id dir (children (tree_of records) dir)
+    (children (tree_of (records ++ rec ∷ [])) dir) (access_change owner path after (length records + 1)) parent
 
 -- The step of a record that changes a path, after which that node stands there.
-pub record IsStepOf (owner : List ℕ) (records : List Rec) (rec : Rec) (path : PathName) (after : Option Node) (paths : List PathName) (slots : List Known) (step : Step) : Type 0 where
+pub record IsStepOf (owner : List ℕ) (records : List Rec) (rec : Rec) (path : PathName)
+    (after : Option Node) (paths : List PathName) (slots : List Known) (step : Step) : Type 0 where
   pub position : step.position ≡ length records + 1
   pub node : step.node ≡ after
   pub group : step.group ≡ group_change owner path after (length records + 1)

@@ -6,6 +6,7 @@ ghost use Rattle.up_mem_tree.specs.Slots.{KeepsNumbers};
 ghost use Rattle.up_mem_tree.specs.Steps.{CanStep};
 ghost use Rattle.up_log_tree.specs.Fits.{Fits};
 
+use crate::guesses::guess;
 use crate::kept::Kept;
 use crate::rooms::reserve_step;
 use crate::steps::{Step, enter_step};
@@ -43,7 +44,11 @@ impl Kept {
         self.log.reserve(1)?;
         self.before.reserve(1)?;
         match step {
-            Some(step) => reserve_step(&mut self.slots, step),
+            Some(step) => {
+                let next = self.slots.len();
+                guess(&mut self.guesses, &step.own, next)?;
+                reserve_step(&mut self.slots, step)
+            }
             None => self.snaps.reserve_one(),
         }
     }

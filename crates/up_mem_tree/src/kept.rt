@@ -20,6 +20,8 @@ pub(crate) struct Kept {
     pub(crate) slots: Vec<Slot>,
     /// The positions of the snapshots, by their times.
     pub(crate) snaps: OrderedMap<u64, u64>,
+    /// Guesses of the slots of far paths, by marks of their texts. Nothing rests on them.
+    pub(crate) guesses: OrderedMap<u64, usize>,
 }
 
 impl Kept {
@@ -36,6 +38,7 @@ impl Kept {
             before: Vec::new(alloc),
             slots: Vec::new(alloc),
             snaps: OrderedMap::new(alloc),
+            guesses: OrderedMap::new(alloc),
         }
     }
 }

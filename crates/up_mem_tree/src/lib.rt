@@ -1,11 +1,12 @@
 //! The tree that a log gives, kept in memory.
 //!
-//! A [`MemTree`] is seen as its owner, the records of its log, and the record that was made ready to be entered next. `node` is
-//! exactly what stands at a path, `child` a directory's children in the order of paths, `access_at` and `group_at` the texts of
-//! control files after any number of records, `nearest_at` the one that governs a path; `fits` tells exactly whether a record fits
-//! the log. `make_ready` takes all memory that a record needs, so that `enter` takes none. Each call costs what it looks at, times a
-//! logarithm: so do `positions_under`, of the changes at and below a path, and `texts_stay`, by which what a text decided at one
-//! position is known to hold at another, whatever the records between them change. `laws.rt` says what holds of every log.
+//! A [`MemTree`] is seen as its owner, the records of its log, and the record that was made ready to be entered next. `node` is exactly
+//! what stands at a path, `standing` what stands nearest to it on the way up, `child` a directory's children in the order of paths,
+//! `access_at` and `group_at` the texts of control files after any number of records, `nearest_at` the one that governs a path; `fits`
+//! tells exactly whether a record fits the log. `make_ready` takes all memory that a record needs, so that `enter` takes none. Each
+//! call costs what it looks at, times a logarithm: so do `positions_under`, of the changes at and below a path, and `texts_stay`, by
+//! which what a text decided at one position is known to hold at another, whatever the records between them change. `laws.rt` says what
+//! holds of every log.
 #![tactic(auto)]
 
 mod changes;
@@ -14,6 +15,7 @@ mod edits;
 mod entering;
 mod fitting;
 mod groups;
+mod guesses;
 mod history;
 mod kept;
 mod laws;
@@ -24,6 +26,7 @@ mod positions;
 mod reading;
 mod rooms;
 mod slots;
+mod standing;
 mod steps;
 mod walk;
 

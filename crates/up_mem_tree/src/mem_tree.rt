@@ -1,6 +1,6 @@
 //! A tree in memory.
 ghost use Rattle.std.specs.Prelude.{◌≡◌, ◌≤◌, [], ◌∷◌, ◌++◌, false, true, None, Some, filter, length, option_map, slice_get, IfOk, IfSome, IsSome, OnOk};
-ghost use Rattle.std.specs.Option.{option_copied};
+ghost use Rattle.std.specs.Option.{option_and_then, option_copied};
 ghost use Rattle.up_policy.specs.Trees.{owns_snapshots};
 ghost use Rattle.std.specs.Map.{keys_of};
 ghost use Rattle.up_names.specs.PathNames.{cut};
@@ -13,7 +13,7 @@ ghost use Rattle.up_log_tree.specs.Changes.{change_before, changes_under, last_c
 ghost use Rattle.up_log_tree.specs.Fits.{Fits, IsLog, fits};
 ghost use Rattle.up_log_tree.specs.Rights.{facts_of, governing_prefix};
 ghost use Rattle.up_log_tree.specs.Snapshots.{snap_at, snapshots_of};
-ghost use Rattle.up_log_tree.specs.Trees.{children, is_parent, node_at, tree_at, tree_of};
+ghost use Rattle.up_log_tree.specs.Trees.{children, is_parent, node_at, standing_prefix, tree_at, tree_of};
 
 use crate::changes_below::{Under, changes_above, make_room, note, reserve_one};
 use crate::groups::{group_change_at, note_group};
@@ -142,6 +142,15 @@ impl MemTree {
         ensures { option_copied result ≡ node_at (tree_of self.now.log) path.now }
     {
         self.kept.node(path)
+    }
+
+    /// What stands at the longest prefix of a path at which something stands, the path itself included. It takes no memory, and reads
+    /// the path's text once.
+    pub fn standing(&self, path: &Path) -> Option<&Node>
+        ensures { option_copied result ≡ option_and_then (node_at (tree_of self.now.log))
+            (standing_prefix (tree_of self.now.log) path.now) }
+    {
+        self.kept.standing(path)
     }
 
     /// The path of child `i` of a directory, from 0, in the order of paths.

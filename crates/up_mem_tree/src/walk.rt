@@ -1,4 +1,4 @@
-//! From the root down to a path: each element is read once.
+//! From the root, or from a slot that was guessed right, down to a path: each element is read once.
 ghost use Rattle.std.specs.Prelude.{◌≡◌, ◌<◌, length, ◌+◌, Some};
 ghost use Rattle.up_names.specs.PathNames.{cut};
 ghost use Rattle.up_mem_tree.specs.Kept.{Stands, paths_of, slots_of};
@@ -17,8 +17,9 @@ impl Kept {
         if self.slots.is_empty() || path.owner() != &self.owner {
             return None;
         }
-        let mut id = 0;
-        for n in 0..path.len() {
+        let (start, first) = self.begin(path);
+        let mut id = first;
+        for n in start..path.len() {
             match self.step(id, path, n) {
                 Some(next) => id = next,
                 None => return Some((n, id)),

@@ -5,9 +5,11 @@ use Rattle.std.specs.List.{list_all, before_first, slice_split, ends_with}
 use Rattle.std.specs.Str.{byte, bytes_eq}
 use Rattle.up_names.specs.Texts.{Text}
 
+-- the byte LF
 abbrev pub is_line_feed : ℕ → Bool
 is_line_feed b = b == 0x0A
 
+-- the byte `#`
 abbrev pub is_number_sign : ℕ → Bool
 is_number_sign b = b == byte "#"
 

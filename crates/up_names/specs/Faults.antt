@@ -10,10 +10,10 @@ abbrev pub GivesBut : {X Y E : Type 0} → E → (X → Y) → Result X E → Re
 GivesBut memory view (Ok x) meant = meant ≡ Ok (view x)
 GivesBut memory view (Err fault) meant = fault ≢ memory → meant ≡ Err fault
 
--- the same of a name
+-- a call gives the name that is meant, or the fault that is meant; or it finds no memory
 abbrev pub Gives : {X Y : Type 0} → (X → Y) → Result X NameFault → Result Y NameFault → Type 0
 Gives view result meant = GivesBut name.OutOfMemory view result meant
 
--- and of a text of rules or members
+-- a call gives the text of rules or members that is meant, or the fault that is meant; or it finds no memory
 abbrev pub GivesText : {X Y : Type 0} → (X → Y) → Result X TextFault → Result Y TextFault → Type 0
 GivesText view result meant = GivesBut text.OutOfMemory view result meant

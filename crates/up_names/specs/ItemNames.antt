@@ -19,10 +19,12 @@ names_user (Err fault) text = false
 unfoldable pub is_everyone : Text → Bool
 is_everyone name = bytes_eq (str_to_ascii_lowercase name) (codes "all") || names_user (user_of name) (codes "all@upspin.io")
 
+-- the item of a domain, where a text names one
 abbrev pub domain_item : Option Text → Option Item
 domain_item (Some domain) = Some (Domain domain)
 domain_item None = None
 
+-- the item of a user, where a text names one
 abbrev pub user_item : Result UserName NameFault → Option Item
 user_item (Ok user) = Some (User user)
 user_item (Err fault) = None
@@ -32,10 +34,11 @@ abbrev pub group_item : Result PathName NameFault → Option Item
 group_item (Ok path) = if is_in_group path then Some (Group path) else None
 group_item (Err fault) = None
 
+-- whether a text has a `/`
 abbrev pub has_slash : Text → Bool
 has_slash name = list_any is_slash name
 
--- `*@` and what stands behind it, without a slash
+-- `*@` and what stands after it, without a slash
 abbrev pub is_domain_name : Text → Bool
 is_domain_name name = starts_with nat_eq name (codes "*@") && not (has_slash name)
 
@@ -44,7 +47,7 @@ abbrev pub has_owner : Text → Bool
 has_owner name = list_any is_at (before_first is_slash name)
 
 -- The item that a name stands for in a text of this owner, read in this order, or none where the name is bad: everyone;
--- `*@` and a domain; with an `@` before the first slash a user, or behind a slash a group; else the short name of a group
+-- `*@` and a domain; with an `@` before the first slash a user, or after a slash a group; else the short name of a group
 -- of the owner.
 unfoldable pub item_of : UserName → Text → Option Item
 item_of owner name =

@@ -15,6 +15,7 @@ pub record PathName : Type 0 where
   pub owner : UserName
   pub elements : List Text
 
+-- the byte `/`
 abbrev pub is_slash : ℕ → Bool
 is_slash b = b == byte "/"
 
@@ -56,7 +57,7 @@ staying up (piece ∷ rest) = if not (up piece) && has_no_surplus up rest then p
 unfoldable pub cleaned : List Text → List Text
 cleaned pieces = staying is_up (filter (λ piece. not (is_skipped piece)) pieces)
 
--- the pieces behind the owner: none, or those between the slashes
+-- the pieces after the owner: none, or those between the slashes
 unfoldable pub pieces_of : Text → List Text
 pieces_of text = if list_any is_slash text then slice_split is_slash (after_first is_slash text) else []
 
@@ -65,7 +66,7 @@ abbrev pub first_bad : ℕ → List Text → Option ℕ
 first_bad place [] = None
 first_bad place (piece ∷ rest) = if is_element piece then first_bad (place + length piece + 1) rest else Some place
 
--- the path of an owner and the pieces behind it, which begin at `place`
+-- the path of an owner and the pieces after it, which begin at `place`
 abbrev pub path_from : ℕ → List Text → Result UserName NameFault → Result PathName NameFault
 path_from place pieces (Err fault) = Err fault
 path_from place pieces (Ok owner) = elim (first_bad place pieces) [
@@ -114,6 +115,7 @@ joined path element =
     else if nat_lt 4096 (length text) then Err (TooLong (length text))
     else Ok (extended path element)
 
+-- whether the last element of a path is `Access`
 abbrev pub ends_in_access : PathName → Bool
 ends_in_access path = ends_with bytes_eq path.elements (codes "Access" ∷ [])
 

@@ -14,13 +14,15 @@ coded_path =
     code_by (List ℕ × List (List ℕ)) (coded× (coded_list coded_ℕ) (coded_list (coded_list coded_ℕ)))
     (λ path. (path.owner, path.elements)) (λ parts. record { owner = parts.0; elements = parts.1 }) (λ _. refl)
 
+-- two paths are equal: owner and elements are
 abbrev pub path_eq : PathName → PathName → Bool
 path_eq p q = bytes_eq p.owner q.owner && pointwise bytes_eq p.elements q.elements
 
--- by the parts: it breaks no tie between canonical paths, whose texts differ where they differ, and makes the order exact on all values
+-- Paths in order of owner and elements. It breaks no tie between canonical paths, whose texts differ where they differ, and makes the order
+-- exact on all values.
 abbrev pub parts_cmp : PathName → PathName → Ordering
 parts_cmp p q = ordering_then (slice_cmp nat_cmp p.owner q.owner) (slice_cmp (slice_cmp nat_cmp) p.elements q.elements)
 
--- by the bytes of the canonical texts
+-- paths in order of the bytes of their canonical texts
 abbrev pub path_cmp : PathName → PathName → Ordering
 path_cmp p q = ordering_then (slice_cmp nat_cmp (canonical p) (canonical q)) (parts_cmp p q)

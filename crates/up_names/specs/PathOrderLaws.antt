@@ -22,21 +22,28 @@ path_eq-Decides p q =
     let owners = bytes_eq-Decides p.owner q.owner in
     let elements = slice_eq-Decides bytes_eq-Decides p.elements q.elements (pointwise bytes_eq p.elements q.elements) refl in (
       λ same. let both = and_parts (bytes_eq p.owner q.owner) (pointwise bytes_eq p.elements q.elements) same in
-          ap (λ owner. record { owner = owner; elements = p.elements }) (owners.0 both.0) ∙ ap (λ elements. record { owner = q.owner; elements = elements }) (elements.0 both.1),
+          ap (λ owner. record { owner = owner; elements = p.elements }) (owners.0 both.0) ∙ ap
+          (λ elements. record { owner = q.owner; elements = elements }) (elements.0 both.1),
       λ same. and_from _ _ (owners.1 (ap (λ (p : PathName). p.owner) same)) (elements.1 (ap (λ (p : PathName). p.elements) same)),
     )
 
+-- the order of paths by owner and elements is a total order
 pub parts_total : IsTotalOrder parts_cmp
-parts_total = then_total (on_total (λ (p : PathName). p.owner) nat_list_cmp_total) (on_total (λ (p : PathName). p.elements) (lists_total nat_list_cmp_total))
+parts_total =
+    then_total (on_total (λ (p : PathName). p.owner) nat_list_cmp_total)
+    (on_total (λ (p : PathName). p.elements) (lists_total nat_list_cmp_total))
 
+-- the order of paths is a total order
 pub path_cmp_total : IsTotalOrder path_cmp
 path_cmp_total = then_total (on_total canonical nat_list_cmp_total) parts_total
 
+-- two comparisons, one after the other, say Equal only where each of them does
 then_equal : (o r : Ordering) → ordering_then o r ≡ Equal → (o ≡ Equal) × (r ≡ Equal)
 then_equal Less r h = absurd (false≢true (ap is_eq h))
 then_equal Equal r h = (refl, h)
 then_equal Greater r h = absurd (false≢true (ap is_eq h))
 
+-- texts that compare as Equal are equal
 same_bytes : IsAntisymmetric (slice_cmp nat_cmp)
 same_bytes = slice_cmp-IsAntisymmetric nat_cmp-IsAntisymmetric
 
@@ -48,11 +55,13 @@ path_exact p q h =
     ap (λ owner. record { owner = owner; elements = p.elements }) (same_bytes p.owner q.owner both.0)
     ∙ ap (λ elements. record { owner = q.owner; elements = elements }) (slice_cmp-IsAntisymmetric same_bytes p.elements q.elements both.1)
 
+-- a comparison that tells equality says Equal
 is_eq-Equal : (o : Ordering) → is_eq o ≡ true → o ≡ Equal
 is_eq-Equal Less h = absurd (false≢true h)
 is_eq-Equal Equal h = refl
 is_eq-Equal Greater h = absurd (false≢true h)
 
+-- comparing two paths decides whether they are equal
 path_cmp-Decides : (p q : PathName) → Decides (is_eq (path_cmp p q)) (p ≡ q)
 path_cmp-Decides p q =
     (λ h. path_exact p q (is_eq-Equal (path_cmp p q) h), λ same. ap (λ r. is_eq (path_cmp p r)) (sym same) ∙ ap is_eq (tied_itself path_cmp_total p))
@@ -61,15 +70,20 @@ path_cmp-Decides p q =
 pub path_cmp_eq : (p q : PathName) → path_eq p q ≡ is_eq (path_cmp p q)
 path_cmp_eq p q = same_from_decides (path_eq p q) (is_eq (path_cmp p q)) (path_eq-Decides p q) (path_cmp-Decides p q)
 
+-- equality of paths is an equivalence
 pub path_eq_equivalence : IsEquivalence path_eq
-path_eq_equivalence = and_equiv (on_equiv (λ (p : PathName). p.owner) nat_list_eq_equiv) (on_equiv (λ (p : PathName). p.elements) (lists_equiv nat_list_eq_equiv))
+path_eq_equivalence =
+    and_equiv (on_equiv (λ (p : PathName). p.owner) nat_list_eq_equiv)
+    (on_equiv (λ (p : PathName). p.elements) (lists_equiv nat_list_eq_equiv))
 
 -- equal paths are hashed alike
 pub path_hash : (p q : PathName) → path_eq p q ≡ true → fed.str (canonical p) ≡ fed.str (canonical q)
 path_hash p q same = ap (λ path. fed.str (canonical path)) ((path_eq-Decides p q).0 same)
 
+-- equality of paths is a partial equivalence
 pub path_eq_partial : IsPartialEquivalence path_eq
 path_eq_partial = partial_equiv_from_equiv path_eq_equivalence
 
+-- the order of paths is a partial order too
 pub path_partial_order : IsPartialOrder path_eq (as_partial_cmp path_cmp)
 path_partial_order = po path_cmp_total path_cmp_eq

@@ -4,7 +4,7 @@ use Rattle.std.specs.List.{after_first, before_first, slice_split}
 use Rattle.up_names.specs.Texts.{Text, UserName}
 use Rattle.up_names.specs.PathNames.{PathName, is_slash, IsCanonical, is_skipped, is_up, canonical, cut, extended}
 
--- what stands between the slashes behind the owner; nothing stands there at a root
+-- what stands between the slashes after the owner; nothing stands there at a root
 abbrev pub elements_behind : Text → List Text
 elements_behind [] = []
 elements_behind (b ∷ rest) = slice_split is_slash (b ∷ rest)
@@ -22,7 +22,7 @@ abbrev pub ends_from : ℕ → List Text → List ℕ
 ends_from place [] = []
 ends_from place (element ∷ elements) = (place + length element) ∷ ends_from (place + length element + 1) elements
 
--- where the i-th element, from 0, begins in the canonical text: the first behind the text of the root, another behind
+-- where the i-th element, from 0, begins in the canonical text: the first after the text of the root, another after
 -- the text of those before it and a slash
 abbrev pub begin_of : ℕ → PathName → ℕ
 begin_of zero path = length (canonical (cut 0 path))

@@ -8,12 +8,15 @@ use Rattle.up_names.specs.Texts.{Text, UserName}
 use Rattle.up_names.specs.declared.fault.NameFault.{NameFault}
 use Rattle.up_names.specs.declared.fault.NameFault.TheVariants.{TooLong, AtSigns, Local, Suffix, Domain}
 
+-- the byte `@`
 abbrev pub is_at : ℕ → Bool
 is_at b = b == byte "@"
 
+-- the byte `+`
 abbrev pub is_plus : ℕ → Bool
 is_plus b = b == byte "+"
 
+-- the byte `.`
 abbrev pub is_period : ℕ → Bool
 is_period b = b == byte "."
 
@@ -39,7 +42,8 @@ is_suffix part = has_bytes 1 32 is_name_byte part
 
 -- a label of a domain: 1 to 63 of a-z 0-9 -, with no - at either end
 unfoldable pub is_label : Text → Bool
-is_label label = has_bytes 1 63 is_label_byte label && not (starts_with nat_eq label (byte "-" ∷ [])) && not (ends_with nat_eq label (byte "-" ∷ []))
+is_label label =
+    has_bytes 1 63 is_label_byte label && not (starts_with nat_eq label (byte "-" ∷ [])) && not (ends_with nat_eq label (byte "-" ∷ []))
 
 -- a domain in lower case: at least two labels between periods, the last of at least 2 characters
 unfoldable pub is_domain : Text → Bool
@@ -59,11 +63,11 @@ without_final_period text = if ends_with nat_eq text (byte "." ∷ []) then take
 abbrev pub name_part : UserName → Text
 name_part user = before_first is_at user
 
--- the part behind the `@`
+-- the part after the `@`
 abbrev pub domain_part : UserName → Text
 domain_part user = after_first is_at user
 
--- the suffix behind the first `+` of a name part, if there is a `+`
+-- the suffix after the first `+` of a name part, if there is a `+`
 abbrev pub suffix_in : Text → Option Text
 suffix_in name = if list_any is_plus name then Some (after_first is_plus name) else None
 

@@ -43,7 +43,7 @@ abbrev pub Counts : {A E : Type 0} → ℕ → Result A E → ℕ → Type 0
 Counts old (Ok done) new = new ≡ old
 Counts old (Err e) new = new ≡ count_after old 1
 
--- it tells no image
+-- a disk over a file tells no image that a crash may leave
 abbrev pub no_image : {F : Type 0} → FileState F → List ℕ → Type 0
 no_image _ _ = ⊥
 

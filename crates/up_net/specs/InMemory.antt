@@ -25,12 +25,14 @@ GivesSame (Some byte) (Some bytes) new = (new ≡ Some byte) × ((n : ℕ) × (b
 GivesSame None None new = new ≡ None
 GivesSame _ _ _ = ⊥
 
--- of a machine nothing is told: any run, any reading and any bytes may come
+-- of a machine's programs nothing is told: any run may come
 abbrev pub AnyRun : {M : Type 0} → M → ProgramRun → M → Type 0
 AnyRun old run new = Unit {0}
 
+-- of a machine's clock nothing is told: any reading may come
 abbrev pub AnyReading : {M : Type 0} → M → Option Duration → M → Type 0
 AnyReading old reading new = Unit {0}
 
+-- of a machine's random source nothing is told: any bytes may come
 abbrev pub AnyBytes : {M : Type 0} → M → Option (List ℕ) → M → Type 0
 AnyBytes old bytes new = Unit {0}

@@ -30,7 +30,8 @@ abbrev pub silent_run : List ℕ → List (List ℕ) → Option ℤ → ProgramR
 silent_run program words status = record { program = program; words = words; status = status; printed = [] }
 
 -- a program ran once with these words, and its status is the verdict
-pub record RunsOnce {P : Type 0} (runs : P → ProgramRun → P → Type 0) (program : List ℕ) (words : List (List ℕ)) (old : P) (verdict : Option Verdict) (new : P) : Type 0 where
+pub record RunsOnce {P : Type 0} (runs : P → ProgramRun → P → Type 0) (program : List ℕ)
+    (words : List (List ℕ)) (old : P) (verdict : Option Verdict) (new : P) : Type 0 where
   pub status : Option ℤ
   pub ran : runs old (silent_run program words status) new
   pub says : verdict ≡ verdict_of_code status
@@ -51,7 +52,8 @@ signature_of_run (Some (pos n)) printed = if n == 0 then signature_in printed el
 signature_of_run _ printed = None
 
 -- a helper ran once with these words, and what it came to is the signature
-pub record SignsOnce {P : Type 0} (runs : P → ProgramRun → P → Type 0) (program : List ℕ) (words : List (List ℕ)) (old : P) (signature : Option (List ℕ)) (new : P) : Type 0 where
+pub record SignsOnce {P : Type 0} (runs : P → ProgramRun → P → Type 0) (program : List ℕ)
+    (words : List (List ℕ)) (old : P) (signature : Option (List ℕ)) (new : P) : Type 0 where
   pub status : Option ℤ
   pub printed : List ℕ
   pub ran : runs old (record { program = program; words = words; status = status; printed = printed }) new

@@ -22,7 +22,7 @@ in_front first more = option_and_then (λ x. prepended (x ∷ []) more) first
 abbrev pub escapes : Bool → ℕ → Bool
 escapes escaped c = not escaped && c == byte "\\"
 
--- the tokens of a text that stands behind a `\`, or behind none: each character, and whether it is escaped; none where a
+-- the tokens of a text that stands after a `\`, or after none: each character, and whether it is escaped; none where a
 -- `\` stands at the end
 unfoldable pub tokens_behind : Bool → List ℕ → Option (List Token)
 tokens_behind false [] = Some []
@@ -37,6 +37,7 @@ is_sign c token = not token.is_escaped && token.character == c
 
 -- ---- between brackets
 
+-- the sign `-` between brackets
 abbrev pub is_dash : Token → Bool
 is_dash token = is_sign (byte "-") token
 
@@ -51,7 +52,7 @@ ranges_of (low ∷ dash ∷ high ∷ rest) =
     if is_dash dash then in_front (range_of low high) (ranges_of rest) else in_front (range_of low low) (ranges_of (dash ∷ high ∷ rest))
 ranges_of (low ∷ rest) = in_front (range_of low low) (ranges_of rest)
 
--- the token behind a `-` and what follows it, where these are at the front
+-- the token after a `-` and what follows it, where these are at the front
 abbrev pub upper_end : List Token → Option (Token × List Token)
 upper_end (dash ∷ high ∷ rest) = if is_dash dash then Some (high, rest) else None
 upper_end tokens = None
@@ -61,7 +62,7 @@ abbrev pub some_ranges : List Token → Option (List Range)
 some_ranges [] = None
 some_ranges (first ∷ rest) = ranges_of (first ∷ rest)
 
--- what stands between brackets: ranges, or behind a `^` those that are excepted
+-- what stands between brackets: ranges, or after a `^` those that are excepted
 unfoldable pub class_of : List Token → Option Term
 class_of [] = None
 class_of (first ∷ rest) =
@@ -73,10 +74,11 @@ class_of (first ∷ rest) =
 abbrev pub term_of : Token → Term
 term_of token = if is_sign (byte "*") token then Many else if is_sign (byte "?") token then One else Char token.character
 
+-- the sign `]`
 abbrev pub is_close : Token → Bool
 is_close token = is_sign (byte "]") token
 
--- the terms of tokens that stand outside brackets, or inside them behind others: a `[` opens a class, which the next `]` closes
+-- the terms of tokens that stand outside brackets, or inside them after others: a `[` opens a class, which the next `]` closes
 unfoldable pub terms_behind : Option (List Token) → List Token → Option (List Term)
 terms_behind None [] = Some []
 terms_behind (Some inside) [] = None

@@ -10,7 +10,7 @@ use Rattle.up_pattern.specs.Spelling.{SpellsElement}
 abbrev pub TermsAreSpelled : Type 0
 TermsAreSpelled = (text : List ℕ) (terms : List Term) → (terms_of text ≡ Some terms) ↔ SpellsElement terms text
 
--- and so it is read in one way
+-- the law that a text is read as an element in one way
 abbrev pub SpellingIsOne : Type 0
 SpellingIsOne = (text : List ℕ) (one two : List Term) → SpellsElement one text → SpellsElement two text → one ≡ two
 

@@ -10,6 +10,7 @@ use Rattle.up_pattern.specs.declared.terms.Term.TheVariants.{Many, One, Char, On
 abbrev pub is_in_range : ℕ → Range → Bool
 is_in_range c range = nat_le range.low c && nat_le c range.high
 
+-- whether a term is `*`
 abbrev pub is_many : Term → Bool
 is_many Many = true
 is_many term = false
@@ -37,7 +38,7 @@ abbrev pub cuts : List ℕ → List (List ℕ × List ℕ)
 cuts [] = ([], []) ∷ []
 cuts (c ∷ rest) = ([], c ∷ rest) ∷ map (λ cut. (c ∷ cut.0, cut.1)) (cuts rest)
 
--- the same as a test: the empty text is cut into no pieces, and otherwise the first piece is cut off in some way
+-- Whether terms match a text, as a test: the empty text is cut into no pieces, and otherwise the first piece is cut off in some way.
 unfoldable pub matches : List Term → List ℕ → Bool
 matches [] [] = true
 matches [] (c ∷ rest) = false

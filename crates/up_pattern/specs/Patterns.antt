@@ -1,4 +1,4 @@
--- Patterns of Glob: a literal user name, and elements behind it, cleaned as those of a path (this project's own).
+-- Patterns of Glob: a literal user name, and elements after it, cleaned as those of a path (this project's own).
 use Rattle.std.specs.Prelude.{ℕ, Bool, true, false, ◌-◌, ◌&&◌, ◌||◌, not, nat_lt, if◌then◌else◌, List, [], ◌∷◌, ◌++◌, length, take, map, slice_get, Option, Some, None, is_some, unwrap_or, option_and_then, Result, Ok, Err, codes, position}
 use Rattle.std.specs.List.{before_first}
 use Rattle.std.specs.Option.{option_map_or}
@@ -31,6 +31,7 @@ element_of piece =
     if is_element piece then option_and_then (λ terms. if hides_step piece terms then None else Some terms) (terms_of (chars piece))
     else None
 
+-- whether a piece is no element of a pattern
 abbrev pub is_bad : List ℕ → Bool
 is_bad piece = not (is_some (element_of piece))
 
@@ -43,15 +44,16 @@ abbrev pub elements_unless : Option ℕ → List (List ℕ) → Result (List (Li
 elements_unless None pieces = Ok (map terms_in (cleaned pieces))
 elements_unless (Some place) pieces = Err (Element place)
 
--- the elements of the pieces behind an owner, or the place of the first bad piece, also where a later `..` drops it
+-- the elements of the pieces after an owner, or the place of the first bad piece, also where a later `..` drops it
 unfoldable pub elements_of : List (List ℕ) → Result (List (List Term)) PatternFault
 elements_of pieces = elements_unless (position is_bad pieces) pieces
 
+-- the pattern of this owner and these elements, or why there are none
 abbrev pub with_owner : List ℕ → Result (List (List Term)) PatternFault → Result PatternName PatternFault
 with_owner owner (Ok elements) = Ok (record { owner = owner; elements = elements })
 with_owner owner (Err fault) = Err fault
 
--- the pattern of an owner and the pieces behind it
+-- the pattern of an owner and the pieces after it
 abbrev pub pattern_from : List (List ℕ) → Result (List ℕ) NameFault → Result PatternName PatternFault
 pattern_from pieces (Ok owner) = with_owner owner (elements_of pieces)
 pattern_from pieces (Err fault) = Err Name

@@ -14,7 +14,7 @@ abbrev pub joined : {X : Type 0} → List (List X) → List X
 joined [] = []
 joined (piece ∷ pieces) = piece ++ joined pieces
 
--- a character as it is written: an escaped one behind a `\`
+-- a character as it is written: an escaped one after a `\`
 abbrev pub spelled : Token → List ℕ
 spelled token = if token.is_escaped then byte "\\" ∷ token.character ∷ [] else token.character ∷ []
 
@@ -26,25 +26,30 @@ is_token token = token.is_escaped || not (token.character == byte "\\")
 abbrev pub SpellsRange : Range → List Token → Type 0
 SpellsRange range piece =
     ((c : Token) × (piece ≡ c ∷ []) × (range_of c c ≡ Some range))
-    ⊎ ((low : Token) × (dash : Token) × (high : Token) × (piece ≡ low ∷ dash ∷ high ∷ []) × (is_dash dash ≡ true) × (range_of low high ≡ Some range))
+    ⊎
+    ((low : Token) × (dash : Token) × (high : Token) × (piece ≡ low ∷ dash ∷ high ∷ []) × (is_dash dash ≡ true)
+    × (range_of low high ≡ Some range))
 
 -- tokens can be cut into pieces, one for each range, that are written so
 abbrev pub SpellsRanges : List Range → List Token → Type 0
 SpellsRanges ranges tokens = (pieces : List (List Token)) × (joined pieces ≡ tokens) × AllZip SpellsRange ranges pieces
 
--- what stands between brackets, of a class: one range at least, behind a `^` those that are excepted
+-- what stands between brackets, of a class: one range at least, after a `^` those that are excepted
 abbrev pub SpellsClass : Term → List Token → Type 0
 SpellsClass (OneOf ranges) inside =
     (first : Token) × (rest : List Token) × (inside ≡ first ∷ rest) × (is_sign (byte "^") first ≡ false) × SpellsRanges ranges inside
 SpellsClass (NoneOf ranges) inside =
-    (caret : Token) × (first : Token) × (rest : List Token) × (inside ≡ caret ∷ first ∷ rest) × (is_sign (byte "^") caret ≡ true) × SpellsRanges ranges (first ∷ rest)
+    (caret : Token) × (first : Token) × (rest : List Token) × (inside ≡ caret ∷ first ∷ rest)
+    × (is_sign (byte "^") caret ≡ true) × SpellsRanges ranges (first ∷ rest)
 SpellsClass term inside = ⊥
 
 -- A term as it is written: `*`, `?` or a character that is no sign; or a class between brackets, in which no other `]` is.
 abbrev pub SpellsTerm : Term → List Token → Type 0
 SpellsTerm term piece =
     ((token : Token) × (piece ≡ token ∷ []) × (is_sign (byte "[") token ≡ false) × (term_of token ≡ term))
-    ⊎ ((opening : Token) × (inside : List Token) × (closing : Token) × (piece ≡ opening ∷ (inside ++ closing ∷ [])) × (is_sign (byte "[") opening ≡ true)
+    ⊎
+    ((opening : Token) × (inside : List Token) × (closing : Token) × (piece ≡ opening ∷ (inside ++ closing ∷ []))
+    × (is_sign (byte "[") opening ≡ true)
     × (list_any is_close inside ≡ false) × (is_close closing ≡ true) × SpellsClass term inside)
 
 -- A text is an element of these terms where it spells tokens that can be cut into pieces, one for each term, that are

@@ -29,7 +29,8 @@ abbrev pub has_address : {P : Type 0} → List ℕ → KeptPeer P → Bool
 has_address address kept = bytes_eq kept.address address
 
 -- A peer was asked this question: its record grew by it with the answer, where it tells.
-pub record WasAsked {P E : Type 0} (asked : P → Option (List PeerCall)) (faults : P → ℕ) (old new : KeptPeer P) (question : PeerQuestion) (result : Result PeerAnswer E) : Type 0 where
+pub record WasAsked {P E : Type 0} (asked : P → Option (List PeerCall)) (faults : P → ℕ)
+    (old new : KeptPeer P) (question : PeerQuestion) (result : Result PeerAnswer E) : Type 0 where
   pub told : Grew (asked old.peer) (asked new.peer) (call_of question result)
   pub counts : HasCause (faults old.peer) (faults new.peer) (result ≡ Ok Failed)
   pub quiet : StaysUnless (faults old.peer) (faults new.peer) (result ≡ Ok Failed)
@@ -37,7 +38,8 @@ pub record WasAsked {P E : Type 0} (asked : P → Option (List PeerCall)) (fault
   pub address : new.address ≡ old.address
 
 -- The peer at a place was asked, and all others stay as they were.
-pub record AsksAt {P E : Type 0} (asked : P → Option (List PeerCall)) (faults : P → ℕ) (i : ℕ) (old new : List (KeptPeer P)) (question : PeerQuestion) (result : Result PeerAnswer E) : Type 0 where
+pub record AsksAt {P E : Type 0} (asked : P → Option (List PeerCall)) (faults : P → ℕ) (i : ℕ)
+    (old new : List (KeptPeer P)) (question : PeerQuestion) (result : Result PeerAnswer E) : Type 0 where
   pub before : KeptPeer P
   pub after : KeptPeer P
   pub there : slice_get old i ≡ Some before
@@ -45,6 +47,7 @@ pub record AsksAt {P E : Type 0} (asked : P → Option (List PeerCall)) (faults 
   pub answered : WasAsked asked faults before after question result
 
 -- The peer at the place, if there is one, was asked and no other; else nobody was, and the answer is that there is nothing.
-abbrev pub Asks : {P E : Type 0} → (P → Option (List PeerCall)) → (P → ℕ) → Option ℕ → List (KeptPeer P) → List (KeptPeer P) → PeerQuestion → Result PeerAnswer E → Type 0
+abbrev pub Asks : {P E : Type 0} → (P → Option (List PeerCall)) → (P → ℕ) → Option ℕ
+    → List (KeptPeer P) → List (KeptPeer P) → PeerQuestion → Result PeerAnswer E → Type 0
 Asks asked faults None old new question result = (new ≡ old) × (result ≡ Ok Nothing)
 Asks asked faults (Some i) old new question result = AsksAt asked faults i old new question result

@@ -51,13 +51,15 @@ IfAnswered as_made (Ok given) answer = as_made given answer
 IfAnswered as_made (Err e) answer = answer ≡ None
 
 -- A load: the first peer that has the owner was asked and no other, and what it gave is the answer.
-pub record LoadsFrom {P : Type 0} (asked : P → Option (List PeerCall)) (faults : P → ℕ) (old : List (KeptPeer P)) (question : GroupQuestion) (answer : Option LoadAnswer) (new : List (KeptPeer P)) : Type 0 where
+pub record LoadsFrom {P : Type 0} (asked : P → Option (List PeerCall)) (faults : P → ℕ) (old : List (KeptPeer P))
+    (question : GroupQuestion) (answer : Option LoadAnswer) (new : List (KeptPeer P)) : Type 0 where
   pub given : Result PeerAnswer AllocError
   pub asks : Asks asked faults (position (has_owner question.name.owner) old) old new (questions.Group question.name) given
   pub made : IfAnswered (LoadsAs question.name.owner) given answer
 
 -- A fetch: the first peer that has the address was asked and no other, and what it gave is the answer.
-pub record FetchesFrom {P : Type 0} (asked : P → Option (List PeerCall)) (faults : P → ℕ) (old : List (KeptPeer P)) (question : BlockQuestion) (answer : Option Fetch) (new : List (KeptPeer P)) : Type 0 where
+pub record FetchesFrom {P : Type 0} (asked : P → Option (List PeerCall)) (faults : P → ℕ) (old : List (KeptPeer P))
+    (question : BlockQuestion) (answer : Option Fetch) (new : List (KeptPeer P)) : Type 0 where
   pub given : Result PeerAnswer AllocError
   pub asks : Asks asked faults (position (has_address question.address) old) old new (questions.Block question.reference) given
   pub made : answer ≡ option_map fetch_of (result_ok given)

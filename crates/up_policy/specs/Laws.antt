@@ -32,7 +32,9 @@ ReachedIsReached = (tree : TreeFacts) (listed : List PathName) (loaded : Loading
 
 -- the test of a right holds exactly where the user has the right
 abbrev pub TestIsRight : Type 0
-TestIsRight = (tree : TreeFacts) (listed : List PathName) (loaded : Loading) (user : UserName) (right : Right) (path : PathName) → ListsGroups tree listed →
+TestIsRight =
+    (tree : TreeFacts) (listed : List PathName) (loaded : Loading) (user : UserName) (right : Right) (path : PathName)
+    → ListsGroups tree listed →
     IsTrue (right_test tree listed loaded user right path) ↔ HasRight tree loaded user right path
 
 -- the second loading has each text of the first

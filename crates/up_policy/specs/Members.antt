@@ -44,7 +44,7 @@ names_in texts group = groups_in (items_in texts group)
 abbrev pub has_user : GroupTexts → UserName → PathName → Bool
 has_user texts user group = list_any (is_user user) (items_in texts group)
 
--- A list of groups, the first and those behind it, that shows that the user belongs to the first: the text of each but
+-- A list of groups, the first and those after it, that shows that the user belongs to the first: the text of each but
 -- the last names the next, and the text of the last names the user, the user's domain or everyone.
 abbrev pub Chain : GroupTexts → UserName → PathName → List PathName → Type 0
 Chain texts user first [] = IsTrue (has_user texts user first)

@@ -80,9 +80,10 @@ without_text owner user right path =
 -- the last two cases, by the text that governs
 unfoldable pub text_decides : TreeFacts → std.List PathName → Loading → UserName → Right → Option (std.List Rule) → Bool
 text_decides tree listed loaded user right None = bytes_eq user tree.owner
-text_decides tree listed loaded user right (Some rules) = grants (text_of tree loaded) (listed ++ keys_of loaded) user (items_for right rules)
+text_decides tree listed loaded user right (Some rules) =
+    grants (text_of tree loaded) (listed ++ keys_of loaded) user (items_for right rules)
 
--- The same as a test that computes. `listed` has each path at which the tree has a Group text.
+-- Whether a user has a right on a path, as a test that computes. `listed` has each path at which the tree has a Group text.
 unfoldable pub right_test : TreeFacts → std.List PathName → Loading → UserName → Right → PathName → Bool
 right_test tree listed loaded user right path = elim (without_text tree.owner user right path) [
   | Some answer ↦ answer

@@ -23,7 +23,11 @@ damaged_at which place = record { text = ended (codes "damaged " ++ decimal whic
 -- `chain I P WANTED GOT`: in the log at place I the record at byte P has to carry the first digest, and carries the second
 abbrev pub chain_at : ℕ → ℕ → List ℕ → List ℕ → Answer
 chain_at which gate wanted got =
-    record { text = ended (codes "chain " ++ decimal which ++ codes " " ++ decimal gate ++ codes " " ++ text_of wanted ++ codes " " ++ text_of got); status = 8 }
+    record {
+      text = ended
+          (codes "chain " ++ decimal which ++ codes " " ++ decimal gate ++ codes " " ++ text_of wanted ++ codes " " ++ text_of got);
+      status = 8;
+    }
 
 -- `oldformat I`: the log at place I is one of the first format
 abbrev pub old_format_at : ℕ → Answer

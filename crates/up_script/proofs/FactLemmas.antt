@@ -29,7 +29,7 @@ use Rattle.up_wire.specs.declared.replies.Reply.TheVariants as reply
 use Rattle.up_script.specs.Facts.{Facts, io_came}
 use Rattle.up_script.proofs.LineLemmas.{Kept, kept_of}
 use Rattle.up_script.specs.ScriptAnswers.{among}
-use Rattle.up_script.specs.Scripts.{AskCame, CallCame, CallDone, Came, Did, EnrolCame, HostCame, LineCame, OpenCame, SaysCame, got_said, put_said, replied, signed}
+use Rattle.up_script.specs.Scripts.{AskCame, CallCame, CallDone, LineResult, LineDid, EnrolCame, HostCame, LineCame, OpenCame, SaysCame, result_of_get, result_of_put, result_of_reply, did_of_open}
 use Rattle.up_script.specs.Standing.{world}
 use Rattle.up_script_lines.specs.declared.script_lines.NewHost.{NewHost}
 use Rattle.up_script_lines.specs.declared.script_lines.NewSession.{NewSession}
@@ -39,46 +39,46 @@ use Rattle.up_script_lines.specs.declared.script_lines.ScriptLine.TheVariants as
 use Rattle.up_script.specs.declared.stop.LineStop.TheVariants as stop
 
 -- the lines `io` of what is said of a reply
-pub replied_io : (number : ℕ) (given : Reply) → io_came (replied number given) ≡ io_of given
+pub replied_io : (number : ℕ) (given : Reply) → io_came (result_of_reply number given) ≡ io_of given
 replied_io number reply.OutOfMemory = refl
 replied_io number given = refl
 
-replied_disk : (number : ℕ) (given : Reply) → replied number given ≡ Err stop.DiskFault → ⊥
+replied_disk : (number : ℕ) (given : Reply) → result_of_reply number given ≡ Err stop.DiskFault → ⊥
 replied_disk number reply.OutOfMemory h = cc
 replied_disk number given h = cc
 
-replied_helper : (number : ℕ) (given : Reply) → replied number given ≡ Err stop.HelperFault → ⊥
+replied_helper : (number : ℕ) (given : Reply) → result_of_reply number given ≡ Err stop.HelperFault → ⊥
 replied_helper number reply.OutOfMemory h = cc
 replied_helper number given h = cc
 
 -- and of what came of a put or get
-put_io : (number : ℕ) (result : Result ℕ ClientFault) → io_came (put_said number result) ≡ talking.io_in result
+put_io : (number : ℕ) (result : Result ℕ ClientFault) → io_came (result_of_put number result) ≡ talking.io_in result
 put_io number (Err client.OutOfMemory) = refl
 put_io number result = refl
 
-got_io : (number : ℕ) (result : Result (List ℕ) ClientFault) → io_came (got_said number result) ≡ talking.io_in result
+got_io : (number : ℕ) (result : Result (List ℕ) ClientFault) → io_came (result_of_get number result) ≡ talking.io_in result
 got_io number (Err client.OutOfMemory) = refl
 got_io number result = refl
 
-put_no_disk : (number : ℕ) (result : Result ℕ ClientFault) → put_said number result ≡ Err stop.DiskFault → ⊥
+put_no_disk : (number : ℕ) (result : Result ℕ ClientFault) → result_of_put number result ≡ Err stop.DiskFault → ⊥
 put_no_disk number (Err client.OutOfMemory) h = cc
 put_no_disk number result h = cc
 
-put_no_helper : (number : ℕ) (result : Result ℕ ClientFault) → put_said number result ≡ Err stop.HelperFault → ⊥
+put_no_helper : (number : ℕ) (result : Result ℕ ClientFault) → result_of_put number result ≡ Err stop.HelperFault → ⊥
 put_no_helper number (Err client.OutOfMemory) h = cc
 put_no_helper number result h = cc
 
-got_no_disk : (number : ℕ) (result : Result (List ℕ) ClientFault) → got_said number result ≡ Err stop.DiskFault → ⊥
+got_no_disk : (number : ℕ) (result : Result (List ℕ) ClientFault) → result_of_get number result ≡ Err stop.DiskFault → ⊥
 got_no_disk number (Err client.OutOfMemory) h = cc
 got_no_disk number result h = cc
 
-got_no_helper : (number : ℕ) (result : Result (List ℕ) ClientFault) → got_said number result ≡ Err stop.HelperFault → ⊥
+got_no_helper : (number : ℕ) (result : Result (List ℕ) ClientFault) → result_of_get number result ≡ Err stop.HelperFault → ⊥
 got_no_helper number (Err client.OutOfMemory) h = cc
 got_no_helper number result h = cc
 
 module _ {D P V C N : Type 0} (who : Parties D P V C N) (limits : Limits) where
   -- nothing was done
-  pub none_facts : (a : World D P V C N) (came : Came) → io_came came ≡ 0 → came ≢ Err stop.DiskFault → came ≢ Err stop.HelperFault → Facts who a came a
+  pub none_facts : (a : World D P V C N) (came : LineResult) → io_came came ≡ 0 → came ≢ Err stop.DiskFault → came ≢ Err stop.HelperFault → Facts who a came a
   none_facts a came none disk helper = record {
     io = record { later = omega arith; io = λ below. omega (arith, none) };
     disks = omega arith;
@@ -89,7 +89,7 @@ module _ {D P V C N : Type 0} (who : Parties D P V C N) (limits : Limits) where
     fits = λ done fit. fit;
   }
 
-  pub host_facts : (host : NewHost) (around : Around P V C N) (x y : Hosts D) (came : Came) → length host.owners ≤ 8 → HostCame who.disks limits host x came y → Facts who (among x around) came (among y around)
+  pub host_facts : (host : NewHost) (around : Around P V C N) (x y : Hosts D) (came : LineResult) → length host.owners ≤ 8 → HostCame who.disks limits host x came y → Facts who (among x around) came (among y around)
   host_facts host around x y came few (HostCame.opened new opens) =
       let line : HostLine who limits host.name host.operator host.owners (among x around) (Ok tt) (among y around) = record { opens = opens; around = refl } in
       record {
@@ -125,7 +125,7 @@ module _ {D P V C N : Type 0} (who : Parties D P V C N) (limits : Limits) where
         fits = λ done fit. absurd (false≢true done);
       }
 
-  enrol_made : (user : NewUser) (around : Around P V C N) (x y : Hosts D) (place : ℕ) (result : Result ℕ AppendWhy) (came : Came) → EnrolsAt who.disks place user.user user.key x result y → io_came came ≡ 0
+  enrol_made : (user : NewUser) (around : Around P V C N) (x y : Hosts D) (place : ℕ) (result : Result ℕ AppendWhy) (came : LineResult) → EnrolsAt who.disks place user.user user.key x result y → io_came came ≡ 0
       → (came ≡ Err stop.DiskFault → result ≡ Err append.Fault) → came ≢ Err stop.HelperFault → Facts who (among x around) came (among y around)
   enrol_made user around x y place result came enrols none disk helper =
       let line : EnrolLine who place user.user user.key (among x around) result (among y around) = record { enrols = enrols; around = refl } in
@@ -140,7 +140,7 @@ module _ {D P V C N : Type 0} (who : Parties D P V C N) (limits : Limits) where
         fits = λ done fit. enrol_fits who place user.user user.key (among x around) (among y around) result line fit;
       }
 
-  pub enrol_facts : (user : NewUser) (around : Around P V C N) (x y : Hosts D) (came : Came) → EnrolCame who.disks user x came y → Facts who (among x around) came (among y around)
+  pub enrol_facts : (user : NewUser) (around : Around P V C N) (x y : Hosts D) (came : LineResult) → EnrolCame who.disks user x came y → Facts who (among x around) came (among y around)
   enrol_facts user around x y came (EnrolCame.enrolled {place = place} {position = position} at enrols) = enrol_made user around x y place (Ok position) came enrols refl (λ h. absurd (cc)) (λ h. cc)
   enrol_facts user around x y came (EnrolCame.full {place = place} {records = records} at enrols) = enrol_made user around x y place (Err (append.Full records)) came enrols refl (λ h. absurd (cc)) (λ h. cc)
   enrol_facts user around x y came (EnrolCame.unknown none) = none_facts (among x around) came refl (λ h. cc) (λ h. cc)
@@ -152,7 +152,7 @@ module _ {D P V C N : Type 0} (who : Parties D P V C N) (limits : Limits) where
   judged_later host (Some card) signature v w n m given judged = judged.counts.later
   judged_later host None signature v w n m given judged = let same : who.verifiers.faults w ≡ who.verifiers.faults v = ap who.verifiers.faults judged.1 in omega (arith, same)
 
-  signed_made : (s : NewSession) (x y : Hosts D) (p : P) (v w : V) (c : C) (n m : N) (place : ℕ) (result : Result Bool LineFault) (came : Came) → SignsOn who.verifiers who.nonces s.number place s.user s.proof x v n result y w m
+  signed_made : (s : NewSession) (x y : Hosts D) (p : P) (v w : V) (c : C) (n m : N) (place : ℕ) (result : Result Bool LineFault) (came : LineResult) → SignsOn who.verifiers who.nonces s.number place s.user s.proof x v n result y w m
       → io_came came ≡ 0 → came ≢ Err stop.DiskFault → (came ≡ Err stop.HelperFault → result ≡ Err fault.Fault) → Facts who (world x p v c n) came (world y p w c m)
   signed_made s x y p v w c n m place result came signs none disk helper =
       let line : OpenLine who s.number place s.user s.proof (world x p v c n) result (world y p w c m) = record { signs = signs; peers = refl; clock = refl } in
@@ -167,17 +167,17 @@ module _ {D P V C N : Type 0} (who : Parties D P V C N) (limits : Limits) where
         fits = λ done fit. open_fits who s.number place s.user s.proof (world x p v c n) (world y p w c m) result line fit;
       }
 
-  signed_io : (number : ℕ) (is_open : Bool) → io_came (Ok (signed number is_open)) ≡ 0
+  signed_io : (number : ℕ) (is_open : Bool) → io_came (Ok (did_of_open number is_open)) ≡ 0
   signed_io number true = refl
   signed_io number false = refl
 
-  pub open_facts : (s : NewSession) (x y : Hosts D) (p : P) (v w : V) (c : C) (n m : N) (came : Came) → OpenCame who.verifiers who.nonces s x v n came y w m → Facts who (world x p v c n) came (world y p w c m)
+  pub open_facts : (s : NewSession) (x y : Hosts D) (p : P) (v w : V) (c : C) (n m : N) (came : LineResult) → OpenCame who.verifiers who.nonces s x v n came y w m → Facts who (world x p v c n) came (world y p w c m)
   open_facts s x y p v w c n m came (OpenCame.judged {place = place} {is_open = is_open} at signs) = signed_made s x y p v w c n m place (Ok is_open) came signs (signed_io s.number is_open) (λ h. cc) (λ h. absurd (cc))
   open_facts s x y p v w c n m came (OpenCame.unknown none) = none_facts (world x p v c n) came refl (λ h. cc) (λ h. cc)
   open_facts s x y p v w c n m came (OpenCame.failed {place = place} at signs) = signed_made s x y p v w c n m place (Err fault.Fault) came signs refl (λ h. cc) (λ h. refl)
   open_facts s x y p v w c n m came (OpenCame.wanting {place = place} at signs) = signed_made s x y p v w c n m place (Err fault.OutOfMemory) came signs refl (λ h. cc) (λ h. absurd (cc))
 
-  pub ask_facts : (number : ℕ) (words : List Text) (x y : Hosts D) (p q : P) (v : V) (c d : C) (n : N) (came : Came) → AskCame who.disks who.peers who.clocks number words x p c came y q d → Facts who (world x p v c n) came (world y q v d n)
+  pub ask_facts : (number : ℕ) (words : List Text) (x y : Hosts D) (p q : P) (v : V) (c d : C) (n : N) (came : LineResult) → AskCame who.disks who.peers who.clocks number words x p c came y q d → Facts who (world x p v c n) came (world y q v d n)
   ask_facts number words x y p q v c d n came (AskCame.no_session none) = none_facts (world x p v c n) came refl (λ h. cc) (λ h. cc)
   ask_facts number words x y p q v c d n came (AskCame.asked {opened = opened} {request = request} {moment = moment} {e = e} there is read asks) =
       let line : RequestLine who number request (world x p v c n) e (world y q v d n) = record {
@@ -197,7 +197,7 @@ module _ {D P V C N : Type 0} (who : Parties D P V C N) (limits : Limits) where
       }
   ask_facts number words x y p q v c d n came AskCame.wanting = none_facts (world x p v c n) came refl (λ h. cc) (λ h. cc)
 
-  called_facts : (number : ℕ) (call : ClientLine) (x y : Hosts D) (p q : P) (v : V) (c d : C) (n : N) (came : Came) (opened : Opened) (path : PathName) (moment : ℕ) → session_at x number ≡ Some opened → Gives (who.clocks.coming c) moment (who.clocks.coming d)
+  called_facts : (number : ℕ) (call : ClientLine) (x y : Hosts D) (p q : P) (v : V) (c d : C) (n : N) (came : LineResult) (opened : Opened) (path : PathName) (moment : ℕ) → session_at x number ≡ Some opened → Gives (who.clocks.coming c) moment (who.clocks.coming d)
       → CallDone who.disks who.peers who.clocks opened number moment path x p call came y q → Facts who (world x p v c n) came (world y q v d n)
   called_facts number call x y p q v c d n came opened path moment there read (CallDone.put {name = name} {bytes = bytes} {time = time} {sequence = sequence} {result = result} puts) =
       let line : PutLine who number path time sequence bytes (world x p v c n) result (world y q v d n) = record {
@@ -232,7 +232,7 @@ module _ {D P V C N : Type 0} (who : Parties D P V C N) (limits : Limits) where
         fits = λ done fit. get_fits who number path (world x p v c n) (world y q v d n) result line fit;
       }
 
-  pub call_facts : (number : ℕ) (call : ClientLine) (x y : Hosts D) (p q : P) (v : V) (c d : C) (n : N) (came : Came) → CallCame who.disks who.peers who.clocks number call x p c came y q d → Facts who (world x p v c n) came (world y q v d n)
+  pub call_facts : (number : ℕ) (call : ClientLine) (x y : Hosts D) (p q : P) (v : V) (c d : C) (n : N) (came : LineResult) → CallCame who.disks who.peers who.clocks number call x p c came y q d → Facts who (world x p v c n) came (world y q v d n)
   call_facts number call x y p q v c d n came (CallCame.no_session none) = none_facts (world x p v c n) came refl (λ h. cc) (λ h. cc)
   call_facts number call x y p q v c d n came (CallCame.bad_path {opened = opened} {moment = moment} there bad read) = record {
     io = record { later = omega arith; io = λ below. omega arith };
@@ -247,9 +247,9 @@ module _ {D P V C N : Type 0} (who : Parties D P V C N) (limits : Limits) where
   call_facts number call x y p q v c d n came CallCame.wanting = none_facts (world x p v c n) came refl (λ h. cc) (λ h. cc)
 
   -- what a line says, among all that stands around
-  says_facts : (a b : World D P V C N) (what : ScriptLine) (came : Came) → Kept what → SaysCame who limits a what came b → Facts who a came b
+  says_facts : (a b : World D P V C N) (what : ScriptLine) (came : LineResult) → Kept what → SaysCame who limits a what came b → Facts who a came b
   says_facts a b lines.Silent came kept h =
-      subst (λ w. Facts who a came w) (sym h.1) (none_facts a came (ap io_came h.0) (λ e. let k : Ok Did.Nothing ≡ Err stop.DiskFault = sym h.0 ∙ e in cc) (λ e. let k : Ok Did.Nothing ≡ Err stop.HelperFault = sym h.0 ∙ e in cc))
+      subst (λ w. Facts who a came w) (sym h.1) (none_facts a came (ap io_came h.0) (λ e. let k : Ok LineDid.Nothing ≡ Err stop.DiskFault = sym h.0 ∙ e in cc) (λ e. let k : Ok LineDid.Nothing ≡ Err stop.HelperFault = sym h.0 ∙ e in cc))
   says_facts a b (lines.Host host) came kept h =
       subst (λ around. Facts who a came (among b.state around)) (sym h.1) (host_facts host a.around a.state b.state came kept h.0)
   says_facts a b (lines.Enrol user) came kept h =
@@ -268,7 +268,7 @@ module _ {D P V C N : Type 0} (who : Parties D P V C N) (limits : Limits) where
       (call_facts number call a.state b.state a.around.peers b.around.peers a.around.verifier a.around.clock b.around.clock a.around.nonces came h.0))
 
   -- what every line keeps
-  pub line_facts : (a b : World D P V C N) (line : Text) (came : Came) → LineCame who limits a line came b → Facts who a came b
+  pub line_facts : (a b : World D P V C N) (line : Text) (came : LineResult) → LineCame who limits a line came b → Facts who a came b
   line_facts a b line came (LineCame.malformed none) = none_facts a came refl (λ h. cc) (λ h. cc)
   line_facts a b line came (LineCame.says {what = what} is h) = says_facts a b what came (kept_of line what is) h
   line_facts a b line came LineCame.unread = none_facts a came refl (λ h. cc) (λ h. cc)

@@ -19,8 +19,8 @@ use Rattle.up_sessions.specs.Worlds.{Parties, World, faults_in, faults_of}
 use Rattle.up_script.specs.Facts.{Facts}
 use Rattle.up_script.specs.ScriptAnswers.{code_by}
 use Rattle.up_script.proofs.FactLemmas.{line_facts}
-use Rattle.up_script.specs.ScriptRuns.{Ends, LineDoes, Scripted, Turned, io_lines, is_cut, printed, stop_code, stop_text}
-use Rattle.up_script.specs.Scripts.{Came, Did, LineCame, io_in, said}
+use Rattle.up_script.specs.ScriptRuns.{Ends, LineDoes, Scripted, LineGathered, io_lines, is_cut, printed, stop_code, stop_text}
+use Rattle.up_script.specs.Scripts.{LineResult, LineDid, LineCame, io_in, did_text}
 use Rattle.up_command.specs.Statuses.{code_of}
 use Rattle.up_command.specs.declared.output.Stop.{Stop}
 use Rattle.up_command.specs.declared.output.Stop.TheVariants as out
@@ -40,7 +40,7 @@ module _ {D P V C N : Type 0} (who : Parties D P V C N) (limits : Limits) where
   pub record Running (old now : Option Text) (gathered : Text) (a b : World D P V C N) (lines left : List Text) (number : ℕ) : Type 0 where
     pub done : List Text
     pub cut : done ++ left ≡ lines
-    pub dids : List Did
+    pub dids : List LineDid
     pub run : Run (LineDoes who limits) a done dids b
     pub text : Going old now gathered (printed dids)
     pub count : number ≡ length done + 1
@@ -67,10 +67,10 @@ module _ {D P V C N : Type 0} (who : Parties D P V C N) (limits : Limits) where
     fit = fit;
   }
 
-  printed-more : (dids : List Did) (did : Did) → printed (dids ++ did ∷ []) ≡ printed dids ++ said did
-  printed-more dids did = flat_map-append said dids (did ∷ []) ∙ ap (λ xs. printed dids ++ xs) (append-nil (said did))
+  printed-more : (dids : List LineDid) (did : LineDid) → printed (dids ++ did ∷ []) ≡ printed dids ++ did_text did
+  printed-more dids did = flat_map-append did_text dids (did ∷ []) ∙ ap (λ xs. printed dids ++ xs) (append-nil (did_text did))
 
-  io-more : (dids : List Did) (did : Did) → io_lines (dids ++ did ∷ []) ≡ io_lines dids + io_in did
+  io-more : (dids : List LineDid) (did : LineDid) → io_lines (dids ++ did ∷ []) ≡ io_lines dids + io_in did
   io-more dids did =
       let all = sum_by-append io_in dids (did ∷ []) in
       let one = sum_by-cons io_in did [] in
@@ -94,8 +94,8 @@ module _ {D P V C N : Type 0} (who : Parties D P V C N) (limits : Limits) where
       Going-all (going-more old mid now gathered [] text all before done)
 
   -- a line was done
-  pub Running-more : (old mid now : Option Text) (gathered kept : Text) (a b c : World D P V C N) (lines : List Text) (line : Text) (more : List Text) (number : ℕ) (did : Did)
-      → Running old mid gathered a b lines (line ∷ more) number → LineCame who limits b line (Ok did) c → Facts who b (Ok did) c → Going mid now kept (gathered ++ said did) → Running old now kept a c lines more (number + 1)
+  pub Running-more : (old mid now : Option Text) (gathered kept : Text) (a b c : World D P V C N) (lines : List Text) (line : Text) (more : List Text) (number : ℕ) (did : LineDid)
+      → Running old mid gathered a b lines (line ∷ more) number → LineCame who limits b line (Ok did) c → Facts who b (Ok did) c → Going mid now kept (gathered ++ did_text did) → Running old now kept a c lines more (number + 1)
   Running-more old mid now gathered kept a b c lines line more number did h came facts text =
       let one = facts.io.later in
       let disks = facts.disks in
@@ -106,7 +106,7 @@ module _ {D P V C N : Type 0} (who : Parties D P V C N) (limits : Limits) where
         cut = append_assoc h.done (line ∷ []) more ∙ h.cut;
         dids = h.dids ++ did ∷ [];
         run = Run-snoc (LineDoes who limits) a b c h.done line h.dids did h.run came;
-        text = subst (λ xs. Going old now kept xs) (sym (printed-more h.dids did)) (going-more old mid now gathered kept (said did) (printed h.dids) h.text text);
+        text = subst (λ xs. Going old now kept xs) (sym (printed-more h.dids did)) (going-more old mid now gathered kept (did_text did) (printed h.dids) h.text text);
         count = let k : length (h.done ++ line ∷ []) ≡ length h.done + 1 = length-append h.done (line ∷ []) in omega (arith, h.count, k);
         later = omega (arith, l0, one);
         few = λ below.
@@ -141,6 +141,7 @@ module _ {D P V C N : Type 0} (who : Parties D P V C N) (limits : Limits) where
         helper = λ is. absurd (cc);
         disk = λ is. absurd (cc);
         stays = h.stays;
+        blank = h.fit.blank;
       }
 
   -- no more could be written, or gathered: behind any number of lines
@@ -162,6 +163,7 @@ module _ {D P V C N : Type 0} (who : Parties D P V C N) (limits : Limits) where
     helper = λ is. absurd (let e : true ≡ is_cut 5 = sym cut ∙ ap is_cut is in cc);
     disk = λ is. absurd (let e : true ≡ is_cut 6 = sym cut ∙ ap is_cut is in cc);
     stays = h.stays;
+    blank = h.fit.blank;
   }
 
   helper_of : (why : LineStop) (status : ℕ) → status ≡ stop_code why → status ≡ 5 → why ≡ stop.HelperFault
@@ -176,8 +178,8 @@ module _ {D P V C N : Type 0} (who : Parties D P V C N) (limits : Limits) where
   disk_of stop.HelperFault status is six = absurd (omega (arith, is, six))
   disk_of stop.OutOfMemory status is six = absurd (omega (arith, is, six))
 
-  came_as : (why other : LineStop) → why ≡ other → ◌≡◌ {A = Came} (Err why) (Err other)
-  came_as why other same = subst (λ (w : LineStop). ◌≡◌ {A = Came} (Err why) (Err w)) same refl
+  came_as : (why other : LineStop) → why ≡ other → ◌≡◌ {A = LineResult} (Err why) (Err other)
+  came_as why other same = subst (λ (w : LineStop). ◌≡◌ {A = LineResult} (Err why) (Err w)) same refl
 
   -- the next line was not done
   pub Scripted-stop : (old mid now : Option Text) (gathered : Text) (a b c : World D P V C N) (lines : List Text) (line : Text) (more : List Text) (number status : ℕ) (why : LineStop)
@@ -210,13 +212,14 @@ module _ {D P V C N : Type 0} (who : Parties D P V C N) (limits : Limits) where
             let cut : is_cut status ≡ false = ap is_cut six in
             Rose-after (faults_in who.disks a.state) (faults_in who.disks b.state) (faults_in who.disks c.state) h.disks facts.disks (facts.disk_rose (came_as why stop.DiskFault (disk_of why status (code cut) six)));
         stays = all_then who.disks a.state b.state c.state h.stays facts.stays;
+        blank = h.fit.blank;
       }
 
   -- ---- by what the calls of the loop answer
 
   -- a line was done, and perhaps all that is gathered was written
   pub Running-turned : (old mid now : Option Text) (gathered next kept : Text) (a b c : World D P V C N) (lines : List Text) (line : Text) (more : List Text) (number : ℕ) (result : Result (Unit {0}) LineStop)
-      → Running old mid gathered a b lines (line ∷ more) number → Turned (λ came. LineCame who limits b line came c) gathered result next → result ≡ Ok tt → Going mid now kept next → Running old now kept a c lines more (number + 1)
+      → Running old mid gathered a b lines (line ∷ more) number → LineGathered (λ came. LineCame who limits b line came c) gathered result next → result ≡ Ok tt → Going mid now kept next → Running old now kept a c lines more (number + 1)
   Running-turned old mid now gathered next kept a b c lines line more number (Ok done) h turned is text =
       Running-more old mid now gathered kept a b c lines line more number turned.0 h turned.1.0 (line_facts who limits b c line (Ok turned.0) turned.1.0) (subst (λ xs. Going mid now kept xs) turned.1.1 text)
   Running-turned old mid now gathered next kept a b c lines line more number (Err why) h turned is text = absurd (cc)
@@ -234,7 +237,7 @@ module _ {D P V C N : Type 0} (who : Parties D P V C N) (limits : Limits) where
 
   -- what a line printed is gathered, and could not be written
   pub Scripted-unwritten : (old mid now : Option Text) (gathered next : Text) (a b c : World D P V C N) (lines : List Text) (line : Text) (more : List Text) (number : ℕ) (result : Result (Unit {0}) LineStop) (why : Stop) (ended : Result Status Stop)
-      → Running old mid gathered a b lines (line ∷ more) number → Turned (λ came. LineCame who limits b line came c) gathered result next → result ≡ Ok tt → ended ≡ Err why → WritesPart mid now next → Scripted who limits old now a lines (code_by ended) c
+      → Running old mid gathered a b lines (line ∷ more) number → LineGathered (λ came. LineCame who limits b line came c) gathered result next → result ≡ Ok tt → ended ≡ Err why → WritesPart mid now next → Scripted who limits old now a lines (code_by ended) c
   Scripted-unwritten old mid now gathered next a b c lines line more number result why ended h turned done is part =
       Scripted-fault old mid now next a c lines more (number + 1) why ended is (Running-turned old mid mid gathered next next a b c lines line more number result h turned done (Going-none mid next)) (subst (WritesPart mid now) (sym (append-nil next)) part)
 
@@ -248,7 +251,7 @@ module _ {D P V C N : Type 0} (who : Parties D P V C N) (limits : Limits) where
 
   -- a line was not done, or there was no memory for its text
   pub Scripted-turned : (old mid now : Option Text) (gathered next : Text) (a b c : World D P V C N) (lines : List Text) (line : Text) (more : List Text) (number : ℕ) (why : LineStop) (ended : Result Status Stop)
-      → Running old mid gathered a b lines (line ∷ more) number → Turned (λ came. LineCame who limits b line came c) gathered (Err why) next
+      → Running old mid gathered a b lines (line ∷ more) number → LineGathered (λ came. LineCame who limits b line came c) gathered (Err why) next
       → IfOk ended (λ status. code_of status ≡ stop_code why) → OnOk ended (Appends mid now (next ++ stop_text number why)) → WritesPart mid now (next ++ stop_text number why) → (why ≡ stop.OutOfMemory → now ≡ mid) → (why ≡ stop.OutOfMemory → ended ≡ Err out.OutOfMemory)
       → Scripted who limits old now a lines (code_by ended) c
   Scripted-turned old mid now gathered next a b c lines line more number stop.Malformed ended h turned code whole part same kind =
@@ -269,7 +272,7 @@ module _ {D P V C N : Type 0} (who : Parties D P V C N) (limits : Limits) where
       (λ uncut. absurd (let e : is_cut (code_by ended) ≡ true = ap (λ r. is_cut (code_by r)) (kind refl) in let k : true ≡ false = sym e ∙ uncut in cc))
       (subst (λ to. WritesPart mid to (gathered ++ [])) (sym (same refl)) (WritesPart-none mid (gathered ++ [])))
   Scripted-turned old mid now gathered next a b c lines line more number stop.OutOfMemory ended h (inr made) code whole part same kind =
-      let go : Going mid mid (gathered ++ said made.0) (gathered ++ said made.0) = Going-none mid (gathered ++ said made.0) in
-      let after = Running-more old mid mid gathered (gathered ++ said made.0) a b c lines line more number made.0 h made.1 (line_facts who limits b c line (Ok made.0) made.1) go in
-      Scripted-cut old mid now (gathered ++ said made.0) a c lines more (number + 1) (code_by ended) after (ap (λ r. is_cut (code_by r)) (kind refl))
-      (subst (λ to. WritesPart mid to ((gathered ++ said made.0) ++ [])) (sym (same refl)) (WritesPart-none mid ((gathered ++ said made.0) ++ [])))
+      let go : Going mid mid (gathered ++ did_text made.0) (gathered ++ did_text made.0) = Going-none mid (gathered ++ did_text made.0) in
+      let after = Running-more old mid mid gathered (gathered ++ did_text made.0) a b c lines line more number made.0 h made.1 (line_facts who limits b c line (Ok made.0) made.1) go in
+      Scripted-cut old mid now (gathered ++ did_text made.0) a c lines more (number + 1) (code_by ended) after (ap (λ r. is_cut (code_by r)) (kind refl))
+      (subst (λ to. WritesPart mid to ((gathered ++ did_text made.0) ++ [])) (sym (same refl)) (WritesPart-none mid ((gathered ++ did_text made.0) ++ [])))

@@ -10,14 +10,15 @@ use Rattle.up_host.specs.Opens.{disk_of, disks_of}
 use Rattle.up_journal.specs.declared.limits.Limits.{Limits}
 use Rattle.up_names.specs.Texts.{Text}
 use Rattle.up_sessions.proofs.FitLemmas.{fit_start}
-use Rattle.up_sessions.specs.Handing.{all_disks}
+use Rattle.up_sessions.specs.Handing.{LeavesAll, all_disks}
 use Rattle.up_disk.specs.Leaving.{IsBlank}
 use Rattle.up_sessions.specs.Worlds.{Around, Hosts, Parties, World, faults_in}
 use Rattle.up_text.specs.Lines.{script_lines}
 use Rattle.up_script.specs.ScriptAnswers.{Means, among}
-use Rattle.up_script.specs.ScriptRuns.{is_cut}
+use Rattle.up_script.specs.ScriptRuns.{Scripted, is_cut}
 use Rattle.up_script.specs.Standing.{at_first}
 use Rattle.up_command.specs.Statuses.{IsOneOf}
+use Rattle.up_script.proofs.FreeLemmas.{rest_free}
 use Rattle.up_script.proofs.RunningLemmas.{Running-none, Scripted-cut}
 
 -- a sum over what is made of each item
@@ -75,17 +76,36 @@ told_by input read (Some bytes) same told = same ∙ told
 
 module _ {D P V C N : Type 0} (who : Parties D P V C N) (limits : Limits) where
   -- no line was done, for want of memory
+  none_done : (held : Option Text) (given : List D) (before : Around P V C N) (input : Text) (status : ℕ) → status ≡ 4 → length given ≡ 80 → AllByRecursion (IsBlank who.disks) given
+      → Scripted who limits held held (among (at_first given) before) (script_lines input) status (among (at_first given) before)
+  none_done held given before input status is eighty blank =
+      let start : World D P V C N = among (at_first given) before in
+      Scripted-cut who limits held held held [] start start (script_lines input) (script_lines input) 1 status (Running-none who limits held [] start (script_lines input) refl (fit_start who.disks given eighty blank)) (ap is_cut is) (WritesPart-none held [])
+
+  -- all lines that were done, and all disks
+  pub means_run : (old new : Option Text) (given back : List D) (before after : Around P V C N) (input : Text) (state : Hosts D) (status : ℕ)
+      → Scripted who limits old new (among (at_first given) before) (script_lines input) status (among state after) → back ≡ all_disks state → LeavesAll who.disks state
+      → Means who limits (Some input) old new given back before after status
+  means_run old new given back before after input state status scripted same safe = record {
+    input = input;
+    told = refl;
+    state = state;
+    scripted = scripted;
+    disks = same;
+    safe = safe;
+    rest = rest_free who limits old new (among (at_first given) before) (among state after) (script_lines input) status scripted;
+  }
+
   pub means_none : (left held : Option Text) (given back : List D) (before : Around P V C N) (input : Text) (status : ℕ) → IfSome left (λ bytes. input ≡ bytes) → status ≡ 4 → back ≡ given → length given ≡ 80 → AllByRecursion (IsBlank who.disks) given
       → Means who limits left held held given back before before status
   means_none left held given back before input status told is same eighty blank = record {
     input = input;
     told = told;
     state = at_first given;
-    scripted =
-        let start : World D P V C N = among (at_first given) before in
-        Scripted-cut who limits held held held [] start start (script_lines input) (script_lines input) 1 status (Running-none who limits held [] start (script_lines input) refl (fit_start who.disks given eighty blank)) (ap is_cut is) (WritesPart-none held []);
+    scripted = none_done held given before input status is eighty blank;
     disks = same;
     safe = tt;
+    rest = rest_free who limits held held (among (at_first given) before) (among (at_first given) before) (script_lines input) status (none_done held given before input status is eighty blank);
   }
 
   -- nor was the input read
@@ -102,6 +122,7 @@ module _ {D P V C N : Type 0} (who : Parties D P V C N) (limits : Limits) where
     scripted = means.scripted;
     disks = means.disks;
     safe = means.safe;
+    rest = means.rest;
   }
 
   -- of statuses with which a run ends, one is that of a fault of a disk: a disk failed

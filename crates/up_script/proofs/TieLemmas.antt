@@ -22,7 +22,7 @@ use Rattle.up_names.specs.Texts.{Text, UserName}
 use Rattle.up_script.specs.ScriptAnswers.{Means, among}
 use Rattle.up_script_lines.specs.ScriptLines.{has_user}
 use Rattle.up_script.specs.ScriptRuns.{Ends, LineDoes, Scripted, is_cut, printed}
-use Rattle.up_script.specs.Scripts.{AskCame, CallCame, CallDone, Came, Did, EnrolCame, HostCame, LineCame, OpenCame, SaysCame, got_said, place_of, put_said, replied}
+use Rattle.up_script.specs.Scripts.{AskCame, CallCame, CallDone, LineResult, LineDid, EnrolCame, HostCame, LineCame, OpenCame, SaysCame, result_of_get, place_of, result_of_put, result_of_reply}
 use Rattle.up_script.specs.Scripts as script
 use Rattle.up_script.specs.Standing.{at_first}
 use Rattle.up_script_lines.specs.declared.script_lines.NewHost.{NewHost}
@@ -182,27 +182,27 @@ module _ {D : Type 0} where
   -- ---- a line
 
   -- what came of a line agrees with what is found of it: the hosts behind it, or none
-  abbrev Agrees : Option (List NewHost) → Came → Hosts D → Type 0
+  abbrev Agrees : Option (List NewHost) → LineResult → Hosts D → Type 0
   Agrees found (Ok did) y = (next : List NewHost) × ((found ≡ Some next) × Same next y)
   Agrees found (Err stop.Malformed) y = found ≡ None
   Agrees found (Err stop.HelperFault) y = Unit {0}
   Agrees found (Err stop.DiskFault) y = Unit {0}
   Agrees found (Err stop.OutOfMemory) y = Unit {0}
 
-  replied_keeps : (hosts : List NewHost) (number : ℕ) (given : Reply) (y : Hosts D) → Same hosts y → Agrees (Some hosts) (replied number given) y
+  replied_keeps : (hosts : List NewHost) (number : ℕ) (given : Reply) (y : Hosts D) → Same hosts y → Agrees (Some hosts) (result_of_reply number given) y
   replied_keeps hosts number reply.OutOfMemory y same = tt
   replied_keeps hosts number given y same = (hosts, (refl, same))
 
-  put_keeps : (hosts : List NewHost) (number : ℕ) (result : Result ℕ ClientFault) (y : Hosts D) → Same hosts y → Agrees (Some hosts) (put_said number result) y
+  put_keeps : (hosts : List NewHost) (number : ℕ) (result : Result ℕ ClientFault) (y : Hosts D) → Same hosts y → Agrees (Some hosts) (result_of_put number result) y
   put_keeps hosts number (Err client.OutOfMemory) y same = tt
   put_keeps hosts number result y same = (hosts, (refl, same))
 
-  got_keeps : (hosts : List NewHost) (number : ℕ) (result : Result (List ℕ) ClientFault) (y : Hosts D) → Same hosts y → Agrees (Some hosts) (got_said number result) y
+  got_keeps : (hosts : List NewHost) (number : ℕ) (result : Result (List ℕ) ClientFault) (y : Hosts D) → Same hosts y → Agrees (Some hosts) (result_of_get number result) y
   got_keeps hosts number (Err client.OutOfMemory) y same = tt
   got_keeps hosts number result y same = (hosts, (refl, same))
 
 module _ {D P V C N : Type 0} (who : Parties D P V C N) (limits : Limits) where
-  host_agrees : (hosts : List NewHost) (host : NewHost) (x y : Hosts D) (came : Came) → Same hosts x → HostCame who.disks limits host x came y → Agrees (hosts_behind hosts (lines.Host host)) came y
+  host_agrees : (hosts : List NewHost) (host : NewHost) (x y : Hosts D) (came : LineResult) → Same hosts x → HostCame who.disks limits host x came y → Agrees (hosts_behind hosts (lines.Host host)) came y
   host_agrees hosts host x y came same (HostCame.opened new opens) =
       let behind : map seen y.hosts ≡ map named (hosts ++ host ∷ []) =
       ap (map seen) opens.hosts_are ∙ (map-append seen x.hosts (opens.host ∷ []) ∙ (ap (λ front. front ++ seen opens.host ∷ []) same
@@ -212,7 +212,7 @@ module _ {D P V C N : Type 0} (who : Parties D P V C N) (limits : Limits) where
   host_agrees hosts host x y came same (HostCame.failed new opens) = tt
   host_agrees hosts host x y came same (HostCame.wanting new opens) = tt
 
-  enrol_agrees : (hosts : List NewHost) (user : NewUser) (x y : Hosts D) (came : Came) → Same hosts x → EnrolCame who.disks user x came y → Agrees (hosts_behind hosts (lines.Enrol user)) came y
+  enrol_agrees : (hosts : List NewHost) (user : NewUser) (x y : Hosts D) (came : LineResult) → Same hosts x → EnrolCame who.disks user x came y → Agrees (hosts_behind hosts (lines.Enrol user)) came y
   enrol_agrees hosts user x y came same (EnrolCame.enrolled {place = place} at enrols) =
       (hosts, (ap (λ b. if b then Some hosts else None) (known_by hosts x same user.host place at), at_same place _ x y enrols (ap seen enrols.done.enrols.whole) ∙ same))
   enrol_agrees hosts user x y came same (EnrolCame.full {place = place} at enrols) =
@@ -222,33 +222,33 @@ module _ {D P V C N : Type 0} (who : Parties D P V C N) (limits : Limits) where
   enrol_agrees hosts user x y came same (EnrolCame.wanting at enrols) = tt
   enrol_agrees hosts user x y came same EnrolCame.unmade = tt
 
-  open_agrees : (hosts : List NewHost) (s : NewSession) (x y : Hosts D) (v w : V) (n m : N) (came : Came) → Same hosts x → OpenCame who.verifiers who.nonces s x v n came y w m → Agrees (hosts_behind hosts (lines.Open s)) came y
+  open_agrees : (hosts : List NewHost) (s : NewSession) (x y : Hosts D) (v w : V) (n m : N) (came : LineResult) → Same hosts x → OpenCame who.verifiers who.nonces s x v n came y w m → Agrees (hosts_behind hosts (lines.Open s)) came y
   open_agrees hosts s x y v w n m came same (OpenCame.judged {place = place} at signs) =
       (hosts, (ap (λ b. if b then Some hosts else None) (known_by hosts x same s.host place at), ap (λ a. map seen a.hosts) signs.after ∙ (signed_same s.number place signs.signed x ∙ same)))
   open_agrees hosts s x y v w n m came same (OpenCame.unknown none) = ap (λ b. if b then Some hosts else None) (unknown_by hosts x same s.host none)
   open_agrees hosts s x y v w n m came same (OpenCame.failed at signs) = tt
   open_agrees hosts s x y v w n m came same (OpenCame.wanting at signs) = tt
 
-  ask_agrees : (hosts : List NewHost) (number : ℕ) (words : List Text) (x y : Hosts D) (p q : P) (c d : C) (came : Came) → Same hosts x → AskCame who.disks who.peers who.clocks number words x p c came y q d → Agrees (Some hosts) came y
+  ask_agrees : (hosts : List NewHost) (number : ℕ) (words : List Text) (x y : Hosts D) (p q : P) (c d : C) (came : LineResult) → Same hosts x → AskCame who.disks who.peers who.clocks number words x p c came y q d → Agrees (Some hosts) came y
   ask_agrees hosts number words x y p q c d came same (AskCame.no_session none) = (hosts, (refl, same))
   ask_agrees hosts number words x y p q c d came same (AskCame.asked {opened = opened} {e = e} there is read asks) =
       replied_keeps hosts number e.reply y (at_same opened.place _ x y asks (pair_of asks.done.stays.name_is asks.done.stays.settled.owners) ∙ same)
   ask_agrees hosts number words x y p q c d came same AskCame.wanting = tt
 
-  done_agrees : (hosts : List NewHost) (number : ℕ) (call : ClientLine) (x y : Hosts D) (p q : P) (came : Came) (opened : Opened) (path : PathName) (moment : ℕ) → Same hosts x
+  done_agrees : (hosts : List NewHost) (number : ℕ) (call : ClientLine) (x y : Hosts D) (p q : P) (came : LineResult) (opened : Opened) (path : PathName) (moment : ℕ) → Same hosts x
       → CallDone who.disks who.peers who.clocks opened number moment path x p call came y q → Agrees (Some hosts) came y
   done_agrees hosts number call x y p q came opened path moment same (CallDone.put {result = result} puts) =
       put_keeps hosts number result y (at_same opened.place _ x y puts (pair_of puts.done.stays.name_is puts.done.stays.settled.owners) ∙ same)
   done_agrees hosts number call x y p q came opened path moment same (CallDone.got {result = result} gets) =
       got_keeps hosts number result y (at_same opened.place _ x y gets (pair_of gets.done.stays.name_is gets.done.stays.settled.owners) ∙ same)
 
-  call_agrees : (hosts : List NewHost) (number : ℕ) (call : ClientLine) (x y : Hosts D) (p q : P) (c d : C) (came : Came) → Same hosts x → CallCame who.disks who.peers who.clocks number call x p c came y q d → Agrees (Some hosts) came y
+  call_agrees : (hosts : List NewHost) (number : ℕ) (call : ClientLine) (x y : Hosts D) (p q : P) (c d : C) (came : LineResult) → Same hosts x → CallCame who.disks who.peers who.clocks number call x p c came y q d → Agrees (Some hosts) came y
   call_agrees hosts number call x y p q c d came same (CallCame.no_session none) = (hosts, (refl, same))
   call_agrees hosts number call x y p q c d came same (CallCame.bad_path there bad read) = (hosts, (refl, same))
   call_agrees hosts number call x y p q c d came same (CallCame.called {opened = opened} {path = path} {moment = moment} there is read made) = done_agrees hosts number call x y p q came opened path moment same made
   call_agrees hosts number call x y p q c d came same CallCame.wanting = tt
 
-  says_agrees : (hosts : List NewHost) (a b : World D P V C N) (what : ScriptLine) (came : Came) → Same hosts a.state → SaysCame who limits a what came b → Agrees (hosts_behind hosts what) came b.state
+  says_agrees : (hosts : List NewHost) (a b : World D P V C N) (what : ScriptLine) (came : LineResult) → Same hosts a.state → SaysCame who limits a what came b → Agrees (hosts_behind hosts what) came b.state
   says_agrees hosts a b lines.Silent came same h = subst (λ c. Agrees (Some hosts) c b.state) (sym h.0) (hosts, (refl, ap (λ w. map seen w.state.hosts) h.1 ∙ same))
   says_agrees hosts a b (lines.Host host) came same h = host_agrees hosts host a.state b.state came same h.0
   says_agrees hosts a b (lines.Enrol user) came same h = enrol_agrees hosts user a.state b.state came same h.0
@@ -256,7 +256,7 @@ module _ {D P V C N : Type 0} (who : Parties D P V C N) (limits : Limits) where
   says_agrees hosts a b (lines.Request number words) came same h = ask_agrees hosts number words a.state b.state a.around.peers b.around.peers a.around.clock b.around.clock came same h.0
   says_agrees hosts a b (lines.Client number call) came same h = call_agrees hosts number call a.state b.state a.around.peers b.around.peers a.around.clock b.around.clock came same h.0
 
-  line_agrees : (hosts : List NewHost) (a b : World D P V C N) (line : Text) (came : Came) → Same hosts a.state → LineCame who limits a line came b → Agrees (line_behind hosts line) came b.state
+  line_agrees : (hosts : List NewHost) (a b : World D P V C N) (line : Text) (came : LineResult) → Same hosts a.state → LineCame who limits a line came b → Agrees (line_behind hosts line) came b.state
   line_agrees hosts a b line came same (LineCame.malformed none) = ap (option_and_then (hosts_behind hosts)) none
   line_agrees hosts a b line came same (LineCame.says {what = what} is h) =
       subst (λ found. Agrees found came b.state) (sym (ap (option_and_then (hosts_behind hosts)) is)) (says_agrees hosts a b what came same h)
@@ -265,7 +265,7 @@ module _ {D P V C N : Type 0} (who : Parties D P V C N) (limits : Limits) where
   -- ---- the lines
 
   -- the numbers behind lines that were done are those of the lines that are left
-  done_lines : (number : ℕ) (hosts : List NewHost) (a last : World D P V C N) (done left : List Text) (dids : List Did) → Same hosts a.state → Run (LineDoes who limits) a done dids last
+  done_lines : (number : ℕ) (hosts : List NewHost) (a last : World D P V C N) (done left : List Text) (dids : List LineDid) → Same hosts a.state → Run (LineDoes who limits) a done dids last
       → (next : List NewHost) × ((bad_from line_behind number hosts (done ++ left) ≡ bad_from line_behind (length done + number) next left) × Same next last.state)
   unfolding bad_from
   done_lines number hosts a last [] left [] same run = (hosts, (ap (λ n. bad_from line_behind n hosts left) (first_number number), ap (λ w. map seen w.state.hosts) run ∙ same))

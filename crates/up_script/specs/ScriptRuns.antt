@@ -1,7 +1,9 @@
 -- What a whole script means: from one world to another, what each line did there, what is printed, and how it ends. This project's own.
-use Rattle.std.specs.Prelude.{◌≡◌, ◌<◌, ◌-◌, ◌^◌, ◌≤◌, ◌⊎◌, ℕ, ◌+◌, ◌==◌, ◌||◌, Bool, false, List, [], ◌∷◌, ◌++◌, length, Option, Result, Ok, Err}
-use Rattle.std.specs.List.{flat_map, sum_by}
+use Rattle.std.specs.Prelude.{◌≡◌, ◌<◌, ◌-◌, ◌^◌, ◌≤◌, ◌⊎◌, ℕ, ◌+◌, ◌==◌, ◌||◌, Bool, false, List, [], ◌∷◌, ◌++◌, length, Option, Result}
+use Rattle.std.specs.Prelude.{Ok, Err}
+use Rattle.std.specs.List.{AllByRecursion, flat_map, sum_by}
 use Rattle.std.specs.Io.KnownBytes.{Appends}
+use Rattle.up_disk.specs.Leaving.{IsBlank}
 use Rattle.up_ends.specs.Writing.{WritesPart}
 use Rattle.up_lists.specs.Counts.{Rose}
 use Rattle.up_lists.specs.Runs.{Run}
@@ -10,16 +12,16 @@ use Rattle.up_names.specs.Texts.{Text}
 use Rattle.up_sessions.specs.Keeping.{AllStayIn}
 use Rattle.up_sessions.specs.Worlds.{Parties, World, faults_in, faults_of}
 use Rattle.up_command.specs.Printed.{bad_line}
-use Rattle.up_script.specs.Scripts.{Came, Did, LineCame, io_in, said}
+use Rattle.up_script.specs.Scripts.{LineResult, LineDid, LineCame, io_in, did_text}
 use Rattle.up_script.specs.declared.stop.LineStop.{LineStop}
 use Rattle.up_script.specs.declared.stop.LineStop.TheVariants as stop
 
 -- what is printed of all that lines did, in order
-abbrev pub printed : List Did → Text
-printed dids = flat_map said dids
+abbrev pub printed : List LineDid → Text
+printed dids = flat_map did_text dids
 
 -- how many lines `io` are printed of all that lines did
-abbrev pub io_lines : List Did → ℕ
+abbrev pub io_lines : List LineDid → ℕ
 io_lines dids = sum_by io_in dids
 
 -- the status of a run that ends at a line that was not done
@@ -40,7 +42,7 @@ is_cut status = (status == 3) || (status == 4)
 
 module _ {D P V C N : Type 0} (who : Parties D P V C N) (limits : Limits) where
   -- a line did something, and did not end the run
-  abbrev pub LineDoes : World D P V C N → Text → Did → World D P V C N → Type 0
+  abbrev pub LineDoes : World D P V C N → Text → LineDid → World D P V C N → Type 0
   LineDoes a line did b = LineCame who limits a line (Ok did) b
 
   -- How a run ends behind the lines that it did, by the lines that are left and the number of the next one, with the text that is written
@@ -57,7 +59,7 @@ module _ {D P V C N : Type 0} (who : Parties D P V C N) (limits : Limits) where
     pub done : List Text
     pub left : List Text
     pub cut : done ++ left ≡ lines
-    pub dids : List Did
+    pub dids : List LineDid
     pub last : World D P V C N
     pub run : Run LineDoes a done dids last
     pub tail : Text
@@ -71,14 +73,16 @@ module _ {D P V C N : Type 0} (who : Parties D P V C N) (limits : Limits) where
     -- a fault of the verifier or of a disk has its cause
     pub helper : status ≡ 5 → Rose (who.verifiers.faults a.around.verifier) (who.verifiers.faults b.around.verifier)
     pub disk : status ≡ 6 → Rose (faults_in who.disks a.state) (faults_in who.disks b.state)
-    -- each disk stays in its place, and settled, or its count rose
+    -- each disk stays in its place, tells its content as before, and is settled, or its count rose
     pub stays : AllStayIn who.disks a.state b.state
+    -- behind the lines that were done the disks that no host has are blank
+    pub blank : AllByRecursion (IsBlank who.disks) last.state.free
 
 -- ---- what comes of a call
 
 -- A call did something, and its text stands behind what was gathered; or it stopped, and gathered nothing; or there was no memory, also
 -- for the text of what it did.
-abbrev pub Turned : (Came → Type 0) → Text → Result (Unit {0}) LineStop → Text → Type 0
-Turned came old (Ok done) new = (did : Did) × (came (Ok did) × (new ≡ old ++ said did))
-Turned came old (Err stop.OutOfMemory) new = came (Err stop.OutOfMemory) ⊎ ((did : Did) × came (Ok did))
-Turned came old (Err why) new = came (Err why) × (new ≡ old)
+abbrev pub LineGathered : (LineResult → Type 0) → Text → Result (Unit {0}) LineStop → Text → Type 0
+LineGathered came old (Ok done) new = (did : LineDid) × (came (Ok did) × (new ≡ old ++ did_text did))
+LineGathered came old (Err stop.OutOfMemory) new = came (Err stop.OutOfMemory) ⊎ ((did : LineDid) × came (Ok did))
+LineGathered came old (Err why) new = came (Err why) × (new ≡ old)

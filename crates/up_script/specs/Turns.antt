@@ -1,4 +1,4 @@
--- What is known of what a line of a script says, and what is said of what the hosts answered. This project's own.
+-- What is known of what a line of a script says, and the results of lines by what the hosts answered. This project's own.
 use Rattle.std.specs.Prelude.{◌≡◌, ◌≤◌, ℕ, Bool, true, Result, Ok, Err}
 use Rattle.up_journal.specs.declared.fault.AppendWhy.{AppendWhy}
 use Rattle.up_journal.specs.declared.fault.AppendWhy.TheVariants as append
@@ -7,7 +7,7 @@ use Rattle.up_sessions.specs.declared.fault.LineFault.{LineFault}
 use Rattle.up_sessions.specs.declared.fault.LineFault.TheVariants as fault
 use Rattle.up_command.specs.Words.{is_key}
 use Rattle.up_script_lines.specs.ScriptLines.{are_owners}
-use Rattle.up_script.specs.Scripts.{Came, Did, signed}
+use Rattle.up_script.specs.Scripts.{LineResult, LineDid, did_of_open}
 use Rattle.up_script_lines.specs.Askable.{AskSomething}
 use Rattle.up_script_lines.specs.declared.script_lines.ScriptLine.{ScriptLine}
 use Rattle.up_script_lines.specs.declared.script_lines.ScriptLine.TheVariants as lines
@@ -22,23 +22,23 @@ IsGood (lines.Open session) = session.number ≤ 99
 IsGood (lines.Request number words) = AskSomething words
 IsGood (lines.Client number call) = Unit {0}
 
--- ---- what is said
+-- ---- results
 
--- what is said of a host with this name that was to be opened
-abbrev pub host_said : Text → Result (Unit {0}) LineFault → Came
-host_said name (Ok done) = Ok (Did.HostOpened name)
-host_said name (Err fault.Fault) = Err stop.DiskFault
-host_said name (Err fault.OutOfMemory) = Err stop.OutOfMemory
+-- the result of a line that was to open a host with this name
+abbrev pub result_of_host : Text → Result (Unit {0}) LineFault → LineResult
+result_of_host name (Ok done) = Ok (LineDid.HostOpened name)
+result_of_host name (Err fault.Fault) = Err stop.DiskFault
+result_of_host name (Err fault.OutOfMemory) = Err stop.OutOfMemory
 
--- what is said of an enrolment of this user
-abbrev pub enrol_said : UserName → Result ℕ AppendWhy → Came
-enrol_said user (Ok position) = Ok (Did.Enrolled user)
-enrol_said user (Err (append.Full records)) = Ok (Did.EnrolFull records)
-enrol_said user (Err append.Fault) = Err stop.DiskFault
-enrol_said user (Err append.OutOfMemory) = Err stop.OutOfMemory
+-- the result of a line that was to enrol this user
+abbrev pub result_of_enrol : UserName → Result ℕ AppendWhy → LineResult
+result_of_enrol user (Ok position) = Ok (LineDid.Enrolled user)
+result_of_enrol user (Err (append.Full records)) = Ok (LineDid.EnrolFull records)
+result_of_enrol user (Err append.Fault) = Err stop.DiskFault
+result_of_enrol user (Err append.OutOfMemory) = Err stop.OutOfMemory
 
--- what is said of a sign-on at this number
-abbrev pub sign_said : ℕ → Result Bool LineFault → Came
-sign_said number (Ok is_open) = Ok (signed number is_open)
-sign_said number (Err fault.Fault) = Err stop.HelperFault
-sign_said number (Err fault.OutOfMemory) = Err stop.OutOfMemory
+-- the result of a line that was to open this session
+abbrev pub result_of_open : ℕ → Result Bool LineFault → LineResult
+result_of_open number (Ok is_open) = Ok (did_of_open number is_open)
+result_of_open number (Err fault.Fault) = Err stop.HelperFault
+result_of_open number (Err fault.OutOfMemory) = Err stop.OutOfMemory

@@ -10,6 +10,7 @@ ghost use Rattle.up_text.specs.Lines.{script_lines};
 ghost use Rattle.up_script.specs.ScriptAnswers.{Means, code_by, is_script};
 ghost use Rattle.up_script.specs.ScriptRuns.{Scripted, stop_code, stop_text};
 ghost use Rattle.up_script.specs.Standing.{AreHostLimits, around, parties, script_limits, world};
+ghost use Rattle.up_script.specs.WholeRuns.{EndsWhole, IsGoodScript, NoFault};
 ghost use Rattle.up_command.specs.Statuses.{IsOneOf, code_of, input_limit, usage_line};
 
 use crate::stop::LineStop;
@@ -39,8 +40,10 @@ const LIMITS: Limits = Limits {
 /// It answers a status: 0 at the end of the input, 1 at the first malformed line, with `bad line N` printed last, 2 and 3 where the source
 /// or the sink failed, 4 for want of memory, 5 where the verifier failed at an `open` line, 6 where a disk failed at a `host` or `enrol`
 /// line, 7 for an input of over 67,108,864 bytes, and 64 where the words are not `script` and one more, with the usage line printed. After
-/// 2 and 7 nothing was written, after 3 and 4 a front of the text, after 5 and 6 the text of the lines before. All disks are back in their
-/// places, whatever the status. The names that the script chooses are hashed with these keys.
+/// 2 and 7 nothing was written, after 3 and 4 a front of the text, after 5 and 6 the text of the lines before. Where no line is malformed
+/// and nothing fails it is 0, and the whole text was written, or 4. All disks are back in their places, whatever the status; those that no
+/// host has are blank, or have no record where a `host` line took them at which the run ended. The names that the script chooses are
+/// hashed with these keys.
 pub fn script_run<D: Disk + Drop, S: Source, K: Sink, V: Verifier, C: Clock, N: Nonces>(
     alloc: Global,
     random: RandomState,
@@ -63,6 +66,18 @@ pub fn script_run<D: Disk + Drop, S: Source, K: Sink, V: Verifier, C: Clock, N: 
         (S.left source.old) (K.held sink.old) (K.held sink.new) disks.old.disks disks.new.disks
         (around peers.old verifier.old clock.old nonces.old)
         (around peers.new verifier.new clock.new nonces.new) result }
+
+    // A script with which nothing is wrong and under which nothing fails is run whole, or memory is wanting.
+    ensures complete { is_script (map string_bytes words.now) ≡ true
+        → NoFault (S.faults source.old) (S.faults source.new)
+        → NoFault (K.faults sink.old) (K.faults sink.new)
+        → NoFault (V.faults verifier.old) (V.faults verifier.new)
+        → NoFault (sum_by D.faults disks.old.disks) (sum_by D.faults disks.new.disks)
+        → IfSome (S.left source.old) (λ input. IsGoodScript input → EndsWhole
+        (parties D.Disk ⟦<Peers as Loader>⟧ V.Verifier C.Clock N.Nonces) script_limits
+        input (K.held sink.old) (K.held sink.new) disks.old.disks disks.new.disks
+        (around peers.old verifier.old clock.old nonces.old)
+        (around peers.new verifier.new clock.new nonces.new) result) }
 
     // For all sources, sinks, verifiers and disks: the statuses that come, and the cause of each.
     ensures statuses { IsOneOf (0 ∷ 1 ∷ 2 ∷ 3 ∷ 4 ∷ 5 ∷ 6 ∷ 7 ∷ 64 ∷ []) result }
@@ -157,6 +172,15 @@ pub fn script_within<
         (S.left source.old) (K.held sink.old) (K.held sink.new) disks.old.disks disks.new.disks
         (around peers.old verifier.old clock.old nonces.old)
         (around peers.new verifier.new clock.new nonces.new) result }
+    ensures complete { NoFault (S.faults source.old) (S.faults source.new)
+        → NoFault (K.faults sink.old) (K.faults sink.new)
+        → NoFault (V.faults verifier.old) (V.faults verifier.new)
+        → NoFault (sum_by D.faults disks.old.disks) (sum_by D.faults disks.new.disks)
+        → IfSome (S.left source.old) (λ input. IsGoodScript input → EndsWhole
+        (parties D.Disk P.Loader V.Verifier C.Clock N.Nonces) limits
+        input (K.held sink.old) (K.held sink.new) disks.old.disks disks.new.disks
+        (around peers.old verifier.old clock.old nonces.old)
+        (around peers.new verifier.new clock.new nonces.new) result) }
     ensures whole { IsOneOf (0 ∷ 1 ∷ 3 ∷ 5 ∷ 6 ∷ []) result → IsAtEnd (S.left source.new)
         × IfSome (S.left source.old) (λ bytes. length bytes ≤ input_limit) }
     ensures unread { result ≡ 4 → IsAtEnd (S.left source.new)

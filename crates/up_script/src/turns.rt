@@ -7,11 +7,11 @@ ghost use Rattle.up_sessions.specs.Fitting.{IsFit};
 ghost use Rattle.up_sessions.specs.Others.{has_tree};
 ghost use Rattle.up_sessions.specs.Worlds.{session_at};
 ghost use Rattle.up_script_lines.specs.ScriptLines.{are_owners};
-ghost use Rattle.up_script.specs.ScriptRuns.{Turned};
-ghost use Rattle.up_script.specs.Scripts.{AskCame, CallCame, EnrolCame, HostCame, LineCame, OpenCame, SaysCame, got_said, is_new, place_of, put_said, replied};
+ghost use Rattle.up_script.specs.ScriptRuns.{LineGathered};
+ghost use Rattle.up_script.specs.Scripts.{AskCame, CallCame, EnrolCame, HostCame, LineCame, OpenCame, SaysCame, result_of_get, is_new, place_of, result_of_put, result_of_reply};
 ghost use Rattle.up_script.specs.Standing.{AreHostLimits, parties, world};
 ghost use Rattle.up_script_lines.specs.Askable.{AskSomething};
-ghost use Rattle.up_script.specs.Turns.{IsGood, enrol_said, host_said, sign_said};
+ghost use Rattle.up_script.specs.Turns.{IsGood, result_of_enrol, result_of_host, result_of_open};
 ghost use Rattle.up_text.specs.ClientFaults.{fault_lines};
 ghost use Rattle.up_text.specs.Replies.{reply_lines};
 
@@ -48,7 +48,7 @@ pub fn run_line<D: Disk + Drop, P: Loader, V: Verifier, C: Clock, N: Nonces>(
 ) -> Result<(), LineStop>
     requires limits { AreHostLimits limits }
     requires fit { IsFit D.Disk sessions.old }
-    ensures { Turned (λ came. LineCame (parties D.Disk P.Loader V.Verifier C.Clock N.Nonces) limits
+    ensures { LineGathered (λ came. LineCame (parties D.Disk P.Loader V.Verifier C.Clock N.Nonces) limits
         (world sessions.old peers.old verifier.old clock.old nonces.old) line.now came
         (world sessions.new peers.new verifier.new clock.new nonces.new))
         out.old.items result out.new.items }
@@ -76,7 +76,7 @@ fn do_line<D: Disk + Drop, P: Loader, V: Verifier, C: Clock, N: Nonces>(
     requires limits { AreHostLimits limits }
     requires fit { IsFit D.Disk sessions.old }
     requires good { IsGood says }
-    ensures { Turned (λ came. SaysCame (parties D.Disk P.Loader V.Verifier C.Clock N.Nonces) limits
+    ensures { LineGathered (λ came. SaysCame (parties D.Disk P.Loader V.Verifier C.Clock N.Nonces) limits
         (world sessions.old peers.old verifier.old clock.old nonces.old) says came
         (world sessions.new peers.new verifier.new clock.new nonces.new))
         out.old.items result out.new.items }
@@ -106,7 +106,7 @@ fn open_host<D: Disk + Drop>(
     requires limits { AreHostLimits limits }
     requires fit { IsFit D.Disk sessions.old }
     requires owners { are_owners host.owners ≡ true }
-    ensures { Turned (λ came. HostCame D.Disk limits host sessions.old came sessions.new)
+    ensures { LineGathered (λ came. HostCame D.Disk limits host sessions.old came sessions.new)
         out.old.items result out.new.items }
 {
     if !is_new(sessions, &host) {
@@ -118,16 +118,16 @@ fn open_host<D: Disk + Drop>(
         owners,
     } = host;
     let opened = sessions.open_host(alloc, name.as_str(), operator, owners, limits);
-    say_opened(out, &name, opened)
+    say_host_result(out, &name, opened)
 }
 
 // What came of a host.
-fn say_opened(
+fn say_host_result(
     out: &mut Vec<u8>,
     name: &HostName,
     opened: Result<(), LineFault>,
 ) -> Result<(), LineStop>
-    ensures { Turned (λ came. came ≡ host_said name.now opened) out.old.items result out.new.items }
+    ensures { LineGathered (λ came. came ≡ result_of_host name.now opened) out.old.items result out.new.items }
 {
     match opened {
         Ok(()) => Ok(say(out, b"host ", name.as_str().as_bytes())?),
@@ -161,7 +161,7 @@ fn enrol<D: Disk>(
     out: &mut Vec<u8>,
 ) -> Result<(), LineStop>
     requires key { is_key user.key ≡ true }
-    ensures { Turned (λ came. EnrolCame D.Disk user sessions.old came sessions.new)
+    ensures { LineGathered (λ came. EnrolCame D.Disk user sessions.old came sessions.new)
         out.old.items result out.new.items }
 {
     let Some(place) = sessions.named(user.host.as_str()) else {
@@ -180,22 +180,22 @@ fn enrol_at<D: Disk>(
 ) -> Result<(), LineStop>
     requires key { is_key user.key ≡ true }
     requires place { place_of sessions.old user.host ≡ Some place }
-    ensures { Turned (λ came. EnrolCame D.Disk user sessions.old came sessions.new)
+    ensures { LineGathered (λ came. EnrolCame D.Disk user sessions.old came sessions.new)
         out.old.items result out.new.items }
 {
     let name = user.user.clone()?;
     let NewUser { host: _, user, key } = user;
     let enrolled = sessions.enrol(alloc, place, user, key);
-    say_enrolled(out, &name, enrolled)
+    say_enrol_result(out, &name, enrolled)
 }
 
 // What came of an enrolment.
-fn say_enrolled(
+fn say_enrol_result(
     out: &mut Vec<u8>,
     name: &User,
     enrolled: Result<u64, AppendWhy>,
 ) -> Result<(), LineStop>
-    ensures { Turned (λ came. came ≡ enrol_said name.now enrolled)
+    ensures { LineGathered (λ came. came ≡ result_of_enrol name.now enrolled)
         out.old.items result out.new.items }
 {
     match enrolled {
@@ -216,7 +216,7 @@ fn sign_on<D: Disk, V: Verifier, N: Nonces>(
     out: &mut Vec<u8>,
 ) -> Result<(), LineStop>
     requires number { session.now.number ≤ 99 }
-    ensures { Turned (λ came. OpenCame V.Verifier N.Nonces session.now
+    ensures { LineGathered (λ came. OpenCame V.Verifier N.Nonces session.now
         sessions.old verifier.old nonces.old came sessions.new verifier.new nonces.new)
         out.old.items result out.new.items }
 {
@@ -226,16 +226,16 @@ fn sign_on<D: Disk, V: Verifier, N: Nonces>(
     let number = session.number;
     let proof = session.proof.as_slice();
     let signed = sessions.sign_on(alloc, verifier, nonces, number, place, &session.user, proof);
-    say_signed(out, number, signed)
+    say_open_result(out, number, signed)
 }
 
 // What came of a sign-on.
-fn say_signed(
+fn say_open_result(
     out: &mut Vec<u8>,
     number: u64,
     signed: Result<bool, LineFault>,
 ) -> Result<(), LineStop>
-    ensures { Turned (λ came. came ≡ sign_said number signed) out.old.items result out.new.items }
+    ensures { LineGathered (λ came. came ≡ result_of_open number signed) out.old.items result out.new.items }
 {
     match signed {
         Ok(true) => Ok(say_numbered(out, number, b"open")?),
@@ -256,7 +256,7 @@ fn ask<D: Disk, P: Loader, C: Clock>(
     out: &mut Vec<u8>,
 ) -> Result<(), LineStop>
     requires words { AskSomething words.now }
-    ensures { Turned (λ came. AskCame D.Disk P.Loader C.Clock number words.now
+    ensures { LineGathered (λ came. AskCame D.Disk P.Loader C.Clock number words.now
         sessions.old peers.old clock.old came sessions.new peers.new clock.new)
         out.old.items result out.new.items }
 {
@@ -269,14 +269,19 @@ fn ask<D: Disk, P: Loader, C: Clock>(
     let now = clock.now();
     let event = sessions.ask(alloc, peers, number, &request, now);
     drop(request);
-    let said = say_replied(alloc, out, number, &event.reply);
+    let said = say_reply_result(alloc, out, number, &event.reply);
     drop(event);
     said
 }
 
 // What came of a request.
-fn say_replied(alloc: Global, out: &mut Vec<u8>, number: u64, reply: &Reply) -> Result<(), LineStop>
-    ensures { Turned (λ came. came ≡ replied number reply.now) out.old.items result out.new.items }
+fn say_reply_result(
+    alloc: Global,
+    out: &mut Vec<u8>,
+    number: u64,
+    reply: &Reply,
+) -> Result<(), LineStop>
+    ensures { LineGathered (λ came. came ≡ result_of_reply number reply.now) out.old.items result out.new.items }
 {
     if let Reply::OutOfMemory = reply {
         return Err(LineStop::OutOfMemory);
@@ -294,7 +299,7 @@ fn call_client<D: Disk, P: Loader, C: Clock>(
     call: &ClientLine,
     out: &mut Vec<u8>,
 ) -> Result<(), LineStop>
-    ensures { Turned (λ came. CallCame D.Disk P.Loader C.Clock number call.now
+    ensures { LineGathered (λ came. CallCame D.Disk P.Loader C.Clock number call.now
         sessions.old peers.old clock.old came sessions.new peers.new clock.new)
         out.old.items result out.new.items }
 {
@@ -323,7 +328,7 @@ fn call_at<D: Disk, P: Loader, C: Clock>(
 ) -> Result<(), LineStop>
     requires session { IsSome (session_at sessions.old number) }
     requires path { call_path call.now ≡ Some path.now }
-    ensures { Turned (λ came. CallCame D.Disk P.Loader C.Clock number call.now
+    ensures { LineGathered (λ came. CallCame D.Disk P.Loader C.Clock number call.now
         sessions.old peers.old clock.old came sessions.new peers.new clock.new)
         out.old.items result out.new.items }
 {
@@ -332,28 +337,28 @@ fn call_at<D: Disk, P: Loader, C: Clock>(
         ClientLine::Put(_, time, sequence, bytes) => {
             let bytes = bytes.as_slice();
             let outcome = sessions.put(alloc, peers, number, path, *time, *sequence, bytes, now);
-            say_put(alloc, out, number, outcome)
+            say_put_result(alloc, out, number, outcome)
         }
         ClientLine::Get(_) => {
             let outcome = sessions.get(alloc, peers, number, path, now);
-            say_got(alloc, out, number, outcome)
+            say_get_result(alloc, out, number, outcome)
         }
     }
 }
 
 // What came of a put.
-fn say_put(
+fn say_put_result(
     alloc: Global,
     out: &mut Vec<u8>,
     number: u64,
     outcome: Result<u64, ClientFault>,
 ) -> Result<(), LineStop>
-    ensures { Turned (λ came. came ≡ put_said number outcome) out.old.items result out.new.items }
+    ensures { LineGathered (λ came. came ≡ result_of_put number outcome) out.old.items result out.new.items }
 {
     match outcome {
-        Ok(position) => Ok(say_done(alloc, out, number, Done::Changed(position))?),
+        Ok(position) => Ok(say_call_done(alloc, out, number, Done::Changed(position))?),
         Err(fault) => {
-            let said = say_failed(alloc, out, number, &fault);
+            let said = say_call_failed(alloc, out, number, &fault);
             drop(fault);
             said
         }
@@ -361,18 +366,18 @@ fn say_put(
 }
 
 // What came of a get.
-fn say_got(
+fn say_get_result(
     alloc: Global,
     out: &mut Vec<u8>,
     number: u64,
     outcome: Result<Bytes, ClientFault>,
 ) -> Result<(), LineStop>
-    ensures { Turned (λ came. came ≡ got_said number outcome) out.old.items result out.new.items }
+    ensures { LineGathered (λ came. came ≡ result_of_get number outcome) out.old.items result out.new.items }
 {
     match outcome {
-        Ok(bytes) => Ok(say_done(alloc, out, number, Done::Bytes(bytes))?),
+        Ok(bytes) => Ok(say_call_done(alloc, out, number, Done::Bytes(bytes))?),
         Err(fault) => {
-            let said = say_failed(alloc, out, number, &fault);
+            let said = say_call_failed(alloc, out, number, &fault);
             drop(fault);
             said
         }
@@ -380,7 +385,12 @@ fn say_got(
 }
 
 // The reply to what was done.
-fn say_done(alloc: Global, out: &mut Vec<u8>, number: u64, done: Done) -> Result<(), AllocError>
+fn say_call_done(
+    alloc: Global,
+    out: &mut Vec<u8>,
+    number: u64,
+    done: Done,
+) -> Result<(), AllocError>
     ensures { OnOk result (out.new.items ≡ out.old.items
         ++ all_numbered number (reply_lines (Reply.Ok done))) }
 {
@@ -391,7 +401,7 @@ fn say_done(alloc: Global, out: &mut Vec<u8>, number: u64, done: Done) -> Result
 }
 
 // Why a put or get failed.
-fn say_failed(
+fn say_call_failed(
     alloc: Global,
     out: &mut Vec<u8>,
     number: u64,

@@ -318,10 +318,6 @@ pub with_usage : {D : Type 0} (result : Result (HostState D) (ServeFault D)) →
 with_usage (Ok host) one = tt
 with_usage (Err fault) one = more_64 fault.status one
 
-pub not_usage : {D : Type 0} (result : Result (HostState D) (ServeFault D)) → IfErr result (λ fault. IsOneOf (2 ∷ 3 ∷ 4 ∷ 6 ∷ 7 ∷ 8 ∷ 10 ∷ 12 ∷ []) fault.status) → result_code result ≡ 64 → ⊥
-not_usage (Ok host) one is = absurd (let bad : 0 ≡ 64 = is in cc)
-not_usage (Err fault) one is = never_64 fault.status one is
-
 pub usage_codes : (n : ℕ) → IsOneOf (3 ∷ 64 ∷ []) n → IsOneOf (2 ∷ 3 ∷ 4 ∷ 6 ∷ 7 ∷ 8 ∷ 10 ∷ 12 ∷ 64 ∷ []) n
 usage_codes n one = grind (arith)
 
@@ -331,14 +327,8 @@ usage_or_4 n one = grind (arith)
 pub four_or_usage : (n : ℕ) → n ≡ 4 → IsOneOf (3 ∷ 4 ∷ 64 ∷ []) n
 four_or_usage n is = grind (arith)
 
-pub usage_not_2 : (n : ℕ) → IsOneOf (3 ∷ 64 ∷ []) n → n ≡ 2 → ⊥
-usage_not_2 n one is = grind (arith)
-
 pub usage_not_6 : (n : ℕ) → IsOneOf (3 ∷ 64 ∷ []) n → n ≡ 6 → ⊥
 usage_not_6 n one is = grind (arith)
-
-pub usage_not_7 : (n : ℕ) → IsOneOf (3 ∷ 64 ∷ []) n → n ≡ 7 → ⊥
-usage_not_7 n one is = grind (arith)
 
 pub ruleset unread = (words_wanting, with_usage, usage_codes, usage_or_4)
 

@@ -1,5 +1,6 @@
 -- What the text of users to be enrolled comes to at a host. This project's own.
-use Rattle.std.specs.Prelude.{◌≡◌, ◌+◌, ℕ, Bool, true, false, if◌then◌else◌, is_some, List, [], ◌∷◌, ◌++◌, length, Option, Some, None, Result, Ok, Err, OnErr}
+use Rattle.std.specs.Prelude.{◌≡◌, ◌+◌, ℕ, Bool, true, false, if◌then◌else◌, is_some, List, [], ◌∷◌, ◌++◌, length, Option, Some, None}
+use Rattle.std.specs.Prelude.{Result, Ok, Err, OnErr}
 use Rattle.up_disk.specs.declared.disk.Disk.{Ghosts}
 use Rattle.up_host.specs.Alone.{HostState}
 use Rattle.up_journal.specs.Journal.{is_full}

@@ -1,5 +1,6 @@
 -- What the words of `upspin serve` say. This project's own.
-use Rattle.std.specs.Prelude.{◌≡◌, ◌==◌, ℕ, Bool, true, false, not, ◌&&◌, ◌||◌, if◌then◌else◌, List, [], ◌∷◌, codes, length, Option, Some, None}
+use Rattle.std.specs.Prelude.{◌≡◌, ◌==◌, ℕ, Bool, true, false, not, ◌&&◌, ◌||◌, if◌then◌else◌, List, [], ◌∷◌, codes, length, Option, Some}
+use Rattle.std.specs.Prelude.{None}
 use Rattle.std.specs.List.{AllByRecursion, IsDistinct, after_first, before_first, list_all, list_any}
 use Rattle.std.specs.Result.{result_ok}
 use Rattle.std.specs.Str.{bytes_eq}
@@ -121,7 +122,19 @@ options_plan options = do
   operator ← once (values_of (codes "--operator") options) >>= user_in
   trees ← all_read user_in (values_of (codes "--tree") options) >>= if_owners
   peers ← all_read peer_in (values_of (codes "--peer") options)
-  Some (record { listen = listen; host = host; operator = operator; trees = trees; folder = folder; helper = helper; enrol = enrol; peers = peers; connections = connections; feed = feed.0; feeds = feed.1 })
+  Some (record {
+    listen = listen;
+    host = host;
+    operator = operator;
+    trees = trees;
+    folder = folder;
+    helper = helper;
+    enrol = enrol;
+    peers = peers;
+    connections = connections;
+    feed = feed.0;
+    feeds = feed.1;
+  })
 
 -- what the words say: `serve`, and then pairs of an option and its value, in any order; none where they do not fit
 unfoldable pub plan_of : List Text → Option ServePlan

@@ -1,5 +1,5 @@
 //! The connections of a server.
-ghost use Rattle.std.specs.Prelude.{IfSome};
+ghost use Rattle.std.specs.Prelude.{IfOk};
 ghost use Rattle.up_shared.specs.Sharing.{AreSeats};
 
 use crate::ending::{tell, tell_end};
@@ -38,15 +38,15 @@ pub(crate) struct Visit<D: Disk> {
 }
 
 impl<D: Disk + Drop> Visit<D> {
-    /// What one connection more has of it. `None` where there is no memory.
-    pub fn split_off(&mut self, alloc: Global, shared: &Shared<D>) -> Option<Visit<D>>
+    /// What one connection more has of it.
+    pub fn split_off(&mut self, alloc: Global, shared: &Shared<D>) -> Result<Visit<D>, AllocError>
         requires { AreSeats shared.now self.old.seats }
         ensures kept { AreSeats shared.now self.new.seats }
-        ensures other { IfSome result (λ visit. AreSeats shared.now visit.seats) }
+        ensures other { IfOk result (λ visit. AreSeats shared.now visit.seats) }
     {
-        let seats = shared.split(alloc, &mut self.seats).ok()?;
+        let seats = shared.split(alloc, &mut self.seats)?;
         let nonces = SeedNonces::new(self.nonces.next());
-        Some(Visit { seats, nonces })
+        Ok(Visit { seats, nonces })
     }
 }
 
@@ -65,7 +65,7 @@ impl<'a, D: Disk + Drop + Send> Attends for Door<'a, D> {
 
     ghost is_part = { λ door visit. AreSeats door.shared.now visit.seats };
 
-    fn split(&self, part: &mut Visit<D>) -> Option<Visit<D>> {
+    fn split(&self, part: &mut Visit<D>) -> Result<Visit<D>, AllocError> {
         part.split_off(self.alloc, self.shared)
     }
 

@@ -3,7 +3,7 @@ ghost use Rattle.up_shared.specs.Sharing.{AreSeats};
 
 use crate::door::Visit;
 use crate::ending::{tell, tell_end};
-use std::alloc::Global;
+use std::alloc::{AllocError, Global};
 use std::net::{SocketAddr, TcpStream};
 use std::sync::Wait;
 use up_accept::Attends;
@@ -27,7 +27,7 @@ impl<'a, D: Disk + Drop + Send> Attends for Hatch<'a, D> {
 
     ghost is_part = { λ hatch visit. AreSeats hatch.shared.now visit.seats };
 
-    fn split(&self, part: &mut Visit<D>) -> Option<Visit<D>> {
+    fn split(&self, part: &mut Visit<D>) -> Result<Visit<D>, AllocError> {
         part.split_off(self.alloc, self.shared)
     }
 

@@ -5,7 +5,7 @@ use Rattle.std.proofs.lemmas.List.Sums.{sum_by-cons}
 use Rattle.std.specs.List.{AllByRecursion, flat_map, sum_by}
 use Rattle.up_host.specs.Alone.{HostState}
 use Rattle.up_host.specs.Opens.{disk_of, disks_of}
-use Rattle.up_sessions.proofs.RoomLemmas.{turned}
+use Rattle.up_host.proofs.OpeningLemmas.{turned}
 use Rattle.up_sessions.specs.Kept.{disk_count}
 
 -- a host has as many disks as are counted

@@ -1,5 +1,5 @@
 -- Each disk of a script stays settled in its place, but for a fault.
-use Rattle.std.proofs.Common.{◌≡◌, ◌⊎◌, ◌≤◌, ℕ, ℤ, zero, suc, Bool, true, false, not, ◌&&◌, is_none, List, [], ◌∷◌, ◌++◌, length, map, Option, Some, None, Result, Ok, Err, inl, inr, refl, sym, ap, subst, ◌∙◌, arith, append_assoc, append-nil}
+use Rattle.std.proofs.Common.{◌≡◌, ◌⊎◌, ◌≤◌, ℕ, ℤ, zero, suc, Bool, true, false, not, ◌&&◌, is_none, is_some, List, [], ◌∷◌, ◌++◌, length, map, Option, Some, None, Result, Ok, Err, inl, inr, refl, sym, ap, subst, ◌∙◌, arith, append_assoc, append-nil}
 use Rattle.std.proofs.lemmas.Grind.{flat_map-append}
 use Rattle.std.proofs.lemmas.List.{map-append}
 use Rattle.std.specs.List.{AllZip, flat_map}
@@ -11,7 +11,7 @@ use Rattle.up_disk.specs.declared.disk.Disk.{Ghosts}
 use Rattle.up_lists.proofs.Causes.{Rose-after, Rose-before}
 use Rattle.up_lists.specs.Counts.{Rose}
 use Rattle.up_host.specs.Alone.{HostState}
-use Rattle.up_host.specs.Opens.{IsLogOn, IsRefusedAs, OpensHost, OpensTrees, Reader, RefusesHost, WereOpened}
+use Rattle.up_host.specs.Opens.{IsLogOn, IsRefusedAs, OpensHost, OpensTrees, Reader, RefusesHost, WasOpenedAs, WereOpened}
 use Rattle.up_host.specs.Routes.{LogName}
 use Rattle.up_calls.specs.Settled.{KeepsSettled}
 use Rattle.up_host.specs.Settled.{StaysSettled, owner_of}
@@ -84,11 +84,12 @@ test_settled true further one two = absurd (cc)
 
 module _ {D : Type 0} (disks : Ghosts D) where
   place_same : (p : Place D) → StaysIn disks p p
-  place_same p = record { later = omega arith; settled = λ is. inl is }
+  place_same p = record { later = omega arith; told = refl; settled = λ is. inl is }
 
   place_then : (p q r : Place D) → StaysIn disks p q → StaysIn disks q r → StaysIn disks p r
   place_then p q r one two = record {
     later = let a = one.later in let b = two.later in omega (arith, a, b);
+    told = two.told ∙ one.told;
     settled = λ is. after (one.settled is);
   }
     where
@@ -103,6 +104,7 @@ module _ {D : Type 0} (disks : Ghosts D) where
   log_stays : {R : Type 0} (old new : LogState D R) → KeepsSettled disks old new → StaysIn disks (place_of old) (place_of new)
   log_stays old new keeps = record {
     later = keeps.later;
+    told = keeps.told;
     settled = λ is. let s = settled_if old.doubtful old.further is in by (keeps.settled (record { settled = s.0; nothing = s.1 }));
   }
     where
@@ -132,7 +134,7 @@ module _ {D : Type 0} (disks : Ghosts D) where
   free_at disk = (disk, true)
 
   opened_stays : {R : Type 0} (read : Reader R) (limits : Limits) (disk : D) (log : LogState D R) → IsLogOn disks read limits disk log → StaysIn disks (free_at disk) (place_of log)
-  opened_stays read limits disk log opens = record { later = opens.counts.later; settled = λ is. inl (test_settled log.doubtful log.further opens.opens.settled.settled opens.opens.settled.nothing) }
+  opened_stays read limits disk log opens = record { later = opens.counts.later; told = opens.opened.told; settled = λ is. inl (test_settled log.doubtful log.further opens.opens.settled.settled opens.opens.settled.nothing) }
 
   trees_stay : (limits : Limits) (owners : List UserName) (used : List D) (trees : List (Held (tree.State D))) → OpensTrees disks limits owners used trees → AllZip (StaysIn disks) (map free_at used) (map place_of_tree trees)
   trees_stay limits [] [] [] all = tt
@@ -154,12 +156,21 @@ module _ {D : Type 0} (disks : Ghosts D) where
       (opened_stays blocks.blocks_in _ logs.of_store host.store.state logs.store_is.log, (opened_stays _ limits logs.of_keys host.keys.state logs.keys_are.log, tt)))
 
   -- or some were handed back
-  back_stays : (one two : D) → disks.faults one ≤ disks.faults two → StaysIn disks (free_at one) (free_at two)
-  back_stays one two later = record { later = later; settled = λ is. inl refl }
+  -- it tells its content exactly where it did before
+  abbrev TellsAsBefore : D → D → Type 0
+  TellsAsBefore old new = is_some (disks.content new) ≡ is_some (disks.content old)
+
+  back_stays : (one two : D) → disks.faults one ≤ disks.faults two → TellsAsBefore one two → StaysIn disks (free_at one) (free_at two)
+  back_stays one two later told = record { later = later; told = told; settled = λ is. inl refl }
+
+  was_told : (limits : Limits) (log : LogName) (disk after : D) → WasOpenedAs disks limits log disk after → TellsAsBefore disk after
+  was_told limits (LogName.OfTree owner) disk after was = subst (TellsAsBefore disk) was.disk_is was.opened.opened.told
+  was_told limits LogName.OfStore disk after was = subst (TellsAsBefore disk) was.disk_is was.opened.opened.told
+  was_told limits LogName.OfKeys disk after was = subst (TellsAsBefore disk) was.disk_is was.opened.opened.told
 
   were_stay : (limits : Limits) (logs : List LogName) (used opened : List D) → WereOpened disks limits logs used opened → AllZip (StaysIn disks) (map free_at used) (map free_at opened)
   were_stay limits [] [] [] all = tt
-  were_stay limits (l ∷ ls) (d ∷ ds) (o ∷ os) all = (back_stays d o (was_later disks limits l d o all.0), were_stay limits ls ds os all.1)
+  were_stay limits (l ∷ ls) (d ∷ ds) (o ∷ os) all = (back_stays d o (was_later disks limits l d o all.0) (was_told limits l d o all.0), were_stay limits ls ds os all.1)
   were_stay limits [] [] (o ∷ os) all = absurd all
   were_stay limits [] (d ∷ ds) [] all = absurd all
   were_stay limits [] (d ∷ ds) (o ∷ os) all = absurd all
@@ -172,6 +183,11 @@ module _ {D : Type 0} (disks : Ghosts D) where
   refused_later limits LogName.OfStore disk fault refused = refused.counts.later
   refused_later limits LogName.OfKeys disk fault refused = refused.counts.later
 
+  refused_told : (limits : Limits) (log : LogName) (disk : D) (fault : OpenFault D) → IsRefusedAs disks limits log disk fault → TellsAsBefore disk fault.disk
+  refused_told limits (LogName.OfTree owner) disk fault refused = refused.opened.told
+  refused_told limits LogName.OfStore disk fault refused = refused.opened.told
+  refused_told limits LogName.OfKeys disk fault refused = refused.opened.told
+
   handed_stay : (limits : Limits) (owners : List UserName) (given : List D) (fault : HostFault D) → RefusesHost disks limits owners given fault → AllZip (StaysIn disks) (map free_at given) (map free_at fault.disks.disks)
   handed_stay limits owners given fault (inl none) = subst (λ xs. AllZip (StaysIn disks) (map free_at given) (map free_at xs)) (sym none.handed) (zip_same (StaysIn disks) place_same (map free_at given))
   handed_stay limits owners given fault (inr one) =
@@ -179,7 +195,7 @@ module _ {D : Type 0} (disks : Ghosts D) where
       (subst (AllZip (StaysIn disks) (map free_at one.used ++ free_at one.disk ∷ map free_at one.rest)) (sym (ap (map free_at) one.handed ∙ map-append free_at one.opened (one.refused.disk ∷ one.rest)))
       (zip_append (StaysIn disks) (map free_at one.used) (map free_at one.opened) (free_at one.disk ∷ map free_at one.rest) (free_at one.refused.disk ∷ map free_at one.rest)
       (were_stay limits one.before one.used one.opened one.were_opened)
-      (back_stays one.disk one.refused.disk (refused_later limits one.log one.disk one.refused one.was_refused), zip_same (StaysIn disks) place_same (map free_at one.rest))))
+      (back_stays one.disk one.refused.disk (refused_later limits one.log one.disk one.refused one.was_refused) (refused_told limits one.log one.disk one.refused one.was_refused), zip_same (StaysIn disks) place_same (map free_at one.rest))))
 
   -- a host was opened or refused
   next_stays : (limits : Limits) (name : List ℕ) (operator : UserName) (owners : List UserName) (a b : Hosts D) (result : Result (Unit {0}) LineFault) → OpensNext disks limits name operator owners a result b → AllStayIn disks a b

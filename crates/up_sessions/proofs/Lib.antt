@@ -14,5 +14,6 @@ pub mod CountLemmas
 pub mod KeepLemmas
 pub mod FitLemmas
 pub mod HandingLemmas
+pub mod EmptyLemmas
 pub mod OpeningLemmas
 pub mod SigningLemmas

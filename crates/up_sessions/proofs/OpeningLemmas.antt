@@ -18,10 +18,11 @@ use Rattle.up_journal.specs.declared.limits.Limits.{Limits}
 use Rattle.up_keys.specs.Records.{endpoints_fit, has_bounds, keeps_bounds}
 use Rattle.up_names.specs.Texts.{UserName}
 use Rattle.up_sessions.proofs.BlankLemmas.{all_first, refused_blank}
+use Rattle.up_sessions.proofs.EmptyLemmas.{all_empty}
 use Rattle.up_sessions.proofs.KeptLemmas.{kept_more, trees_opened}
 use Rattle.up_sessions.specs.Kept.{IsKept}
 use Rattle.up_disk.specs.Leaving.{IsBlank}
-use Rattle.up_sessions.specs.Opening.{AddsHost, EnrolsAt, RefusesNext, is_damage, plain_card, why_refused}
+use Rattle.up_sessions.specs.Opening.{AddsHost, EnrolsAt, HasNoRecord, RefusesNext, is_damage, plain_card, why_refused}
 use Rattle.up_sessions.specs.Taking.{HandsBack, TakesHost}
 use Rattle.up_sessions.specs.Worlds.{Hosts}
 use Rattle.up_sessions.specs.declared.fault.LineFault.{LineFault}
@@ -72,8 +73,8 @@ module _ {D : Type 0} (disks : Ghosts D) (limits : Limits) where
   -- ---- disks are handed back
 
   -- no host was opened, for want of memory
-  pub hands_none : (owners : List UserName) (old new : Spared D) → length owners + 2 ≤ length old.disks → new.disks ≡ old.disks → new.spare ≡ old.spare → HandsBack disks limits owners line.OutOfMemory old new
-  hands_none owners old new enough same room =
+  pub hands_none : (owners : List UserName) (old new : Spared D) → length owners + 2 ≤ length old.disks → AllByRecursion (IsBlank disks) old.disks → new.disks ≡ old.disks → new.spare ≡ old.spare → HandsBack disks limits owners line.OutOfMemory old new
+  hands_none owners old new enough blank same room =
       let n = length owners + 2 in
       record {
         given = take n old.disks;
@@ -83,15 +84,16 @@ module _ {D : Type 0} (disks : Ghosts D) (limits : Limits) where
         refused = record { disks = record { disks = take n old.disks; spare = 0 }; which = 0; why = reason.OutOfMemory };
         refuses = inl (record { handed = refl; why_is = refl; which_is = refl });
         why_is = refl;
+        empty = all_empty disks (take n old.disks) (all_first (IsBlank disks) n old.disks blank);
         back = same ∙ sym (take-append-drop n old.disks);
         room = room;
       }
 
   -- a host was refused
   pub hands_back : (owners : List UserName) (old mid new : Spared D) (given : List D) (n : ℕ) (fault : HostFault D) (why : LineFault) → n ≡ length owners + 2 → n ≤ length old.disks
-      → given ≡ take n old.disks → mid.disks ≡ drop n old.disks → mid.spare ≡ old.spare + n → RefusesHost disks limits owners given fault
+      → given ≡ take n old.disks → mid.disks ≡ drop n old.disks → mid.spare ≡ old.spare + n → RefusesHost disks limits owners given fault → AllByRecursion (HasNoRecord disks) fault.disks.disks
       → fault.why ≡ why_refused why → new.disks ≡ fault.disks.disks ++ mid.disks → new.spare + length fault.disks.disks ≡ mid.spare → HandsBack disks limits owners why old new
-  hands_back owners old mid new given n fault why many enough is left room refuses because put spare =
+  hands_back owners old mid new given n fault why many enough is left room refuses empty because put spare =
       let some = taken_many old.disks given n enough is in
       let back = handed_many owners given fault refuses in
       record {
@@ -102,6 +104,7 @@ module _ {D : Type 0} (disks : Ghosts D) (limits : Limits) where
         refused = fault;
         refuses = refuses;
         why_is = because;
+        empty = empty;
         back = put;
         room = omega (arith, some, back, room, spare);
       }
@@ -138,6 +141,7 @@ module _ {D : Type 0} (disks : Ghosts D) (limits : Limits) where
     refused = back.refused;
     refuses = back.refuses;
     why_is = back.why_is;
+    empty = back.empty;
     whole = λ j. record { hosts = same j; sessions = sessions; free = back.back j };
   }
 

@@ -1,40 +1,12 @@
 -- Disks that are taken off a list, and put back in their places.
-use Rattle.std.proofs.Common.{◌≡◌, ◌<◌, ◌≤◌, ◌+◌, ℕ, zero, suc, List, [], ◌∷◌, ◌++◌, length, take, drop, refl, sym, ap, ◌∙◌, arith, add-one, append_assoc, append-nil, length-append}
+use Rattle.std.proofs.Common.{◌≡◌, ◌<◌, ◌≤◌, ◌+◌, ℕ, zero, suc, List, [], ◌∷◌, ◌++◌, length, take, drop, refl, sym, ap, ◌∙◌, arith, add-one, append_assoc, length-append}
+use Rattle.up_host.proofs.OpeningLemmas.{turned}
 
 -- the element at a place is the first one of what is left
 next_of : {X : Type 0} (xs : List X) (i : ℕ) → i < length xs → (x : X) × (drop i xs ≡ x ∷ drop (suc i) xs) × (take (suc i) xs ≡ take i xs ++ x ∷ [])
 next_of [] i h = absurd (omega (arith, h))
 next_of (x ∷ xs) zero h = (x, refl, refl)
 next_of (x ∷ xs) (suc i) h = let rest = next_of xs i (omega (arith, h)) in (rest.0, rest.1, ap (λ ys. x ∷ ys) rest.2)
-
--- a list that is turned by i elements is turned by one more
-pub turn_step : {X : Type 0} (xs room rest : List X) (i : ℕ) (x : X) → i < length xs → room ≡ drop i xs ++ take i xs → room ≡ x ∷ rest → rest ++ x ∷ [] ≡ drop (i + 1) xs ++ take (i + 1) xs
-turn_step xs room rest i x h is taken =
-    let next = next_of xs i h in
-    let whole : x ∷ rest ≡ next.0 ∷ (drop (suc i) xs ++ take i xs) = sym taken ∙ is ∙ ap (λ ys. ys ++ take i xs) next.1 in
-    let first : x ≡ next.0 = cc in
-    let others : rest ≡ drop (suc i) xs ++ take i xs = cc in
-    ap (λ ys. ys ++ x ∷ []) others
-    ∙ append_assoc (drop (suc i) xs) (take i xs) (x ∷ [])
-    ∙ ap (λ y. drop (suc i) xs ++ (take i xs ++ y ∷ [])) first
-    ∙ ap (λ ys. drop (suc i) xs ++ ys) (sym next.2)
-    ∙ ap (λ n. drop n xs ++ take n xs) (sym (add-one i))
-
--- a list that is not turned yet
-pub turn_none : {X : Type 0} (xs : List X) → xs ≡ drop 0 xs ++ take 0 xs
-turn_none xs = sym (append-nil xs)
-
-take_front : {X : Type 0} (fs bs : List X) → take (length fs) (fs ++ bs) ≡ fs
-take_front [] bs = refl
-take_front (f ∷ fs) bs = ap (λ zs. f ∷ zs) (take_front fs bs)
-
-drop_front : {X : Type 0} (fs bs : List X) → drop (length fs) (fs ++ bs) ≡ bs
-drop_front [] bs = refl
-drop_front (f ∷ fs) bs = drop_front fs bs
-
--- a list that has another behind it is turned to it
-pub turned : {X : Type 0} (xs ys : List X) → drop (length xs) (xs ++ ys) ++ take (length xs) (xs ++ ys) ≡ ys ++ xs
-turned xs ys = ap (λ zs. drop (length xs) (xs ++ ys) ++ zs) (take_front xs ys) ∙ ap (λ zs. zs ++ xs) (drop_front xs ys)
 
 -- what was put behind is turned to the front
 pub fronted : {X : Type 0} (free given last one two all : List X) (n : ℕ) → one ≡ free ++ given → two ≡ one ++ last → n ≡ length free → all ≡ drop n two ++ take n two → all ≡ given ++ (last ++ free)

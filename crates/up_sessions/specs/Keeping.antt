@@ -1,5 +1,5 @@
 -- Whether each disk of a script is settled, or failed. This project's own.
-use Rattle.std.specs.Prelude.{◌≡◌, ◌⊎◌, ◌≤◌, ◌&&◌, Bool, true, not, is_none, List, [], ◌∷◌, ◌++◌, map}
+use Rattle.std.specs.Prelude.{◌≡◌, ◌⊎◌, ◌≤◌, ◌&&◌, Bool, true, not, is_none, is_some, List, [], ◌∷◌, ◌++◌, map}
 use Rattle.std.specs.List.{AllZip, flat_map}
 use Rattle.up_disk.specs.declared.disk.Disk.{Ghosts}
 use Rattle.up_lists.specs.Counts.{Rose}
@@ -29,11 +29,13 @@ places_of host = map place_of_tree host.trees ++ place_of host.store.state ∷ p
 abbrev pub all_places : {D : Type 0} → Hosts D → List (Place D)
 all_places a = flat_map places_of a.hosts ++ map (λ disk. (disk, true)) a.free
 
--- A disk's count never falls. A settled disk stays settled, or its count rose.
+-- A disk's count never falls, and it tells its content exactly where it did before. A settled disk stays settled, or its count rose.
 pub record StaysIn {D : Type 0} (disks : Ghosts D) (old new : Place D) : Type 0 where
   pub later : disks.faults old.0 ≤ disks.faults new.0
+  pub told : is_some (disks.content new.0) ≡ is_some (disks.content old.0)
   pub settled : old.1 ≡ true → (new.1 ≡ true) ⊎ Rose (disks.faults old.0) (disks.faults new.0)
 
--- in each place the disk's count never falls, and a settled disk stays settled or its count rose
+-- In each place the disk's count never falls, and it tells its content exactly where it did before; a settled disk stays settled, or its
+-- count rose.
 abbrev pub AllStayIn : {D : Type 0} → Ghosts D → Hosts D → Hosts D → Type 0
 AllStayIn disks a b = AllZip (StaysIn disks) (all_places a) (all_places b)

@@ -1,6 +1,5 @@
 pub mod Worlds
 pub mod Kept
-pub mod TieLaws
 pub mod Others
 pub mod Opening
 pub mod Taking

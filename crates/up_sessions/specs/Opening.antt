@@ -1,11 +1,13 @@
 -- A host is opened over the next disks of a script, and a user is enrolled at a host. This project's own.
-use Rattle.std.specs.Prelude.{◌≡◌, ◌+◌, ℕ, Bool, true, false, List, [], ◌∷◌, ◌++◌, length, Some, Result, Ok, Err}
+use Rattle.std.specs.Prelude.{◌≡◌, ◌+◌, ℕ, Bool, true, false, List, [], ◌∷◌, ◌++◌, length, is_some, Some, Result, Ok, Err}
+use Rattle.std.specs.List.{AllByRecursion}
 use Rattle.up_disk.specs.declared.disk.Disk.{Ghosts}
 use Rattle.up_host.specs.Alone.{Enrols, HostState}
 use Rattle.up_host.specs.Opens.{OpensHost, RefusesHost}
 use Rattle.up_host.specs.Settled.{StaysSettled}
 use Rattle.up_host.specs.declared.fault.HostFault.{HostFault}
 use Rattle.up_disk.specs.Leaving.{LeavesNow}
+use Rattle.up_journal.specs.Format2.{log_of}
 use Rattle.up_journal.specs.declared.fault.AppendWhy.{AppendWhy}
 use Rattle.up_journal.specs.declared.fault.OpenWhy.{OpenWhy}
 use Rattle.up_journal.specs.declared.fault.OpenWhy.TheVariants as reason
@@ -37,8 +39,13 @@ is_damage reason.Fault = false
 is_damage reason.OutOfMemory = false
 is_damage other = true
 
--- One of the first disks was refused, for a fault of it or for want of memory. All of them are back in their places, and nothing else
--- changed.
+-- A disk without a record: it tells its content, and each image that a crash may leave opens as a log that has none.
+pub record HasNoRecord {D : Type 0} (disks : Ghosts D) (disk : D) : Type 0 where
+  pub told : is_some (disks.content disk) ≡ true
+  pub empty : LeavesNow disks disk (λ image. (largest : ℕ) → log_of largest image ≡ Ok [])
+
+-- One of the first disks was refused, for a fault of it or for want of memory. All of them are back in their places, without a record, and
+-- nothing else changed.
 pub record RefusesNext {D : Type 0} (disks : Ghosts D) (limits : Limits)
     (owners : List UserName) (why : LineFault) (a b : Hosts D) : Type 0 where
   pub given : List D
@@ -48,6 +55,7 @@ pub record RefusesNext {D : Type 0} (disks : Ghosts D) (limits : Limits)
   pub refused : HostFault D
   pub refuses : RefusesHost disks limits owners given refused
   pub why_is : refused.why ≡ why_refused why
+  pub empty : AllByRecursion (HasNoRecord disks) refused.disks.disks
   pub whole : b ≡ record a { free = refused.disks.disks ++ rest }
 
 -- a host was opened over the next free disks, or refused

@@ -1,9 +1,9 @@
 //! What stands behind a host of a script.
+ghost use Rattle.std.proofs.Common.{◌∙◌};
 ghost use Rattle.std.specs.Prelude.{◌≡◌, ◌++◌, refl};
 ghost use Rattle.std.specs.List.{find};
 ghost use Rattle.std.specs.Option.{option_copied};
 ghost use Rattle.up_sessions.specs.Others.{LoadsFirst, has_tree};
-ghost use Rattle.up_sessions.specs.TieLaws.{stays_still};
 
 use std::alloc::{AllocError, Global};
 use up_disk::Disk;
@@ -58,10 +58,10 @@ impl<'a, D: Disk, P: Loader> Loader for Behind<'a, D, P> {
     ghost same = { λ a. (refl, P.same a.peers.now, refl, refl) };
 
     ghost joined = { λ a b c p q. (
-      stays_still p.0 q.0,
+      q.0 ∙ p.0,
       P.joined a.peers.now b.peers.now c.peers.now p.1 q.1,
-      stays_still p.2 q.2,
-      stays_still p.3 q.3,
+      q.2 ∙ p.2,
+      q.3 ∙ p.3,
     ) };
 }
 

@@ -82,7 +82,7 @@ fn put_back<D: Drop>(disks: &mut Disks<D>, disk: D)
 }
 
 /// Puts the first disks behind the others, one after the other, so many times.
-#[tactic(auto, using(crate::proofs::RoomLemmas::turn_none, crate::proofs::RoomLemmas::turn_step))]
+#[tactic(auto, using(up_host::proofs::OpeningLemmas::turn_none, up_host::proofs::OpeningLemmas::turn_step))]
 pub(crate) fn turn<D: Drop>(disks: &mut Disks<D>, times: u64)
     requires { times ≤ length disks.old.disks }
     ensures disks { disks.new.disks ≡ drop times disks.old.disks ++ take times disks.old.disks }

@@ -1,11 +1,11 @@
 //! A session puts and gets files.
+ghost use Rattle.std.proofs.Common.{◌∙◌};
 ghost use Rattle.std.specs.Prelude.{◌≡◌, ◌<◌, ◌++◌, IfSome, IsSome, Some, length, refl};
 ghost use Rattle.up_client.specs.Getting.{get_talk};
 ghost use Rattle.up_client.specs.Putting.{put_talk};
 ghost use Rattle.up_sessions.specs.Kept.{OneOf};
 ghost use Rattle.up_sessions.specs.Others.{others};
 ghost use Rattle.up_sessions.specs.Talking.{GetsAt, PutsAt, TalksTo, answers_as};
-ghost use Rattle.up_sessions.specs.TieLaws.{stays_still};
 ghost use Rattle.up_sessions.specs.Worlds.{session_at};
 
 use crate::asking::{ask_among, opened_in};
@@ -59,7 +59,7 @@ impl<'a, D: Disk, P: Loader> Ask for SessionAsk<'a, D, P> {
 
     ghost same = { λ a. (refl, refl) };
 
-    ghost joined = { λ a b c p q. (stays_still p.0 q.0, stays_still p.1 q.1) };
+    ghost joined = { λ a b c p q. (q.0 ∙ p.0, q.1 ∙ p.1) };
 }
 
 impl<D: Disk> Sessions<D> {

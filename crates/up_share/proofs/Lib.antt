@@ -1,4 +1,5 @@
 pub mod OrderLemmas
+pub mod ExactLemmas
 pub mod SetLemmas
 pub mod LoopLemmas
 pub mod MeetLemmas

@@ -30,7 +30,8 @@ use Rattle.up_policy.proofs.PathLists.{Contains-at, Contains-cons, Contains-flat
 use Rattle.up_policy.proofs.ReachedLemmas.{Lists, look_at, look_past, looked_closed, met_kept, met_short}
 use Rattle.up_policy.proofs.VerdictLemmas.{among_group, any_at, at_any, group_among, lists_texts, right_Decides}
 use Rattle.up_share.specs.Orders.{in_order, item_cmp}
-use Rattle.up_share.specs.OrderLaws.{item_cmp_exact, item_cmp_total}
+use Rattle.up_share.proofs.ExactLemmas.{item_cmp_exact}
+use Rattle.up_share.specs.OrderLaws.{item_cmp_total}
 use Rattle.up_share.specs.Readers.{AreReaders, AreUnread, IsMet, IsReader, IsUnread, Leads, StandsIn, governing_rules, is_plain, lacking, lacks_text, met_groups, readers, readers_by, standing, unread}
 use Rattle.up_share.proofs.SetLemmas.{in_order_has, in_order_strictly}
 

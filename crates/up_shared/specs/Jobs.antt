@@ -17,7 +17,8 @@ pub record ReadsText {D E : Type 0} (operator : UserName) (name : PathName) (old
   pub text : IfOk given (λ answer. answer ≡ load_of name.owner (group_text_answer (log_of old) operator name))
 
 -- A block was read, and the log stays.
-pub record ReadsBlock {D E : Type 0} (disks : Ghosts D) (reference : List ℕ) (old new : LogState D BlockRecord) (given : Result Fetch E) : Type 0 where
+pub record ReadsBlock {D E : Type 0} (disks : Ghosts D) (reference : List ℕ)
+    (old new : LogState D BlockRecord) (given : Result Fetch E) : Type 0 where
   pub reads : StoreReads disks old new
   pub block : IfOk given (BlockRead disks old new reference)
 

@@ -20,7 +20,7 @@ EachPair P (x ∷ xs) (y ∷ ys) = P x y × EachPair P xs ys
 EachPair P [] (y ∷ ys) = ⊥
 EachPair P (x ∷ xs) [] = ⊥
 
--- of one log: what the seat has seen, its own records, the failures in its turns, and the part that stays
+-- what a seat has seen of one log, with its own records, the failures in its turns, and the part that stays
 abbrev pub seen_by : {E F : Type 0} → Known E F → F → Seen E F
 seen_by seat fixed = record { seen = seat.seen; own = seat.own; failed = seat.failed; fixed = fixed }
 
@@ -36,6 +36,7 @@ module _ {D : Type 0} where
   abbrev pub is_cell_of : UserName → TreeCell D → Bool
   is_cell_of owner tree = bytes_eq tree.owner owner
 
+  -- the cell of an owner's tree, if the host has it
   abbrev pub cell_for : List (TreeCell D) → UserName → Option TableId
   cell_for trees owner = option_map (λ (tree : TreeCell D). tree.cell) (find (is_cell_of owner) trees)
 
@@ -59,12 +60,15 @@ module _ {D : Type 0} where
   abbrev pub is_seat_of : UserName → TreeSeat D → Bool
   is_seat_of owner place = bytes_eq place.owner owner
 
+  -- the seat at an owner's tree, if the host has it
   abbrev pub seat_for : List (TreeSeat D) → UserName → Option (TreeSeat D)
   seat_for trees owner = find (is_seat_of owner) trees
 
+  -- what a seat at a tree has seen, with the tree's owner and limits
   abbrev pub tree_seen : TreeSeat D → SeenTree
   tree_seen place = seen_by place.seat (place.owner, place.limits)
 
+  -- what all seats of a caller have seen
   abbrev pub views_of : Seats D → Views
   views_of seats = record {
     tree = λ owner. option_map tree_seen (seat_for seats.trees.items owner);
@@ -74,6 +78,7 @@ module _ {D : Type 0} where
 
   -- ---- what every call leaves, but split and join
 
+  -- what a seat at a tree had seen stays seen, and owner and limits stay
   pub record TreeSeatLater (before after : TreeSeat D) : Type 0 where
     pub owner : after.owner ≡ before.owner
     pub limits : after.limits ≡ before.limits
@@ -89,7 +94,7 @@ module _ {D : Type 0} where
 
   -- ---- what happened at the seat of one log
 
-  -- so it is with the seat before and after at the tree of an owner
+  -- this holds of the seat before and after at the tree of an owner
   pub record AtTree (holds : TreeSeat D → TreeSeat D → Type 0) (owner : UserName) (a b : Seats D) : Type 0 where
     pub v : TreeSeat D
     pub w : TreeSeat D

@@ -11,6 +11,7 @@ module _ {D : Type 0} where
   abbrev pub first_tree : TreeSeat D → TreeSeat D
   first_tree place = record place { seat = first_of place.seat }
 
+  -- the seat that was split off from a seat at a tree
   abbrev pub second_tree : TreeSeat D → TreeSeat D
   second_tree place = record place { seat = second_of place.seat }
 
@@ -32,6 +33,7 @@ module _ {D : Type 0} where
 
   -- ---- join
 
+  -- two seats at a tree as one
   abbrev pub both_trees : TreeSeat D → TreeSeat D → TreeSeat D
   both_trees place other = record place { seat = both_of place.seat other.seat }
 
@@ -64,7 +66,7 @@ pub record SharesAdd {E F : Type 0} (one other whole : Known E F) : Type 0 where
   pub add : (n : ℕ) → one.halvings ≤ n → other.halvings ≤ n → whole.halvings ≤ n → parts n one + parts n other ≡ parts n whole
 
 module _ {D : Type 0} where
-  -- so it is with the seats at each place of three lists
+  -- at each place of three lists, two seats have together the share of the third
   abbrev pub TreesAdd : List (TreeSeat D) → List (TreeSeat D) → List (TreeSeat D) → Type 0
   TreesAdd [] [] [] = Unit {0}
   TreesAdd (x ∷ xs) (y ∷ ys) (z ∷ zs) = SharesAdd x.seat y.seat z.seat × TreesAdd xs ys zs
@@ -81,6 +83,7 @@ module _ {D : Type 0} where
   AreWholeTrees [] = Unit {0}
   AreWholeTrees (x ∷ xs) = IsWhole x.seat × AreWholeTrees xs
 
+  -- a caller has the whole share of each cell of a host
   pub record AreWhole (seats : Seats D) : Type 0 where
     pub trees : AreWholeTrees seats.trees.items
     pub store : IsWhole seats.store

@@ -18,7 +18,9 @@ sooner (Some one) (Some two) = if nat_le one.position two.position then Some one
 
 -- the snapshot of a moment, where it bears on a path
 abbrev pub bearing_at : UserName → List Rec → PathName → ℕ → Option Shown
-bearing_at snap_user records path time = if bears_on snap_user path time then option_map (λ position. record { position = position; time = time }) (snap_at records time) else None
+bearing_at snap_user records path time =
+    if bears_on snap_user path time then option_map (λ position. record { position = position; time = time }) (snap_at records time)
+    else None
 
 -- the first among those of these moments
 unfoldable pub least_to : UserName → List Rec → PathName → List ℕ → Option Shown

@@ -14,8 +14,11 @@ use Rattle.up_snap.specs.Shown.{first_to, shown_node}
 -- none does.
 abbrev pub FirstSnapshotsShow : Type 0
 FirstSnapshotsShow = (owner : UserName) (records : List Rec) (path : PathName) → IsLog owner records →
-    node_at (snapshots_to owner records (length records)) path ≡ option_and_then (shown_node owner records path) (first_to (snapshot_user owner) records path (length records))
+    node_at (snapshots_to owner records (length records)) path ≡ option_and_then
+    (shown_node owner records path) (first_to (snapshot_user owner) records path (length records))
 
 -- The items of a log's snapshot tree stand in order of paths, each at its name, and each but the root in a directory.
 abbrev pub SnapshotTreesAreRooted : Type 0
-SnapshotTreesAreRooted = (owner : UserName) (records : List Rec) → IsLog owner records → IsRooted (snapshot_user owner) (snapshots_to owner records (length records))
+SnapshotTreesAreRooted =
+    (owner : UserName) (records : List Rec) → IsLog owner records
+    → IsRooted (snapshot_user owner) (snapshots_to owner records (length records))

@@ -38,6 +38,7 @@ pub record IsTaken (records : List Rec) (shown : Shown) : Type 0 where
   pub position : shown.position ≡ suc place
 
 -- The paths in a directory on which snapshots of these moments bear, in order, each with the first of them.
-pub record IsNaming (snap_user : UserName) (records : List Rec) (dir : PathName) (times : List ℕ) (named : List (PathName × Shown)) : Type 0 where
+pub record IsNaming (snap_user : UserName) (records : List Rec) (dir : PathName)
+    (times : List ℕ) (named : List (PathName × Shown)) : Type 0 where
   pub sorted : T (is_sorted path_cmp named)
   pub each : (q : PathName) → find path_cmp q named ≡ (if is_parent dir q then least_to snap_user records q times else None)

@@ -17,7 +17,8 @@ use Rattle.up_answers.specs.SnapshotTrees.{snapshots_to}
 
 -- the snapshot tree of these records, as a user meets it
 abbrev pub look_at : UserName → List Rec → UserName → Look
-look_at owner records user = record { owner = snapshot_user owner; tree = snapshots_to owner records (length records); loaded = []; user = user }
+look_at owner records user =
+    record { owner = snapshot_user owner; tree = snapshots_to owner records (length records); loaded = []; user = user }
 
 -- the user whose tree shows the snapshots of an owner's
 pub record IsSnapUser (owner snap_user : UserName) : Type 0 where

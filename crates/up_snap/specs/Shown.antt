@@ -22,7 +22,8 @@ bears_on snap_user path time = is_under path (shown_root snap_user time) || is_u
 
 -- a record at a position, where it takes a snapshot that bears on a path
 abbrev pub bearing : UserName → PathName → ℕ → Option Rec → Option Shown
-bearing snap_user path position (Some (Snap time)) = if bears_on snap_user path time then Some (record { position = position; time = time }) else None
+bearing snap_user path position (Some (Snap time)) =
+    if bears_on snap_user path time then Some (record { position = position; time = time }) else None
 bearing snap_user path position (Some (Put entry text)) = None
 bearing snap_user path position (Some (Delete gone)) = None
 bearing snap_user path position None = None
@@ -30,9 +31,10 @@ bearing snap_user path position None = None
 -- the first of the first n records that does
 unfoldable pub first_to : UserName → List Rec → PathName → ℕ → Option Shown
 first_to snap_user records path zero = None
-first_to snap_user records path (suc n) = option_or (first_to snap_user records path n) (bearing snap_user path (suc n) (slice_get records n))
+first_to snap_user records path (suc n) =
+    option_or (first_to snap_user records path n) (bearing snap_user path (suc n) (slice_get records n))
 
--- the path that a snapshot shows at a path: the elements behind the four of its moment
+-- the path that a snapshot shows at a path: the elements after the four of its moment
 abbrev pub old_path : UserName → PathName → PathName
 old_path owner path = record { owner = owner; elements = drop 4 path.elements }
 
@@ -40,13 +42,14 @@ old_path owner path = record { owner = owner; elements = drop 4 path.elements }
 abbrev pub renamed : PathName → Node → Node
 renamed path node = record node { entry = record node.entry { name = path } }
 
--- its text is no longer than a path's may be
+-- a path has no longer a text than a path's may be
 abbrev pub is_short : PathName → Bool
 is_short path = nat_le (length (canonical path)) 4096
 
 -- what a snapshot shows at a path at or below its root: what stood there before its record
 abbrev pub kept_node : UserName → List Rec → PathName → ℕ → Option Node
-kept_node owner records path n = if is_short path then option_map (renamed path) (node_at (tree_at records n) (old_path owner path)) else None
+kept_node owner records path n =
+    if is_short path then option_map (renamed path) (node_at (tree_at records n) (old_path owner path)) else None
 
 -- what stands at a path on which a snapshot bears: what it shows, or a directory that is made up
 unfoldable pub shown_node : UserName → List Rec → PathName → Shown → Option Node

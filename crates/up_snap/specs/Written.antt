@@ -16,4 +16,5 @@ two_at text i = digit_at text i * 10 + digit_at text (i + 1)
 
 -- what is read of a path is so of each moment whose root the path is under
 abbrev pub IsRead : {X : Type 0} → (ℕ → X) → PathName → Option X → Type 0
-IsRead meant path found = (snap_user : UserName) (time : ℕ) → IsMoment time → is_under path (shown_root snap_user time) ≡ true → found ≡ Some (meant time)
+IsRead meant path found =
+    (snap_user : UserName) (time : ℕ) → IsMoment time → is_under path (shown_root snap_user time) ≡ true → found ≡ Some (meant time)

@@ -27,20 +27,24 @@ IsAsked other = ⊥
 
 -- ---- the reply by what came of the blocks' call
 
+-- the reply to what the blocks refused
 abbrev pub refused_reply : BlockWhy → Reply
 refused_reply why.NotExist = reply.NotExist
 refused_reply (why.Full records) = reply.Full records
 refused_reply why.Fault = reply.Io
 refused_reply why.OutOfMemory = reply.OutOfMemory
 
+-- the reply to a Get, by what came of getting the block
 abbrev pub given_reply : Result (List ℕ) BlockWhy → Reply
 given_reply (Ok bytes) = reply.Ok (done.Bytes bytes)
 given_reply (Err reason) = refused_reply reason
 
+-- the reply to a Put, by what came of keeping the block
 abbrev pub put_reply : Result (List ℕ) BlockWhy → Reply
 put_reply (Ok reference) = reply.Ok (done.Reference reference)
 put_reply (Err reason) = refused_reply reason
 
+-- the reply to a Delete, by what came of deleting the block
 abbrev pub deleted_reply : Result ℕ BlockWhy → Reply
 deleted_reply (Ok position) = reply.Ok (done.Changed position)
 deleted_reply (Err reason) = refused_reply reason
@@ -54,8 +58,10 @@ Refused refusal old new answer = (new ≡ old) × (answer ≡ refusal)
 -- Get: the text is no reference; or what comes of getting its block, with the reply by that
 abbrev pub GetsBlock : {D : Type 0} → Ghosts D → Option (List ℕ) → LogState D BlockRecord → LogState D BlockRecord → Reply → Type 0
 GetsBlock disks None old new answer = Refused (reply.Invalid Reference) old new answer
-GetsBlock disks (Some reference) old new answer = (given : Result (List ℕ) BlockWhy) × (answer ≡ given_reply given) × GivesBlock disks reference old new given
+GetsBlock disks (Some reference) old new answer =
+    (given : Result (List ℕ) BlockWhy) × (answer ≡ given_reply given) × GivesBlock disks reference old new given
 
+-- what comes of a Get of this text
 abbrev pub GetsAsked : {D : Type 0} → Ghosts D → List ℕ → LogState D BlockRecord → LogState D BlockRecord → Reply → Type 0
 GetsAsked disks text old new answer = GetsBlock disks (reference_in text) old new answer
 
@@ -64,23 +70,30 @@ abbrev pub PutsOf : {D : Type 0} → Ghosts D → Bool → List ℕ → LogState
 PutsOf disks true bytes old new answer = Refused (reply.Invalid Block) old new answer
 PutsOf disks false bytes old new answer = (put : Result (List ℕ) BlockWhy) × (answer ≡ put_reply put) × PutsBlock disks bytes old new put
 
+-- what comes of a Put of these bytes
 abbrev pub PutsAsked : {D : Type 0} → Ghosts D → List ℕ → LogState D BlockRecord → LogState D BlockRecord → Reply → Type 0
 PutsAsked disks bytes old new answer = PutsOf disks (nat_lt largest_block (length bytes)) bytes old new answer
 
 -- Delete: the text is no reference; or the user is not the operator; or what comes of deleting its block, with the reply by that
 abbrev pub DeletesBy : {D : Type 0} → Ghosts D → Bool → List ℕ → LogState D BlockRecord → LogState D BlockRecord → Reply → Type 0
 DeletesBy disks false reference old new answer = Refused (reply.Permission Delete) old new answer
-DeletesBy disks true reference old new answer = (deleted : Result ℕ BlockWhy) × (answer ≡ deleted_reply deleted) × DeletesBlock disks reference old new deleted
+DeletesBy disks true reference old new answer =
+    (deleted : Result ℕ BlockWhy) × (answer ≡ deleted_reply deleted) × DeletesBlock disks reference old new deleted
 
-abbrev pub DeletesOf : {D : Type 0} → Ghosts D → UserName → UserName → Option (List ℕ) → LogState D BlockRecord → LogState D BlockRecord → Reply → Type 0
+-- what comes of a Delete, by the reference that its text is, if it is one
+abbrev pub DeletesOf : {D : Type 0} → Ghosts D → UserName → UserName → Option (List ℕ)
+    → LogState D BlockRecord → LogState D BlockRecord → Reply → Type 0
 DeletesOf disks operator user None old new answer = Refused (reply.Invalid Reference) old new answer
 DeletesOf disks operator user (Some reference) old new answer = DeletesBy disks (bytes_eq user operator) reference old new answer
 
-abbrev pub DeletesAsked : {D : Type 0} → Ghosts D → UserName → UserName → List ℕ → LogState D BlockRecord → LogState D BlockRecord → Reply → Type 0
+-- what comes of a Delete of this text
+abbrev pub DeletesAsked : {D : Type 0} → Ghosts D → UserName → UserName → List ℕ
+    → LogState D BlockRecord → LogState D BlockRecord → Reply → Type 0
 DeletesAsked disks operator user text old new answer = DeletesOf disks operator user (reference_in text) old new answer
 
 -- What a request of a user came to at the store of an operator, by the log before it.
-abbrev pub StoreSteps : {D : Type 0} → Ghosts D → UserName → UserName → Request → LogState D BlockRecord → LogState D BlockRecord → Reply → Type 0
+abbrev pub StoreSteps : {D : Type 0} → Ghosts D → UserName → UserName → Request
+    → LogState D BlockRecord → LogState D BlockRecord → Reply → Type 0
 StoreSteps disks operator user (request.Get text) old new answer = GetsAsked disks text old new answer
 StoreSteps disks operator user (request.StorePut bytes) old new answer = PutsAsked disks bytes old new answer
 StoreSteps disks operator user (request.StoreDelete text) old new answer = DeletesAsked disks operator user text old new answer

@@ -28,16 +28,18 @@ module _ {A V C N Q R : Type 0} (who : Parties A V C N Q R) where
     pub last_is : (last ≡ []) ⊎ (last ≡ says.Bye ∷ [])
     pub told : a.ends.left ≡ Some (bytes_from who (asks_all text signature questions ++ last))
     pub few : length (bytes_from who (asks_all text signature questions ++ last)) < most_turns
-    pub fits : AllByRecursion (λ f. Fits who.fits f × IsPayload longest (payload_from who.asking f)) (asks_all text signature questions ++ last)
+    pub fits : AllByRecursion (λ f. Fits who.fits f × IsPayload longest (payload_from who.asking f))
+        (asks_all text signature questions ++ last)
     pub user : UserName
     pub user_is : user_of text ≡ Ok user
     pub known : (c : A) → who.looked a.around.answerer user None c → ⊥
-    pub verdicts : (judged : Judged) → Grew (who.judged a.around.verifier) (who.judged b.around.verifier) (judged ∷ []) → judged.verdict ≡ Yes
+    pub verdicts : (judged : Judged)
+        → Grew (who.judged a.around.verifier) (who.judged b.around.verifier) (judged ∷ []) → judged.verdict ≡ Yes
     pub no_read_failed : Rose a.ends.read_faults b.ends.read_faults → ⊥
     pub no_write_failed : Rose a.ends.write_faults b.ends.write_faults → ⊥
     pub no_verdict_failed : Rose (who.verifier_faults a.around.verifier) (who.verifier_faults b.around.verifier) → ⊥
 
-  -- It ended behind the last frame, and all that was asked came and was answered; or there was no memory.
+  -- The connection ended after the last frame, and all that was asked came and was answered; or there was no memory.
   abbrev pub Completes : World A V C N → World A V C N → List (FromClient Q) → TalkEnd → Type 0
   Completes a b asked talk.Ended = (talks : Talks who a b talk.Ended) × (talks.came ≡ asked)
   Completes a b asked talk.OutOfMemory = Unit {0}

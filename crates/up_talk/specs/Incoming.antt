@@ -35,6 +35,7 @@ pub record ReadFailed {S : Type 0} (sources : Ghosts S) (old : Held) (from : S) 
   pub cause : HasCause (sources.faults from) (sources.faults then) ⊥
   pub rose : Rose (sources.faults from) (sources.faults then)
 
+-- what came of a read: more bytes, or it failed, or there was no memory
 abbrev pub ReadCame : {S : Type 0} → Ghosts S → Held → S → Result ℕ ReadWhy → Held → S → Type 0
 ReadCame sources old from (Ok count) new then = ReadMore sources old from count new then
 ReadCame sources old from (Err read.Failed) new then = ReadFailed sources old from new then

@@ -48,12 +48,14 @@ module _ {A V C N Q R : Type 0} (who : Parties A V C N Q R) where
   abbrev pub bytes_from : List (FromClient Q) → List ℕ
   bytes_from came = frames (map (payload_from who.asking) came)
 
+  -- the bytes of the frames that carry what is said to a client
   abbrev pub bytes_to : List (ToClient R) → List ℕ
   bytes_to made = frames (map (payload_to who.answering) made)
 
   -- no frame begins here that may come now: the length is 0 or too large, or the payload is that of nothing that may come
   abbrev pub NoFrame : Standing → List ℕ → Type 0
-  NoFrame standing bytes = IsBad longest bytes ⊎ ((payload : List ℕ) × (Begins bytes payload × IsUnfit who.asking who.fits standing payload))
+  NoFrame standing bytes =
+      IsBad longest bytes ⊎ ((payload : List ℕ) × (Begins bytes payload × IsUnfit who.asking who.fits standing payload))
 
   -- the client says that nothing more comes
   pub record SaysBye (standing : Standing) (bytes : List ℕ) : Type 0 where
@@ -65,14 +67,18 @@ module _ {A V C N Q R : Type 0} (who : Parties A V C N Q R) where
   -- the input has ended behind a frame, or the client says so
   EndsBy a b standing before rest talk.Ended = (is_open standing ≡ true) × (((rest ≡ []) × IsAtEnd b.ends.left) ⊎ SaysBye standing rest)
   -- it has ended within a frame, after so many bytes
-  EndsBy a b standing before rest (talk.Cut n) = (is_open standing ≡ true) × (rest ≢ []) × IsPartial longest rest × IsAtEnd b.ends.left × (n ≡ length (before ++ rest))
+  EndsBy a b standing before rest (talk.Cut n) =
+      (is_open standing ≡ true) × (rest ≢ []) × IsPartial longest rest × IsAtEnd b.ends.left × (n ≡ length (before ++ rest))
   -- at this place no frame begins that may come
   EndsBy a b standing before rest (talk.BadFrame place) = (is_open standing ≡ true) × NoFrame standing rest × (place ≡ length before)
   EndsBy a b standing before rest talk.NotSigned = standing ≡ Standing.Refused
-  EndsBy a b standing before rest talk.HelperFault = (standing ≡ Standing.Failed) × Rose (who.verifier_faults a.around.verifier) (who.verifier_faults b.around.verifier)
-  EndsBy a b standing before rest talk.ReadFault = (is_open standing ≡ true) × IsPartial longest rest × Rose a.ends.read_faults b.ends.read_faults
+  EndsBy a b standing before rest talk.HelperFault =
+      (standing ≡ Standing.Failed) × Rose (who.verifier_faults a.around.verifier) (who.verifier_faults b.around.verifier)
+  EndsBy a b standing before rest talk.ReadFault =
+      (is_open standing ≡ true) × IsPartial longest rest × Rose a.ends.read_faults b.ends.read_faults
   EndsBy a b standing before rest talk.WriteFault = Rose a.ends.write_faults b.ends.write_faults
-  EndsBy a b standing before rest talk.TurnsSpent = (is_open standing ≡ true) × IsPartial longest rest × (most_turns ≤ length (before ++ rest))
+  EndsBy a b standing before rest talk.TurnsSpent =
+      (is_open standing ≡ true) × IsPartial longest rest × (most_turns ≤ length (before ++ rest))
   EndsBy a b standing before rest talk.OutOfMemory = Unit {0}
 
   -- no count of faults changed

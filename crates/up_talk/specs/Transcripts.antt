@@ -45,13 +45,14 @@ module _ {A V C N Q R : Type 0} (who : Parties A V C N Q R) where
     pub clock : b.clock ≡ a.clock
 
   -- The verifier was asked whether the signature is that of the challenge by the key of that record, and this was its verdict.
-  pub record IsJudged (a : Around A V C N) (text : List ℕ) (signing : Signing) (nonce signature : List ℕ) (verdict : Verdict) (b : Around A V C N) : Type 0 where
+  pub record IsJudged (a : Around A V C N) (text : List ℕ) (signing : Signing)
+      (nonce signature : List ℕ) (verdict : Verdict) (b : Around A V C N) : Type 0 where
     pub before : Around A V C N
     pub challenged : IsChallenged a text signing nonce before
     pub judged : Grew (who.judged before.verifier) (who.judged b.verifier) (judged_of signing signature verdict ∷ [])
     pub rest : b ≡ record before { verifier = b.verifier }
 
-  -- it was asked, and failed
+  -- the verifier was asked of a signature, and failed
   pub record IsUnjudged (a : Around A V C N) (text : List ℕ) (signing : Signing) (nonce : List ℕ) (b : Around A V C N) : Type 0 where
     pub before : Around A V C N
     pub challenged : IsChallenged a text signing nonce before
@@ -71,7 +72,8 @@ module _ {A V C N Q R : Type 0} (who : Parties A V C N Q R) where
   -- ---- the whole
 
   -- a challenge was sent
-  pub record IsMet (a : Around A V C N) (signing : Signing) (came : List (FromClient Q)) (made : List (ToClient R)) (b : Around A V C N) : Type 0 where
+  pub record IsMet (a : Around A V C N) (signing : Signing) (came : List (FromClient Q))
+      (made : List (ToClient R)) (b : Around A V C N) : Type 0 where
     pub text : List ℕ
     pub nonce : List ℕ
     pub came_is : came ≡ says.Hello text ∷ []
@@ -79,7 +81,8 @@ module _ {A V C N Q R : Type 0} (who : Parties A V C N Q R) where
     pub challenged : IsChallenged a text signing nonce b
 
   -- the user has signed on, and some questions were answered, one after the other
-  pub record IsServed (a : Around A V C N) (signing : Signing) (came : List (FromClient Q)) (made : List (ToClient R)) (b : Around A V C N) : Type 0 where
+  pub record IsServed (a : Around A V C N) (signing : Signing) (came : List (FromClient Q))
+      (made : List (ToClient R)) (b : Around A V C N) : Type 0 where
     pub text : List ℕ
     pub nonce : List ℕ
     pub signature : List ℕ
@@ -95,7 +98,8 @@ module _ {A V C N Q R : Type 0} (who : Parties A V C N Q R) where
   pub data IsRefused (a : Around A V C N) (came : List (FromClient Q)) (made : List (ToClient R)) (b : Around A V C N) : Type 0 where
     unknown : {text : List ℕ} → came ≡ says.Hello text ∷ [] → made ≡ ToClient.NotSigned ∷ [] → IsUnknown a text b → IsRefused a came made b
     denied : {text nonce signature : List ℕ} {signing : Signing} → came ≡ says.Hello text ∷ (says.Proof signature ∷ [])
-        → made ≡ ToClient.Challenge nonce ∷ (ToClient.NotSigned ∷ []) → IsJudged a text signing nonce signature No b → IsRefused a came made b
+        → made ≡ ToClient.Challenge nonce ∷ (ToClient.NotSigned ∷ [])
+        → IsJudged a text signing nonce signature No b → IsRefused a came made b
 
   -- the verifier failed
   pub record IsFailed (a : Around A V C N) (came : List (FromClient Q)) (made : List (ToClient R)) (b : Around A V C N) : Type 0 where

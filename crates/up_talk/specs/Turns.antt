@@ -40,7 +40,9 @@ use Rattle.up_wire.specs.declared.messages.ServerFrame.TheVariants as servers
 
 -- ---- what a connection stands among, of its parts
 
-abbrev pub parties : {A V C N Q R : Type 0} → answers.Ghosts A Q R → fields.Ghosts R → verifier.Ghosts V → clock.Ghosts C → nonces.Ghosts N → Parties A V C N Q R
+-- what is known of a connection's parties, of what each of them tells
+abbrev pub parties : {A V C N Q R : Type 0} → answers.Ghosts A Q R → fields.Ghosts R
+    → verifier.Ghosts V → clock.Ghosts C → nonces.Ghosts N → Parties A V C N Q R
 parties answerers spelled verifiers clocks drawn = record {
   name = answerers.name;
   looked = answerers.looked;
@@ -55,15 +57,21 @@ parties answerers spelled verifiers clocks drawn = record {
   challenges = drawn.coming;
 }
 
+-- what stands around a connection
 abbrev pub around : {A V C N : Type 0} → A → V → C → N → Around A V C N
 around answerer verifier clock nonces = record { answerer = answerer; verifier = verifier; clock = clock; nonces = nonces }
 
+-- the two ends of a connection, by what source and sink tell
 abbrev pub ends : {S K : Type 0} → source.Ghosts S → sink.Ghosts K → S → K → Ends
-ends sources sinks from to = record { left = sources.left from; given = sources.given from; read_faults = sources.faults from; held = sinks.held to; write_faults = sinks.faults to }
+ends sources sinks from to =
+    record { left = sources.left from; given = sources.given from; read_faults = sources.faults from; held = sinks.held to; write_faults = sinks.faults to }
 
+-- the two ends of a connection, whose source has come to this
 abbrev pub ends_at : {K : Type 0} → Option (List ℕ) → ℕ → ℕ → sink.Ghosts K → K → Ends
-ends_at left given faults sinks to = record { left = left; given = given; read_faults = faults; held = sinks.held to; write_faults = sinks.faults to }
+ends_at left given faults sinks to =
+    record { left = left; given = given; read_faults = faults; held = sinks.held to; write_faults = sinks.faults to }
 
+-- all that a connection stands among
 abbrev pub world : {A V C N : Type 0} → Around A V C N → Ends → World A V C N
 world among at = record { around = among; ends = at }
 
@@ -99,11 +107,13 @@ AsksOrBye {Q} asking fits payload None = (client clients.Bye ≢ payload) × ((q
 
 -- What a client says to a connection that stands so, by a payload; or it is the payload of nothing that may come.
 module _ {Q : Type 0} (asking : Q → List ℕ) (fits : Q → Type 0) where
+  -- this payload says this to a connection that stands so
   pub record SaysThis (standing : Standing) (payload : List ℕ) (f : FromClient Q) : Type 0 where
     pub spelled : payload_from asking f ≡ payload
     pub fit : Fits fits f
     pub unfit : may_come standing f ≡ false → IsUnfit asking fits standing payload
 
+  -- What a client says to a connection that stands so, by a payload; or it is the payload of nothing that may come.
   abbrev pub Says : Standing → List ℕ → Option (FromClient Q) → Type 0
   Says standing payload (Some f) = SaysThis standing payload f
   Says standing payload None = IsUnfit asking fits standing payload
@@ -116,9 +126,11 @@ Puts out payload new = new ≡ out ++ frame payload
 
 -- what was gathered is written where it is much, and kept where it is not; after a fault none is kept
 abbrev pub FlushCame : {K : Type 0} → sink.Ghosts K → List ℕ → K → Result (Unit {0}) Failed → List ℕ → K → Type 0
-FlushCame sinks out to (Ok done) now after = ((now ≡ out) × (after ≡ to)) ⊎ ((now ≡ []) × Appends (sinks.held to) (sinks.held after) out × (sinks.faults after ≡ sinks.faults to))
+FlushCame sinks out to (Ok done) now after =
+    ((now ≡ out) × (after ≡ to)) ⊎ ((now ≡ []) × Appends (sinks.held to) (sinks.held after) out × (sinks.faults after ≡ sinks.faults to))
 FlushCame sinks out to (Err failed) now after =
-    (now ≡ []) × WritesPart (sinks.held to) (sinks.held after) out × HasCause (sinks.faults to) (sinks.faults after) ⊥ × Rose (sinks.faults to) (sinks.faults after)
+    (now ≡ []) × WritesPart (sinks.held to) (sinks.held after) out
+    × HasCause (sinks.faults to) (sinks.faults after) ⊥ × Rose (sinks.faults to) (sinks.faults after)
 
 -- the user is told that it is refused, unless there is no memory
 abbrev pub Refuses : List ℕ → Result (Unit {0}) Stop → List ℕ → Type 0
@@ -130,13 +142,19 @@ Refuses out other new = ⊥
 abbrev pub comes : Stage → FromClient (Unit {0}) → Bool
 comes stage f = may_come (standing_at stage) f
 
-module _ {A N : Type 0} (name : A → List ℕ) (looked : A → UserName → Option KeyRecord → A → Type 0) (coming : N → Option (Coming (List ℕ))) where
+module _ {A N : Type 0} (name : A → List ℕ) (looked : A → UserName → Option KeyRecord → A → Type 0)
+    (coming : N → Option (Coming (List ℕ))) where
   -- a user is challenged, or refused
   abbrev pub ChallengeCame : UserName → A → N → List ℕ → Result (Unit {0}) Stop → Stage → A → N → List ℕ → Type 0
-  ChallengeCame user a n out (Ok done) then b m new = (signing : Signing) × ((nonce : List ℕ) × (Draws name looked coming user a n signing nonce b m × (then ≡ stages.Challenged signing) × Puts out (server (servers.Challenge nonce)) new))
+  ChallengeCame user a n out (Ok done) then b m new =
+      (signing : Signing) ×
+      ((nonce : List ℕ) × (Draws name looked coming user a n signing nonce b m × (then ≡ stages.Challenged signing)
+      × Puts out (server (servers.Challenge nonce)) new))
   ChallengeCame user a n out (Err stop.NotSigned) then b m new = looked a user None b × (m ≡ n) × Puts out (server servers.NotSigned) new
   ChallengeCame user a n out (Err stop.OutOfMemory) then b m new =
-      (new ≡ out) × (((b ≡ a) × (m ≡ n)) ⊎ ((looked a user None b × (m ≡ n)) ⊎ ((signing : Signing) × ((nonce : List ℕ) × Draws name looked coming user a n signing nonce b m))))
+      (new ≡ out) ×
+      (((b ≡ a) × (m ≡ n)) ⊎ ((looked a user None b × (m ≡ n))
+      ⊎ ((signing : Signing) × ((nonce : List ℕ) × Draws name looked coming user a n signing nonce b m))))
   ChallengeCame user a n out (Err stop.Unfit) then b m new = ⊥
   ChallengeCame user a n out (Err stop.Bye) then b m new = ⊥
   ChallengeCame user a n out (Err stop.HelperFault) then b m new = ⊥
@@ -144,35 +162,51 @@ module _ {A N : Type 0} (name : A → List ℕ) (looked : A → UserName → Opt
   -- Hello
   abbrev pub HelloCame : List ℕ → Stage → A → N → List ℕ → Result (Unit {0}) Stop → Stage → A → N → List ℕ → Type 0
   HelloCame text stage a n out (Ok done) then b m new =
-      (stage ≡ stages.Unsaid) × ((signing : Signing) × ((nonce : List ℕ) × (Greets name looked coming text a n signing nonce b m × (then ≡ stages.Challenged signing) × Puts out (server (servers.Challenge nonce)) new)))
+      (stage ≡ stages.Unsaid) ×
+      ((signing : Signing) × ((nonce : List ℕ) × (Greets name looked coming text a n signing nonce b m
+      × (then ≡ stages.Challenged signing) × Puts out (server (servers.Challenge nonce)) new)))
   HelloCame text stage a n out (Err stop.Unfit) then b m new = (comes stage (says.Hello text) ≡ false) × (b ≡ a) × (m ≡ n) × (new ≡ out)
-  HelloCame text stage a n out (Err stop.NotSigned) then b m new = (stage ≡ stages.Unsaid) × Unmet name looked coming text a n b m × Puts out (server servers.NotSigned) new
+  HelloCame text stage a n out (Err stop.NotSigned) then b m new =
+      (stage ≡ stages.Unsaid) × Unmet name looked coming text a n b m × Puts out (server servers.NotSigned) new
   HelloCame text stage a n out (Err stop.OutOfMemory) then b m new =
-      (stage ≡ stages.Unsaid) × (new ≡ out) × (((b ≡ a) × (m ≡ n)) ⊎ (Unmet name looked coming text a n b m ⊎ ((signing : Signing) × ((nonce : List ℕ) × Greets name looked coming text a n signing nonce b m))))
+      (stage ≡ stages.Unsaid) × (new ≡ out) ×
+      (((b ≡ a) × (m ≡ n)) ⊎ (Unmet name looked coming text a n b m
+      ⊎ ((signing : Signing) × ((nonce : List ℕ) × Greets name looked coming text a n signing nonce b m))))
   HelloCame text stage a n out (Err stop.Bye) then b m new = ⊥
   HelloCame text stage a n out (Err stop.HelperFault) then b m new = ⊥
 
 module _ {V : Type 0} (judged : V → Option (List Judged)) where
   -- the signature is judged
   abbrev pub JudgeCame : List ℕ → Signing → V → List ℕ → Result (Unit {0}) Stop → Stage → V → List ℕ → Type 0
-  JudgeCame signature signing v out (Ok done) then w new = (then ≡ stages.Signed signing) × Grew (judged v) (judged w) (judged_of signing signature Yes ∷ []) × Puts out (server servers.Welcome) new
-  JudgeCame signature signing v out (Err stop.NotSigned) then w new = Grew (judged v) (judged w) (judged_of signing signature No ∷ []) × Puts out (server servers.NotSigned) new
+  JudgeCame signature signing v out (Ok done) then w new =
+      (then ≡ stages.Signed signing) × Grew (judged v) (judged w) (judged_of signing signature Yes ∷ [])
+      × Puts out (server servers.Welcome) new
+  JudgeCame signature signing v out (Err stop.NotSigned) then w new =
+      Grew (judged v) (judged w) (judged_of signing signature No ∷ []) × Puts out (server servers.NotSigned) new
   JudgeCame signature signing v out (Err stop.HelperFault) then w new = (judged w ≡ judged v) × (new ≡ out)
   JudgeCame signature signing v out (Err stop.OutOfMemory) then w new =
-      (new ≡ out) × (Grew (judged v) (judged w) (judged_of signing signature Yes ∷ []) ⊎ Grew (judged v) (judged w) (judged_of signing signature No ∷ []))
+      (new ≡ out) ×
+      (Grew (judged v) (judged w) (judged_of signing signature Yes ∷ []) ⊎ Grew (judged v) (judged w) (judged_of signing signature No ∷ []))
   JudgeCame signature signing v out (Err stop.Unfit) then w new = ⊥
   JudgeCame signature signing v out (Err stop.Bye) then w new = ⊥
 
   -- Proof
   abbrev pub ProofCame : List ℕ → Stage → V → List ℕ → Result (Unit {0}) Stop → Stage → V → List ℕ → Type 0
   ProofCame signature stage v out (Ok done) then w new =
-      (signing : Signing) × ((stage ≡ stages.Challenged signing) × (then ≡ stages.Signed signing) × Grew (judged v) (judged w) (judged_of signing signature Yes ∷ []) × Puts out (server servers.Welcome) new)
+      (signing : Signing) ×
+      ((stage ≡ stages.Challenged signing) × (then ≡ stages.Signed signing)
+      × Grew (judged v) (judged w) (judged_of signing signature Yes ∷ []) × Puts out (server servers.Welcome) new)
   ProofCame signature stage v out (Err stop.Unfit) then w new = (comes stage (says.Proof signature) ≡ false) × (w ≡ v) × (new ≡ out)
   ProofCame signature stage v out (Err stop.NotSigned) then w new =
-      (signing : Signing) × ((stage ≡ stages.Challenged signing) × Grew (judged v) (judged w) (judged_of signing signature No ∷ []) × Puts out (server servers.NotSigned) new)
-  ProofCame signature stage v out (Err stop.HelperFault) then w new = (signing : Signing) × ((stage ≡ stages.Challenged signing) × (judged w ≡ judged v) × (new ≡ out))
+      (signing : Signing) ×
+      ((stage ≡ stages.Challenged signing) × Grew (judged v) (judged w) (judged_of signing signature No ∷ [])
+      × Puts out (server servers.NotSigned) new)
+  ProofCame signature stage v out (Err stop.HelperFault) then w new =
+      (signing : Signing) × ((stage ≡ stages.Challenged signing) × (judged w ≡ judged v) × (new ≡ out))
   ProofCame signature stage v out (Err stop.OutOfMemory) then w new =
-      (signing : Signing) × ((stage ≡ stages.Challenged signing) × (new ≡ out) × (Grew (judged v) (judged w) (judged_of signing signature Yes ∷ []) ⊎ Grew (judged v) (judged w) (judged_of signing signature No ∷ [])))
+      (signing : Signing) ×
+      ((stage ≡ stages.Challenged signing) × (new ≡ out) × (Grew (judged v) (judged w) (judged_of signing signature Yes ∷ [])
+      ⊎ Grew (judged v) (judged w) (judged_of signing signature No ∷ [])))
   ProofCame signature stage v out (Err stop.Bye) then w new = ⊥
 
 module _ {A C Q R : Type 0} (answering : R → List ℕ) (calls : A → UserName → Q → ℕ → R → A → Type 0) (coming : C → Option (Coming ℕ)) where
@@ -184,9 +218,12 @@ module _ {A C Q R : Type 0} (answering : R → List ℕ) (calls : A → UserName
     pub read : Gives (coming c) moment (coming d)
     pub asked : calls a signing.user question moment answer b
 
+  -- what came of a question: it is answered, or may not come now, or there was no memory for the answer
   abbrev pub AskCame : Q → Stage → A → C → List ℕ → Result (Unit {0}) Stop → A → C → List ℕ → Type 0
-  AskCame question stage a c out (Ok done) b d new = (answer : R) × (Replied question stage a c answer b d × Puts out (answering answer) new)
-  AskCame question stage a c out (Err stop.Unfit) b d new = (may_come (standing_at stage) (says.Ask question) ≡ false) × (b ≡ a) × (d ≡ c) × (new ≡ out)
+  AskCame question stage a c out (Ok done) b d new =
+      (answer : R) × (Replied question stage a c answer b d × Puts out (answering answer) new)
+  AskCame question stage a c out (Err stop.Unfit) b d new =
+      (may_come (standing_at stage) (says.Ask question) ≡ false) × (b ≡ a) × (d ≡ c) × (new ≡ out)
   AskCame question stage a c out (Err stop.OutOfMemory) b d new = (answer : R) × (Replied question stage a c answer b d × (new ≡ out))
   AskCame question stage a c out (Err stop.NotSigned) b d new = ⊥
   AskCame question stage a c out (Err stop.HelperFault) b d new = ⊥
@@ -216,20 +253,25 @@ IsEndOf incoming other = ⊥
 
 module _ {A V C N Q R : Type 0} (who : Parties A V C N Q R) where
   -- of a connection so far, what came of one frame more
-  abbrev pub HandledFrom : Around A V C N → Standing → List (FromClient Q) → List (ToClient R) → Around A V C N → FromClient Q → List ℕ → Result (Unit {0}) Stop → Standing → Around A V C N → List ℕ → Type 0
+  abbrev pub HandledFrom : Around A V C N → Standing → List (FromClient Q) → List (ToClient R) → Around A V C N
+      → FromClient Q → List ℕ → Result (Unit {0}) Stop → Standing → Around A V C N → List ℕ → Type 0
   HandledFrom a standing came made b f out (Ok done) then c new =
       (sent : ToClient R) × (Transcript who a then (came ++ f ∷ []) (made ++ sent ∷ []) c × Puts out (payload_to who.answering sent) new)
   HandledFrom a standing came made b f out (Err stop.Unfit) then c new = (may_come standing f ≡ false) × (c ≡ b) × (new ≡ out)
   HandledFrom a standing came made b f out (Err stop.Bye) then c new = (f ≡ says.Bye) × (may_come standing f ≡ true) × (c ≡ b) × (new ≡ out)
   HandledFrom a standing came made b f out (Err stop.NotSigned) then c new =
       Transcript who a Standing.Refused (came ++ f ∷ []) (made ++ ToClient.NotSigned ∷ []) c × Puts out (server servers.NotSigned) new
-  HandledFrom a standing came made b f out (Err stop.HelperFault) then c new = Transcript who a Standing.Failed (came ++ f ∷ []) made c × (new ≡ out)
+  HandledFrom a standing came made b f out (Err stop.HelperFault) then c new =
+      Transcript who a Standing.Failed (came ++ f ∷ []) made c × (new ≡ out)
   HandledFrom a standing came made b f out (Err stop.OutOfMemory) then c new =
       (new ≡ out) × ((c ≡ b) ⊎ ((last : Standing) × ((sent : ToClient R) × Transcript who a last (came ++ f ∷ []) (made ++ sent ∷ []) c)))
 
-  abbrev pub Handled : Standing → Around A V C N → FromClient Q → List ℕ → Result (Unit {0}) Stop → Standing → Around A V C N → List ℕ → Type 0
+  -- what a client said was handled, whatever came before it on the connection
+  abbrev pub Handled : Standing → Around A V C N → FromClient Q → List ℕ
+      → Result (Unit {0}) Stop → Standing → Around A V C N → List ℕ → Type 0
   Handled standing b f out result then c new =
-      (a : Around A V C N) (came : List (FromClient Q)) (made : List (ToClient R)) → Transcript who a standing came made b → HandledFrom a standing came made b f out result then c new
+      (a : Around A V C N) (came : List (FromClient Q)) (made : List (ToClient R))
+      → Transcript who a standing came made b → HandledFrom a standing came made b f out result then c new
 
   -- ---- a connection so far, and at its end
 
@@ -244,7 +286,7 @@ module _ {A V C N Q R : Type 0} (who : Parties A V C N Q R) where
     pub counts : CountsSame who a b
     pub tie : who.tied a.around.answerer b.around.answerer
 
-  -- it has ended, and these bytes are still to be written; where a write fault has ended it, none are
+  -- a connection has ended, and these bytes are still to be written; where a write fault has ended it, none are
   pub record Ending (a b : World A V C N) (unwritten : List ℕ) (end : TalkEnd) : Type 0 where
     pub came : List (FromClient Q)
     pub made : List (ToClient R)
@@ -259,7 +301,7 @@ module _ {A V C N Q R : Type 0} (who : Parties A V C N Q R) where
     pub counts : CountsStay who a b end
     pub tie : who.tied a.around.answerer b.around.answerer
 
-  -- it goes on, or has ended
+  -- a connection goes on, or has ended
   abbrev pub GoesOn : World A V C N → World A V C N → Standing → Held → List ℕ → Result (Unit {0}) TalkEnd → Type 0
   GoesOn a b standing incoming unwritten (Ok done) = Talking a b standing incoming unwritten
   GoesOn a b standing incoming unwritten (Err end) = Ending a b unwritten end
@@ -270,10 +312,12 @@ module _ {A V C N Q R : Type 0} (who : Parties A V C N Q R) where
     pub written : unwritten ≡ []
     pub partial : IsPartial longest incoming.bytes
 
+  -- a whole connection, with its answerer tied
   pub record Talked (a b : World A V C N) (end : TalkEnd) : Type 0 where
     pub talks : Talks who a b end
     pub tie : who.tied a.around.answerer b.around.answerer
 
+  -- one more turn of a connection: it waits for more, or it ended
   abbrev pub Turned : World A V C N → World A V C N → Standing → Held → List ℕ → Result (Unit {0}) TalkEnd → Type 0
   Turned a b standing incoming unwritten (Ok done) = Waiting a b standing incoming unwritten
   Turned a b standing incoming unwritten (Err end) = Talked a b end

@@ -1,13 +1,12 @@
 -- What the status of a session says.
 use Rattle.std.proofs.Common.{◌≡◌, ◌≢◌, ◌≤◌, ◌<◌, ◌==◌, ◌||◌, ◌⊎◌, inl, inr, ℕ, Bool, true, false, List, [], ◌∷◌, ◌++◌, length, cond, not, Option, Some, None, Result, Ok, Err, refl, sym, ap, subst, ◌∙◌, append_assoc, append-nil, length-append, arith}
 use Rattle.std.specs.Prelude.{IfSome, IsErrOf, is_some, if◌then◌else◌}
-use Rattle.std.specs.Io.KnownBytes.{IsAtEnd}
 use Rattle.std.specs.List.{AllByRecursion, after_first, before_first, list_any, onto_first, slice_split}
 use Rattle.std.proofs.lemmas.Bool.{cases_eq, ne_eqb}
 use Rattle.std.proofs.lemmas.List.Sums.{prefix_len-le-length}
 use Rattle.std.proofs.lemmas.List.Splits.{slice_split-cons_no, slice_split-cons_yes}
 use Rattle.up_command.specs.Statuses.{IsOneOf}
-use Rattle.up_lists.specs.Counts.{HasCause, Rose, StaysUnless}
+use Rattle.up_lists.specs.Counts.{HasCause, Rose}
 use Rattle.up_lists.proofs.Causes.{HasCause-weaker}
 use Rattle.up_names.specs.Texts.{Text, UserName}
 use Rattle.up_text.specs.Lines.{is_line_end, script_lines, without_empty_last}
@@ -23,16 +22,6 @@ use Rattle.up_terminal.specs.declared.stop.Stop.{Stop}
 use Rattle.up_terminal.specs.declared.stop.Stop.TheVariants as stop
 
 -- ---- the status that a session ends with
-
--- the statuses that come
-pub codes_come : (result : Result (Unit {0}) Stop) → IsOneOf (0 ∷ 1 ∷ 2 ∷ 3 ∷ 4 ∷ 7 ∷ 11 ∷ 64 ∷ []) (code_by result)
-codes_come (Ok done) = refl
-codes_come (Err stop.BadLine) = refl
-codes_come (Err stop.ReadFault) = refl
-codes_come (Err stop.WriteFault) = refl
-codes_come (Err stop.OutOfMemory) = refl
-codes_come (Err stop.TooLong) = refl
-codes_come (Err stop.AskFault) = refl
 
 -- each is one way to end
 abbrev ending_of : ℕ → Result (Unit {0}) Stop
@@ -61,43 +50,9 @@ code_is result why is = sym (ending_again result) ∙ ap ending_of is ∙ ending
 pub cause_by : (before now : ℕ) (result : Result (Unit {0}) Stop) (why : Stop) (status : ℕ) → status ≡ code_by result → HasCause before now (IsErrOf result why) → HasCause before now (status ≡ stopped_code why)
 cause_by before now result why status same cause = HasCause-weaker before now (IsErrOf result why) (status ≡ stopped_code why) cause (λ is. code_is result why (sym same ∙ is))
 
-pub quiet_by : (before now : ℕ) (result : Result (Unit {0}) Stop) (why : Stop) (status : ℕ) → status ≡ code_by result → StaysUnless before now (IsErrOf result why) → StaysUnless before now (status ≡ stopped_code why)
-quiet_by before now result why status same quiet = record { stays = λ other. quiet.stays (λ is. other (same ∙ ap code_by is)) }
-
--- no session ends with the status of words that fit no command
-pub never_usage : (result : Result (Unit {0}) Stop) (status : ℕ) → status ≡ code_by result → status ≡ 64 → ⊥
-never_usage (Ok done) status same is = let e = sym same ∙ is in omega (arith, e)
-never_usage (Err stop.BadLine) status same is = let e = sym same ∙ is in omega (arith, e)
-never_usage (Err stop.ReadFault) status same is = let e = sym same ∙ is in omega (arith, e)
-never_usage (Err stop.WriteFault) status same is = let e = sym same ∙ is in omega (arith, e)
-never_usage (Err stop.OutOfMemory) status same is = let e = sym same ∙ is in omega (arith, e)
-never_usage (Err stop.TooLong) status same is = let e = sym same ∙ is in omega (arith, e)
-never_usage (Err stop.AskFault) status same is = let e = sym same ∙ is in omega (arith, e)
-
 -- what holds of the user of words that name one
 pub of_user : (found : Option UserName) (user : UserName) (P : UserName → Type 0) → found ≡ Some user → P user → IfSome found P
 of_user found user P is holds = subst (λ (one : Option UserName). IfSome one P) (sym is) holds
-
--- and of words that name none
-pub of_none : (found : Option UserName) (P : UserName → Type 0) → found ≡ None → IfSome found P
-of_none found P is = subst (λ (one : Option UserName). IfSome one P) (sym is) tt
-
--- where a session ends with 0, no byte is left
-module _ {S : Type 0} (answers : S → Request → Option Reply → S → Type 0) (user : UserName) where
-  ends_over : (last b : S) (number bytes : ℕ) (over : Bool) (rest tail : Text) (code : ℕ) → Ends answers user last number bytes over rest tail code b → code ≡ 0 → over ≡ true
-  ends_over last b number bytes over rest tail code (Ends.at_end is none) zero_is = is
-  ends_over last b number bytes over rest tail code (Ends.bad line more cut good none) zero_is = absurd (omega (arith, zero_is))
-  ends_over last b number bytes over rest tail code (Ends.stopped line more stops.AskFault cut good came) zero_is = absurd (omega (arith, zero_is))
-  ends_over last b number bytes over rest tail code (Ends.stopped line more stops.OutOfMemory cut good came) zero_is = absurd (omega (arith, zero_is))
-  ends_over last b number bytes over rest tail code (Ends.unread is good) zero_is = absurd (omega (arith, zero_is))
-  ends_over last b number bytes over rest tail code Ends.unwritten zero_is = absurd (omega (arith, zero_is))
-  ends_over last b number bytes over rest tail code (Ends.too_long long) zero_is = absurd (omega (arith, zero_is))
-  ends_over last b number bytes over rest tail code (Ends.spent many) zero_is = absurd (omega (arith, zero_is))
-
-  pub done_at_end : (left left_now : Option Text) (given given_now : ℕ) (old now : Option Text) (a b : S) (status : ℕ) → Means answers user left left_now given given_now old now a status b → status ≡ 0 → IsAtEnd left_now
-  done_at_end left left_now given given_now old now a b status means is =
-      let ran = means.ran in
-      means.at_end (ends_over ran.last b _ _ means.over ran.rest ran.tail ran.code ran.ends (sym (ran.status_is (ap is_cut is)) ∙ is))
 
 -- ---- where all lines are good
 

@@ -1,12 +1,9 @@
 -- What one line came to, by what its parts answered.
-use Rattle.std.proofs.Common.{◌≡◌, inl, inr, ℕ, [], ◌∷◌, ◌++◌, length, Option, Some, None, Result, Ok, Err, refl, ap, subst, ◌∙◌, arith}
-use Rattle.std.specs.Prelude.{IsErrOf}
-use Rattle.std.specs.Io.KnownBytes.{Appends}
-use Rattle.up_ends.specs.Writing.{WritesPart}
+use Rattle.std.proofs.Common.{◌≡◌, inl, inr, ℕ, [], ◌∷◌, length, Option, Some, None, Result, Ok, Err, refl, arith}
 use Rattle.up_names.specs.Texts.{Text, UserName}
 use Rattle.up_wire.specs.declared.replies.Reply.{Reply}
 use Rattle.up_wire.specs.declared.requests.Request.{Request}
-use Rattle.up_terminal.specs.Answers.{LineCame, SaysCame, Turned, said}
+use Rattle.up_terminal.specs.Answers.{LineCame}
 use Rattle.up_terminal.specs.Lines.{line_of}
 use Rattle.up_terminal.specs.Sessions.{DoneAndPrinted, LineRan, Named}
 use Rattle.up_terminal.specs.declared.stop.Stop.{Stop}
@@ -39,22 +36,3 @@ module _ {S : Type 0} (answers : S → Request → Option Reply → S → Type 0
   line_named held now a line number (Err stop.AskFault) none named = absurd named
   line_named held now a line number (Err stop.ReadFault) none named = absurd named
   line_named held now a line number (Err stop.TooLong) none named = absurd named
-
-  -- a line is no matter of the source
-  pub never_read : (held now : Option Text) (a b : S) (line : Text) (number : ℕ) (result : Result (Unit {0}) Stop) → LineRan answers user number held now a line result b → IsErrOf result stop.ReadFault → ⊥
-  never_read held now a b line number result ran is = subst (λ (r : Result (Unit {0}) Stop). LineRan answers user number held now a line r b) is ran
-
-  pub says_never_long : (held now : Option Text) (a b : S) (says : TerminalLine) (result : Result (Unit {0}) Stop) → DoneAndPrinted answers user held now a says result b → IsErrOf result stop.TooLong → ⊥
-  says_never_long held now a b says result ran is = subst (λ (r : Result (Unit {0}) Stop). DoneAndPrinted answers user held now a says r b) is ran
-
-  -- what was done is printed whole, or a part of it
-  pub printed_whole : (held now : Option Text) (a b : S) (says : TerminalLine) (gathered text : Text) → Turned (λ came. SaysCame answers user a says came b) gathered (Ok tt) text → gathered ≡ [] → Appends held now text → DoneAndPrinted answers user held now a says (Ok tt) b
-  printed_whole held now a b says gathered text turned none wrote =
-      (turned.0, (turned.1.0, subst (Appends held now) (turned.1.1 ∙ ap (λ xs. xs ++ said turned.0) none) wrote))
-
-  pub printed_part : (held now : Option Text) (a b : S) (says : TerminalLine) (gathered text : Text) → Turned (λ came. SaysCame answers user a says came b) gathered (Ok tt) text → gathered ≡ [] → WritesPart held now text → DoneAndPrinted answers user held now a says (Err stop.WriteFault) b
-  printed_part held now a b says gathered text turned none wrote =
-      (turned.0, (turned.1.0, subst (λ xs. WritesPart held now xs) (turned.1.1 ∙ ap (λ xs. xs ++ said turned.0) none) wrote))
-
-pub named_never_long : (held now : Option Text) (number : ℕ) (result : Result (Unit {0}) Stop) → Named number held now result → IsErrOf result stop.TooLong → ⊥
-named_never_long held now number result named is = subst (λ (r : Result (Unit {0}) Stop). Named number held now r) is named

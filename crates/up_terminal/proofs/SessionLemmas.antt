@@ -15,7 +15,7 @@ use Rattle.up_text.specs.Lines.{is_line_end, script_lines}
 use Rattle.up_wire.specs.declared.replies.Reply.{Reply}
 use Rattle.up_wire.specs.declared.requests.Request.{Request}
 use Rattle.up_terminal.proofs.CutLemmas.{IsUnbroken, before_cons, before_none, each-snoc, lines_front, lines_last, lines_none, lines_text-snoc}
-use Rattle.up_terminal.specs.Answers.{Did, LineCame, said}
+use Rattle.up_terminal.specs.Answers.{LineDid, LineCame, did_text}
 use Rattle.up_terminal.specs.Lines.{IsLine, cut_text, line_of, lines_text}
 use Rattle.up_terminal.specs.Runs.{Ends, LineDoes, Ran, is_cut, printed, stop_code}
 use Rattle.up_terminal.specs.Sessions.{Closes, Goes, LineRan, Reading, Running, behind, stopped_code}
@@ -24,8 +24,8 @@ use Rattle.up_terminal.specs.declared.stop.LineStop.TheVariants as stops
 use Rattle.up_terminal.specs.declared.stop.Stop.{Stop}
 use Rattle.up_terminal.specs.declared.stop.Stop.TheVariants as stop
 
-printed-more : (dids : List Did) (did : Did) → printed (dids ++ did ∷ []) ≡ printed dids ++ said did
-printed-more dids did = flat_map-append said dids (did ∷ []) ∙ ap (λ xs. printed dids ++ xs) (append-nil (said did))
+printed-more : (dids : List LineDid) (did : LineDid) → printed (dids ++ did ∷ []) ≡ printed dids ++ did_text did
+printed-more dids did = flat_map-append did_text dids (did ∷ []) ∙ ap (λ xs. printed dids ++ xs) (append-nil (did_text did))
 
 -- a text was written, and of the next one a part
 part-after : (old mid now : Option Text) (all text : Text) → Appends old mid all → WritesPart mid now text → WritesPart old now (all ++ text)
@@ -67,7 +67,7 @@ module _ {S : Type 0} (answers : S → Request → Option Reply → S → Type 0
   }
 
   -- a line was done
-  pub Running-line : (old mid now : Option Text) (a b c : S) (text line more : Text) (number : ℕ) (did : Did) → Running answers user old mid a b text (line ++ 10 ∷ more) number → IsLine line → LineCame answers user b line (Ok did) c → Appends mid now (said did)
+  pub Running-line : (old mid now : Option Text) (a b c : S) (text line more : Text) (number : ℕ) (did : LineDid) → Running answers user old mid a b text (line ++ 10 ∷ more) number → IsLine line → LineCame answers user b line (Ok did) c → Appends mid now (did_text did)
       → Running answers user old now a c text more (number + 1)
   Running-line old mid now a b c text line more number did h good came wrote = record {
     done = h.done ++ line ∷ [];
@@ -75,7 +75,7 @@ module _ {S : Type 0} (answers : S → Request → Option Reply → S → Type 0
     each = each-snoc IsLine h.done line h.each good;
     dids = h.dids ++ did ∷ [];
     run = Run-snoc (LineDoes answers user) a b c h.done line h.dids did h.run came;
-    written = subst (λ xs. Appends old now xs) (sym (printed-more h.dids did)) (Appends-trans old mid now (printed h.dids) (said did) h.written wrote);
+    written = subst (λ xs. Appends old now xs) (sym (printed-more h.dids did)) (Appends-trans old mid now (printed h.dids) (did_text did) h.written wrote);
     count = let k : length (h.done ++ line ∷ []) ≡ length h.done + 1 = length-append h.done (line ∷ []) in omega (arith, h.count, k);
   }
 
@@ -146,8 +146,8 @@ module _ {S : Type 0} (answers : S → Request → Option Reply → S → Type 0
       }
 
   -- behind a line whose text was not written whole
-  pub Ran-unwritten : (old mid now : Option Text) (a b c : S) (text line more : Text) (number bytes status : ℕ) (over : Bool) (did : Did) → Running answers user old mid a b text (line ++ 10 ∷ more) number → IsLine line → LineCame answers user b line (Ok did) c
-      → is_cut status ≡ true → WritesPart mid now (said did) → Ran answers user old now a text bytes over status c
+  pub Ran-unwritten : (old mid now : Option Text) (a b c : S) (text line more : Text) (number bytes status : ℕ) (over : Bool) (did : LineDid) → Running answers user old mid a b text (line ++ 10 ∷ more) number → IsLine line → LineCame answers user b line (Ok did) c
+      → is_cut status ≡ true → WritesPart mid now (did_text did) → Ran answers user old now a text bytes over status c
   Ran-unwritten old mid now a b c text line more number bytes status over did h good came cut part = record {
     done = h.done ++ line ∷ [];
     rest = more;
@@ -161,7 +161,7 @@ module _ {S : Type 0} (answers : S → Request → Option Reply → S → Type 0
     ends = Ends.unwritten;
     status_is = λ uncut. uncut_is_absurd status cut uncut;
     whole = λ uncut. uncut_is_absurd status cut uncut;
-    part = subst (λ xs. WritesPart old now xs) (sym (append-nil (printed (h.dids ++ did ∷ [])) ∙ printed-more h.dids did)) (part-after old mid now (printed h.dids) (said did) h.written part);
+    part = subst (λ xs. WritesPart old now xs) (sym (append-nil (printed (h.dids ++ did ∷ [])) ∙ printed-more h.dids did)) (part-after old mid now (printed h.dids) (did_text did) h.written part);
   }
 
   -- by why a line was not done
@@ -184,9 +184,9 @@ module _ {S : Type 0} (answers : S → Request → Option Reply → S → Type 0
       good : IsLine line
       good = record { unbroken = none; short = short (λ is. cc) }
 
-      by : (LineCame answers user b line (Err stops.OutOfMemory) c ⊎ ((did : Did) × LineCame answers user b line (Ok did) c)) → Ran answers user old mid a text bytes over 4 c
+      by : (LineCame answers user b line (Err stops.OutOfMemory) c ⊎ ((did : LineDid) × LineCame answers user b line (Ok did) c)) → Ran answers user old mid a text bytes over 4 c
       by (inl came) = Ran-stop old mid a b c text line more number bytes 4 over stops.OutOfMemory h good came (λ uncut. uncut_is_absurd 4 refl uncut)
-      by (inr did) = Ran-unwritten old mid mid a b c text line more number bytes 4 over did.0 h good did.1 refl (WritesPart-none mid (said did.0))
+      by (inr did) = Ran-unwritten old mid mid a b c text line more number bytes 4 over did.0 h good did.1 refl (WritesPart-none mid (did_text did.0))
   Ran-by old mid now a b c text line more number bytes over stop.ReadFault h none short ran = absurd ran
   Ran-by old mid now a b c text line more number bytes over stop.TooLong h none short ran =
       let long : input_limit < length (before_first is_line_end (line ++ 10 ∷ more)) = subst (λ xs. input_limit < length xs) (sym (before_cons line more none)) ran.0 in

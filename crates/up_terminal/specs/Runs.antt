@@ -11,14 +11,14 @@ use Rattle.up_names.specs.Texts.{Text, UserName}
 use Rattle.up_text.specs.Lines.{is_line_end}
 use Rattle.up_wire.specs.declared.replies.Reply.{Reply}
 use Rattle.up_wire.specs.declared.requests.Request.{Request}
-use Rattle.up_terminal.specs.Answers.{Did, LineCame, said}
+use Rattle.up_terminal.specs.Answers.{LineDid, LineCame, did_text}
 use Rattle.up_terminal.specs.Lines.{IsLine, cut_text, line_of, lines_text}
 use Rattle.up_terminal.specs.declared.stop.LineStop.{LineStop}
 use Rattle.up_terminal.specs.declared.stop.LineStop.TheVariants as stop
 
 -- what is printed of all that lines did, in order
-abbrev pub printed : List Did → Text
-printed dids = flat_map said dids
+abbrev pub printed : List LineDid → Text
+printed dids = flat_map did_text dids
 
 -- the status of a run that ends at a line that was not done
 abbrev pub stop_code : LineStop → ℕ
@@ -35,7 +35,7 @@ read_limit = 2 ^ 40
 
 module _ {S : Type 0} (answers : S → Request → Option Reply → S → Type 0) (user : UserName) where
   -- a line did something, and did not end the run
-  abbrev pub LineDoes : S → Text → Did → S → Type 0
+  abbrev pub LineDoes : S → Text → LineDid → S → Type 0
   LineDoes a line did b = LineCame answers user a line (Ok did) b
 
   -- How a run ends behind the lines that it did, by the number of the next line, how many bytes were read, whether the input has ended
@@ -59,7 +59,7 @@ module _ {S : Type 0} (answers : S → Request → Option Reply → S → Type 0
     pub rest : Text
     pub cut : lines_text done ++ rest ≡ text
     pub each : AllByRecursion IsLine done
-    pub dids : List Did
+    pub dids : List LineDid
     pub last : S
     pub run : Run LineDoes a done dids last
     pub tail : Text

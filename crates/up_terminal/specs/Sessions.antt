@@ -1,5 +1,6 @@
 -- What calls within a session leave behind. This project's own.
-use Rattle.std.specs.Prelude.{◌≡◌, ◌<◌, ◌+◌, ◌⊎◌, ℕ, false, true, List, [], ◌∷◌, ◌++◌, length, codes, Option, None, Result, Ok, Err, MatchResult}
+use Rattle.std.specs.Prelude.{◌≡◌, ◌<◌, ◌+◌, ◌⊎◌, ℕ, false, true, List, [], ◌∷◌, ◌++◌, length, codes, Option, None, Result, Ok, Err}
+use Rattle.std.specs.Prelude.{MatchResult}
 use Rattle.std.specs.Io.KnownBytes.{Appends}
 use Rattle.std.specs.List.{AllByRecursion}
 use Rattle.up_ends.specs.Writing.{WritesPart}
@@ -9,7 +10,7 @@ use Rattle.up_wire.specs.declared.replies.Reply.{Reply}
 use Rattle.up_wire.specs.declared.requests.Request.{Request}
 use Rattle.up_command.specs.Printed.{bad_line}
 use Rattle.up_command.specs.Statuses.{input_limit}
-use Rattle.up_terminal.specs.Answers.{Did, LineCame, SaysCame, said}
+use Rattle.up_terminal.specs.Answers.{LineDid, LineCame, SaysCame, did_text}
 use Rattle.up_terminal.specs.Lines.{IsLine, line_of, lines_text}
 use Rattle.up_terminal.specs.Runs.{LineDoes, Ran, printed}
 use Rattle.up_terminal.specs.declared.terminal_line.TerminalLine.{TerminalLine}
@@ -51,24 +52,24 @@ behind (b ∷ line) = codes "\n"
 module _ {S : Type 0} (answers : S → Request → Option Reply → S → Type 0) (user : UserName) where
   -- What a line says was done, and what it prints was written; or not, and this is why.
   abbrev pub DoneAndPrinted : Option Text → Option Text → S → TerminalLine → Result (Unit {0}) Stop → S → Type 0
-  DoneAndPrinted old new a says (Ok done) b = (did : Did) × (SaysCame answers user a says (Ok did) b × Appends old new (said did))
+  DoneAndPrinted old new a says (Ok done) b = (did : LineDid) × (SaysCame answers user a says (Ok did) b × Appends old new (did_text did))
   DoneAndPrinted old new a says (Err stop.AskFault) b = SaysCame answers user a says (Err stops.AskFault) b × (new ≡ old)
   DoneAndPrinted old new a says (Err stop.WriteFault) b =
-      (did : Did) × (SaysCame answers user a says (Ok did) b × WritesPart old new (said did))
+      (did : LineDid) × (SaysCame answers user a says (Ok did) b × WritesPart old new (did_text did))
   DoneAndPrinted old new a says (Err stop.OutOfMemory) b =
-      (SaysCame answers user a says (Err stops.OutOfMemory) b ⊎ ((did : Did) × SaysCame answers user a says (Ok did) b)) × (new ≡ old)
+      (SaysCame answers user a says (Err stops.OutOfMemory) b ⊎ ((did : LineDid) × SaysCame answers user a says (Ok did) b)) × (new ≡ old)
   DoneAndPrinted old new a says result b = ⊥
 
   -- A line with a number was run: it was done, and what it prints was written; or it was not, and this is why.
   abbrev pub LineRan : ℕ → Option Text → Option Text → S → Text → Result (Unit {0}) Stop → S → Type 0
-  LineRan number old new a line (Ok done) b = (did : Did) × (LineCame answers user a line (Ok did) b × Appends old new (said did))
+  LineRan number old new a line (Ok done) b = (did : LineDid) × (LineCame answers user a line (Ok did) b × Appends old new (did_text did))
   LineRan number old new a line (Err stop.BadLine) b = (line_of user line ≡ None) × ((b ≡ a) × Appends old new (bad_line number))
   LineRan number old new a line (Err stop.AskFault) b = LineCame answers user a line (Err stops.AskFault) b × (new ≡ old)
   LineRan number old new a line (Err stop.WriteFault) b =
-      ((did : Did) × (LineCame answers user a line (Ok did) b × WritesPart old new (said did)))
+      ((did : LineDid) × (LineCame answers user a line (Ok did) b × WritesPart old new (did_text did)))
       ⊎ ((line_of user line ≡ None) × ((b ≡ a) × WritesPart old new (bad_line number)))
   LineRan number old new a line (Err stop.OutOfMemory) b =
-      (LineCame answers user a line (Err stops.OutOfMemory) b ⊎ ((did : Did) × LineCame answers user a line (Ok did) b)) × (new ≡ old)
+      (LineCame answers user a line (Err stops.OutOfMemory) b ⊎ ((did : LineDid) × LineCame answers user a line (Ok did) b)) × (new ≡ old)
   LineRan number old new a line (Err stop.ReadFault) b = ⊥
   LineRan number old new a line (Err stop.TooLong) b = (input_limit < length line) × ((b ≡ a) × (new ≡ old))
 
@@ -77,7 +78,7 @@ module _ {S : Type 0} (answers : S → Request → Option Reply → S → Type 0
     pub done : List Text
     pub cut : lines_text done ++ rest ≡ text
     pub each : AllByRecursion IsLine done
-    pub dids : List Did
+    pub dids : List LineDid
     pub run : Run (LineDoes answers user) a done dids b
     pub written : Appends old now (printed dids)
     pub count : number ≡ length done + 1

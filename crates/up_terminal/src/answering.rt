@@ -5,7 +5,7 @@ ghost use Rattle.up_client.specs.Talks.{Held};
 ghost use Rattle.up_command.specs.Printed.{ended};
 ghost use Rattle.up_command.specs.Words.{call_path};
 ghost use Rattle.up_lists.specs.Counts.{HasCause, StaysUnless};
-ghost use Rattle.up_terminal.specs.Answers.{AskCame, CallCame, SaysCame, Turned, got_said, put_said, replied};
+ghost use Rattle.up_terminal.specs.Answers.{AskCame, CallCame, SaysCame, LineGathered, result_of_get, result_of_put, result_of_answer};
 ghost use Rattle.up_terminal.specs.Lines.{lines_text};
 ghost use Rattle.up_text.specs.ClientFaults.{fault_lines};
 ghost use Rattle.up_text.specs.Replies.{reply_lines};
@@ -29,7 +29,7 @@ pub(crate) fn do_line<A: Ask>(
     ask: &mut A,
     out: &mut Vec<u8>,
 ) -> Result<(), LineStop>
-    ensures came { Turned (λ came. SaysCame A.answers user.now ask.old says came ask.new)
+    ensures came { LineGathered (λ came. SaysCame A.answers user.now ask.old says came ask.new)
         out.old.items result out.new.items }
     ensures cause { HasCause (A.faults ask.old) (A.faults ask.new)
         (IsErrOf result LineStop.AskFault) }
@@ -51,7 +51,7 @@ fn request_made<A: Ask>(
     ask: &mut A,
     out: &mut Vec<u8>,
 ) -> Result<(), LineStop>
-    ensures came { Turned (λ came. AskCame A.answers request.now ask.old came ask.new)
+    ensures came { LineGathered (λ came. AskCame A.answers request.now ask.old came ask.new)
         out.old.items result out.new.items }
     ensures cause { HasCause (A.faults ask.old) (A.faults ask.new)
         (IsErrOf result LineStop.AskFault) }
@@ -60,18 +60,22 @@ fn request_made<A: Ask>(
     ensures tie { A.tied ask.old ask.new }
 {
     let given = ask.ask(alloc, request);
-    say_given(alloc, out, given)
+    say_request_result(alloc, out, given)
 }
 
 // What came of a request.
-fn say_given(alloc: Global, out: &mut Vec<u8>, given: Result<Reply, Failed>) -> Result<(), LineStop>
-    ensures said { Turned (λ came. came ≡ replied (result_ok given))
+fn say_request_result(
+    alloc: Global,
+    out: &mut Vec<u8>,
+    given: Result<Reply, Failed>,
+) -> Result<(), LineStop>
+    ensures said { LineGathered (λ came. came ≡ result_of_answer (result_ok given))
         out.old.items result out.new.items }
     ensures failed { IsErrOf result LineStop.AskFault ↔ IsErr given }
 {
     match given {
         Ok(reply) => {
-            let said = say_replied(alloc, out, &reply);
+            let said = say_reply_result(alloc, out, &reply);
             drop(reply);
             said
         }
@@ -80,8 +84,8 @@ fn say_given(alloc: Global, out: &mut Vec<u8>, given: Result<Reply, Failed>) -> 
 }
 
 // What is said of a reply.
-fn say_replied(alloc: Global, out: &mut Vec<u8>, reply: &Reply) -> Result<(), LineStop>
-    ensures said { Turned (λ came. came ≡ replied (Some reply.now))
+fn say_reply_result(alloc: Global, out: &mut Vec<u8>, reply: &Reply) -> Result<(), LineStop>
+    ensures said { LineGathered (λ came. came ≡ result_of_answer (Some reply.now))
         out.old.items result out.new.items }
     ensures answered { IsErrOf result LineStop.AskFault → ⊥ }
 {
@@ -99,7 +103,7 @@ fn call_made<A: Ask>(
     ask: &mut A,
     out: &mut Vec<u8>,
 ) -> Result<(), LineStop>
-    ensures came { Turned (λ came. CallCame A.answers user.now ask.old call.now came ask.new)
+    ensures came { LineGathered (λ came. CallCame A.answers user.now ask.old call.now came ask.new)
         out.old.items result out.new.items }
     ensures cause { HasCause (A.faults ask.old) (A.faults ask.new)
         (IsErrOf result LineStop.AskFault) }
@@ -123,7 +127,7 @@ fn call_at<A: Ask>(
     out: &mut Vec<u8>,
 ) -> Result<(), LineStop>
     requires path { call_path call.now ≡ Some path.now }
-    ensures came { Turned (λ came. CallCame A.answers user.now ask.old call.now came ask.new)
+    ensures came { LineGathered (λ came. CallCame A.answers user.now ask.old call.now came ask.new)
         out.old.items result out.new.items }
     ensures cause { HasCause (A.faults ask.old) (A.faults ask.new)
         (IsErrOf result LineStop.AskFault) }
@@ -135,28 +139,28 @@ fn call_at<A: Ask>(
         ClientLine::Put(_, time, sequence, bytes) => {
             let bytes = bytes.as_slice();
             let outcome = put(alloc, ask, user, path, *time, *sequence, bytes);
-            say_put(alloc, out, outcome)
+            say_put_result(alloc, out, outcome)
         }
         ClientLine::Get(_) => {
             let outcome = get(alloc, ask, path);
-            say_got(alloc, out, outcome)
+            say_get_result(alloc, out, outcome)
         }
     }
 }
 
 // What came of a put.
-fn say_put(
+fn say_put_result(
     alloc: Global,
     out: &mut Vec<u8>,
     outcome: Result<u64, ClientFault>,
 ) -> Result<(), LineStop>
-    ensures said { Turned (λ came. came ≡ put_said outcome) out.old.items result out.new.items }
+    ensures said { LineGathered (λ came. came ≡ result_of_put outcome) out.old.items result out.new.items }
     ensures failed { IsErrOf result LineStop.AskFault ↔ IsErrOf outcome ClientFault.Failed }
 {
     match outcome {
-        Ok(position) => Ok(say_done(alloc, out, Done::Changed(position))?),
+        Ok(position) => Ok(say_call_done(alloc, out, Done::Changed(position))?),
         Err(fault) => {
-            let said = say_failed(alloc, out, &fault);
+            let said = say_call_failed(alloc, out, &fault);
             drop(fault);
             said
         }
@@ -164,18 +168,18 @@ fn say_put(
 }
 
 // What came of a get.
-fn say_got(
+fn say_get_result(
     alloc: Global,
     out: &mut Vec<u8>,
     outcome: Result<Bytes, ClientFault>,
 ) -> Result<(), LineStop>
-    ensures said { Turned (λ came. came ≡ got_said outcome) out.old.items result out.new.items }
+    ensures said { LineGathered (λ came. came ≡ result_of_get outcome) out.old.items result out.new.items }
     ensures failed { IsErrOf result LineStop.AskFault ↔ IsErrOf outcome ClientFault.Failed }
 {
     match outcome {
-        Ok(bytes) => Ok(say_done(alloc, out, Done::Bytes(bytes))?),
+        Ok(bytes) => Ok(say_call_done(alloc, out, Done::Bytes(bytes))?),
         Err(fault) => {
-            let said = say_failed(alloc, out, &fault);
+            let said = say_call_failed(alloc, out, &fault);
             drop(fault);
             said
         }
@@ -183,7 +187,7 @@ fn say_got(
 }
 
 // What was done.
-fn say_done(alloc: Global, out: &mut Vec<u8>, done: Done) -> Result<(), AllocError>
+fn say_call_done(alloc: Global, out: &mut Vec<u8>, done: Done) -> Result<(), AllocError>
     ensures { OnOk result (out.new.items
         ≡ out.old.items ++ lines_text (reply_lines (replies.Ok done))) }
 {
@@ -194,7 +198,7 @@ fn say_done(alloc: Global, out: &mut Vec<u8>, done: Done) -> Result<(), AllocErr
 }
 
 // Why a put or get failed.
-fn say_failed(alloc: Global, out: &mut Vec<u8>, fault: &ClientFault) -> Result<(), LineStop>
+fn say_call_failed(alloc: Global, out: &mut Vec<u8>, fault: &ClientFault) -> Result<(), LineStop>
     ensures said { OnOk result ((fault.now ≢ ClientFault.OutOfMemory)
         × (fault.now ≢ ClientFault.Failed)
         × (out.new.items ≡ out.old.items ++ lines_text (fault_lines fault.now))) }

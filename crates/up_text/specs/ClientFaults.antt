@@ -22,5 +22,6 @@ fault_words fault.Failed = []
 fault_words fault.Odd = (codes "odd" ∷ []) ∷ []
 fault_words fault.OutOfMemory = []
 
+-- the lines of a client's fault, each of its words
 unfoldable pub fault_lines : ClientFault → List Text
 fault_lines told = map (λ words. spaced words) (fault_words told)

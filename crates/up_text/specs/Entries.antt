@@ -42,6 +42,7 @@ blocks_word (first ∷ more) = join_by (λ b. block_word b) (codes ",") (first �
 
 -- ---- endpoints
 
+-- an endpoint as it stands in a list: `local`, or its address coded
 unfoldable pub endpoint_word : Endpoint → Text
 endpoint_word Local = codes "local"
 endpoint_word (Address address) = field address
@@ -53,16 +54,18 @@ endpoints_word (first ∷ more) = join_by (λ endpoint. endpoint_word endpoint) 
 
 -- ---- entries
 
--- the word of a kind, with `?` behind it where the incomplete mark is set
+-- the word of a kind, with `?` after it where the incomplete mark is set
 abbrev pub mark : Bool → Text
 mark true = codes "?"
 mark false = []
 
+-- the word of a kind
 abbrev pub plain_kind : Kind → Text
 plain_kind File = codes "file"
 plain_kind Directory = codes "dir"
 plain_kind Link = codes "link"
 
+-- the word of a kind, with `?` after it where the incomplete mark is set
 unfoldable pub kind_word : Attr → Text
 kind_word attr = plain_kind attr.kind ++ mark attr.incomplete
 

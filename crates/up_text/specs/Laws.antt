@@ -17,6 +17,7 @@ use Rattle.up_text.specs.Replies.{reply_lines}
 
 -- ---- which replies are meant
 
+-- each of these numbers is a byte
 abbrev pub IsBytes : List ℕ → Type 0
 IsBytes = AllByRecursion IsByte
 
@@ -24,11 +25,12 @@ IsBytes = AllByRecursion IsByte
 abbrev pub AreOfBytes : Entry → Type 0
 AreOfBytes e = AllByRecursion (λ b. IsBytes b.location.reference) e.blocks
 
+-- the references of an entry, where there is one, are bytes
 abbrev pub IsOfBytes : Option Entry → Type 0
 IsOfBytes None = ⊤
 IsOfBytes (Some e) = AreOfBytes e
 
--- and so is each reference of what was done
+-- each reference of what was done is of bytes
 abbrev pub HasByteReferences : Done → Type 0
 HasByteReferences (done.Entry e) = AreOfBytes e
 HasByteReferences (done.Rows rows) = AllByRecursion (λ row. AreOfBytes row.entry) rows
@@ -37,7 +39,7 @@ HasByteReferences (done.Events events next) = AllByRecursion (λ event. AreOfByt
 HasByteReferences (done.Reference reference) = IsBytes reference
 HasByteReferences _ = ⊤
 
--- and of a reply
+-- each reference of a reply is of bytes
 abbrev pub ReferencesAreBytes : Reply → Type 0
 ReferencesAreBytes (reply.Ok d) = HasByteReferences d
 ReferencesAreBytes (reply.FollowLink e) = AreOfBytes e
@@ -62,6 +64,8 @@ IsWord word = (0 < length word) × (list_any is_blank word ≡ false)
 abbrev pub IsLine : Text → Type 0
 IsLine line = AllByRecursion IsWord (line_words line)
 
+-- The law of lines: those of each reply that is meant, cut at each of their spaces, give words alone. So single spaces part them, and no
+-- other byte up to 0x20 stands there.
 abbrev pub LinesAreWords : Type 0
 LinesAreWords = (given : Reply) → IsTold given → AllByRecursion IsLine (reply_lines given)
 
@@ -72,12 +76,14 @@ abbrev pub endpoint_told : Endpoint → Endpoint
 endpoint_told Local = Local
 endpoint_told (Address address) = if bytes_eq address (codes "local") then Local else Address address
 
+-- a key record as it is printed, where the host's own store and the address `local` are alike
 abbrev pub key_told : KeyRecord → KeyRecord
 key_told known = record known {
   dirs = map (λ endpoint. endpoint_told endpoint) known.dirs;
   stores = map (λ endpoint. endpoint_told endpoint) known.stores;
 }
 
+-- what was done as it is printed
 abbrev pub done_told : Done → Done
 done_told (done.Key known) = done.Key (key_told known)
 done_told d = d

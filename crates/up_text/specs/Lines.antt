@@ -30,12 +30,12 @@ is_silent (first ∷ rest) = first == 35
 unfoldable pub line_words : List ℕ → List (List ℕ)
 line_words line = slice_split is_space line
 
--- the words of what is left of a line behind a word: none where the line has ended with it
+-- the words of what is left of a line after a word: none where the line has ended with it
 abbrev pub words_left : Option (List ℕ) → List (List ℕ)
 words_left None = []
 words_left (Some rest) = line_words rest
 
--- words of output, each behind a space
+-- words of output, each after a space
 abbrev pub behind_spaces : List (List ℕ) → List ℕ
 behind_spaces words = flat_map (λ word. codes " " ++ word) words
 

@@ -30,7 +30,7 @@ is_no_list word = bytes_eq word (codes "-")
 
 -- ---- the blocks of a file
 
--- `REF:SIZE`: what stands in front of the first colon is a reference of 64 upper-case hexadecimal digits, and what stands behind
+-- `REF:SIZE`: what stands in front of the first colon is a reference of 64 upper-case hexadecimal digits, and what stands after
 -- it a number
 unfoldable pub sized_block : Text → Option (List ℕ × ℕ)
 sized_block piece = do
@@ -54,11 +54,11 @@ block_at offset piece = do
   sized ← sized_block piece
   Some (local_block begin sized)
 
--- the offset behind a block: none where it does not fit a u64
+-- the offset after a block: none where it does not fit a u64
 abbrev pub offset_behind : Block → Option ℕ
 offset_behind b = if nat_lt (b.offset + b.size) (2 ^ 64) then Some (b.offset + b.size) else None
 
--- blocks with this one behind them, and the offset behind it
+-- blocks with this one after them, and the offset after it
 abbrev pub with_block : List Block → Block → List Block × Option ℕ
 with_block blocks b = (blocks ++ b ∷ [], offset_behind b)
 
@@ -86,6 +86,7 @@ endpoint_named piece =
     if bytes_eq piece (codes "local") then Some Local
     else option_map (λ address. Address address) (address_named piece)
 
+-- the endpoints that the pieces of a list stand for, where each stands for one
 unfoldable pub all_endpoints : List Text → Option (List Endpoint)
 all_endpoints [] = Some []
 all_endpoints (piece ∷ more) = do

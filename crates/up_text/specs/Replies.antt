@@ -38,7 +38,7 @@ what_word what.Key = codes "key"
 what_word what.SnapshotWatch = codes "snapshotwatch"
 what_word what.GroupName = codes "groupname"
 
--- and for a pattern the number of the element
+-- the word of the element of a pattern that is malformed; nothing else that is malformed has one
 abbrev pub element_words : What → List Text
 element_words (what.Pattern element) = decimal element ∷ []
 element_words _ = []
@@ -47,6 +47,7 @@ element_words _ = []
 abbrev pub row_words : Row → List Text
 row_words row = codes "row" ∷ decimal row.rest ∷ entry_words row.entry
 
+-- the word of an event: `delete` or `put`
 abbrev pub event_kind : Bool → Text
 event_kind true = codes "delete"
 event_kind false = codes "put"
@@ -59,6 +60,7 @@ event_words event = codes "event" ∷ decimal event.position ∷ event_kind even
 abbrev pub key_words : KeyRecord → List Text
 key_words known = coded known.user ∷ endpoints_word known.dirs ∷ endpoints_word known.stores ∷ coded known.key ∷ []
 
+-- the words that tell which Access file governs: its entry, or `none`
 abbrev pub access_words : Option Entry → List Text
 access_words None = codes "none" ∷ []
 access_words (Some entry) = entry_words entry
@@ -75,7 +77,7 @@ done_words (done.Reference reference) = codes "ref" ∷ text_of reference ∷ []
 done_words (done.Bytes bytes) = codes "bytes" ∷ coded bytes ∷ []
 done_words (done.Key known) = codes "key" ∷ key_words known
 
--- and of the lines behind it
+-- the words of the lines after the first one of what was done
 unfoldable pub further_words : Done → List (List Text)
 further_words (done.Rows rows) = map (λ row. row_words row) rows
 further_words (done.Events events next) = map (λ event. event_words event) events
@@ -108,5 +110,6 @@ reply_words (reply.Full records) = (codes "full" ∷ decimal records ∷ []) ∷
 reply_words reply.Io = (codes "io" ∷ []) ∷ []
 reply_words reply.OutOfMemory = []
 
+-- the lines of a reply, each of its words
 unfoldable pub reply_lines : Reply → List Text
 reply_lines given = map (λ words. spaced words) (reply_words given)

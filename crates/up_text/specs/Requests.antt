@@ -1,5 +1,5 @@
 -- What each line of a script asks of a server, or of the client. The script language is this project's own. The words are those
--- behind the session's number: a keyword, and the words that it takes.
+-- after the session's number: a keyword, and the words that it takes.
 use Rattle.std.specs.Prelude.{ℕ, ℤ, ◌^◌, nat_lt, if◌then◌else◌, List, [], ◌∷◌, Option, Some, None, option_map, codes, bytes_eq}
 use Rattle.up_names.specs.Texts.{Text, UserName}
 use Rattle.up_entry.specs.declared.puts.PutEntry.{PutEntry}
@@ -33,7 +33,7 @@ entry_by user name attr seconds wanted = record {
   sequence = wanted;
 }
 
--- and by the words of its path, its time and its sequence
+-- the entry that a line puts, by the words of its path, its time and its sequence
 unfoldable pub plain_entry : UserName → ℕ → Text → Text → Text → Option PutEntry
 plain_entry user attr path time sequence = do
   name ← decoded path

@@ -18,7 +18,7 @@ abbrev pub pair_byte : ℕ → ℕ → Option ℕ
 pair_byte high low =
     if is_digit high 16 && is_digit low 16 then Some (16 * digit_value high + digit_value low) else None
 
--- what a piece behind a `%` stands for: the byte of its two digits, and then the rest as it is
+-- what a piece after a `%` stands for: the byte of its two digits, and then the rest as it is
 abbrev pub after_percent : List ℕ → Option (List ℕ)
 after_percent [] = None
 after_percent (high ∷ []) = None
@@ -61,6 +61,7 @@ coded_byte b = if is_coded b then escape b else b ∷ []
 abbrev pub parts_fields : ℕ → Bool
 parts_fields b = b == 58 || b == 44
 
+-- a byte inside a block's fields or a list of endpoints, where `:` and `,` are coded too
 abbrev pub field_byte : ℕ → List ℕ
 field_byte b = if parts_fields b then escape b else coded_byte b
 
@@ -70,7 +71,8 @@ coded text =
     if length text == 0 then codes "-"
     else (if bytes_eq text (codes "-") then codes "%2D" else flat_map coded_byte text)
 
--- the same inside a block's fields and in lists of endpoints
+-- this project's own: the word for a text inside a block's fields and in lists of endpoints; the empty text is `-`, and the text `-` is
+-- `%2D`
 unfoldable pub field : List ℕ → List ℕ
 field text =
     if length text == 0 then codes "-"

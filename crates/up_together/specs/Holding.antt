@@ -7,12 +7,12 @@ use Rattle.up_shared.specs.Sharing.{SeatsLater}
 use Rattle.up_shared.specs.Splits.{AreWhole, SeatsAdd}
 use Rattle.up_shared.specs.declared.shared.Seats.{Seats}
 
--- one look at the count of its cell, and the seat's own positions are all above the base and up to that count
+-- once a seat has looked at the count of its cell, its own positions are all above the base and up to that count
 pub record HasAll {E F : Type 0} (v : Known E F) : Type 0 where
   pub look : (n : ℕ) → HasEvery (looked_of v n) n → (looked_of v n).own ≡ between v.base n
 
 module _ {D : Type 0} where
-  -- so it is with each seat of a caller
+  -- once any seat of a caller has looked at the count of its cell, its own positions are all above the base and up to that count
   pub record HaveAll (seats : Seats D) : Type 0 where
     pub trees : AllByRecursion (λ place. HasAll place.seat) seats.trees.items
     pub store : HasAll seats.store
@@ -28,8 +28,10 @@ module _ {D : Type 0} where
   -- One of the callers made a call; or split its seats, for one caller more; or joined another's seats to its own. All others keep theirs.
   pub data Step (all after : List (Seats D)) : Type 0 where
     Calls : (a b : Seats D) (others : List (Seats D)) → Among a all others → Among b after others → SeatsLater a b → Step all after
-    Splits : (a one other : Seats D) (others : List (Seats D)) → Among a all others → after ≡ one ∷ other ∷ others → SeatsAdd one other a → Step all after
-    Joins : (one other both : Seats D) (rest others : List (Seats D)) → Among one all rest → Among other rest others → after ≡ both ∷ others → SeatsAdd one other both → Step all after
+    Splits : (a one other : Seats D) (others : List (Seats D)) → Among a all others
+        → after ≡ one ∷ other ∷ others → SeatsAdd one other a → Step all after
+    Joins : (one other both : Seats D) (rest others : List (Seats D)) → Among one all rest
+        → Among other rest others → after ≡ both ∷ others → SeatsAdd one other both → Step all after
 
   -- so many steps, one after the other
   abbrev pub Steps : ℕ → List (Seats D) → List (Seats D) → Type 0

@@ -20,12 +20,15 @@ pub record Marks : Type 0 where
   pub keys_fixed : Option Limits
 
 module _ {D : Type 0} where
+  -- the owner of the tree at which a seat is
   abbrev pub owner_of : TreeSeat D → UserName
   owner_of place = place.owner
 
+  -- the cell at which a seat is
   abbrev pub cell_of : TreeSeat D → TableId
   cell_of place = place.seat.cell
 
+  -- what stays of the state of a seat's cell
   abbrev pub fixed_of : TreeSeat D → Option (UserName × Limits)
   fixed_of place = place.seat.fixed
 
@@ -33,9 +36,11 @@ module _ {D : Type 0} where
   abbrev pub clear_of : TreeSeat D → Option (UserName × Limits)
   clear_of place = Some (place.owner, place.limits)
 
+  -- the owner of the tree that a cell has
   abbrev pub owner_at : TreeCell D → UserName
   owner_at tree = tree.owner
 
+  -- the cell that a tree has
   abbrev pub cell_at : TreeCell D → TableId
   cell_at tree = tree.cell
 

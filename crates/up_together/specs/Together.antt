@@ -33,7 +33,8 @@ pub record HostTogether (D L : Type 0) : Type 0 where
 -- One call of a shared host, at a moment: what its caller sees of it, by what its seats had before and have after it. The seats have then
 -- looked at the log that answered, over no fewer records than they counted; a seat's failures rose where a disk failed; groups were
 -- loaded in rounds; and the reply tells no more than the user sees.
-pub record AsksTogether {D L : Type 0} (loaders : loader.Ghosts L) (a : HostTogether D L) (q : Question) (moment : ℕ) (e : Event) (b : HostTogether D L) : Type 0 where
+pub record AsksTogether {D L : Type 0} (loaders : loader.Ghosts L) (a : HostTogether D L)
+    (q : Question) (moment : ℕ) (e : Event) (b : HostTogether D L) : Type 0 where
   pub asked : Asked loaders a.shared.operator (views_of a.seats) a.peers q e (views_of b.seats) b.peers
   pub looked : Leaves (λ log n. HasLooked log n a.seats b.seats) (views_of a.seats) q e
   pub risen : Risen (λ log. HasFailed log a.seats b.seats) (loaders.faults a.peers) (loaders.faults b.peers) q e
@@ -44,14 +45,16 @@ pub record AsksTogether {D L : Type 0} (loaders : loader.Ghosts L) (a : HostToge
   pub host : b.shared ≡ a.shared
 
 -- a request of a user at a moment, with the frame that answers it: that of the reply
-pub record AnswersTogether {D L : Type 0} (loaders : loader.Ghosts L) (a : HostTogether D L) (user : UserName) (request : Request) (moment : ℕ) (frame : ServerFrame) (b : HostTogether D L) : Type 0 where
+pub record AnswersTogether {D L : Type 0} (loaders : loader.Ghosts L) (a : HostTogether D L) (user : UserName)
+    (request : Request) (moment : ℕ) (frame : ServerFrame) (b : HostTogether D L) : Type 0 where
   pub event : Event
   pub asks : AsksTogether loaders a (record { user = user; request = request }) moment event b
   pub frame_is : frame ≡ servers.Answer event.reply
 
 -- A look at a user's key record finds it, or that there is none, by the keys' log at a position that is not before what the seats had
 -- seen, and at most what they have seen after it. Nothing comes to any log.
-pub record LooksTogether {D L : Type 0} (a : HostTogether D L) (user : UserName) (found : Option KeyRecord) (b : HostTogether D L) : Type 0 where
+pub record LooksTogether {D L : Type 0} (a : HostTogether D L) (user : UserName)
+    (found : Option KeyRecord) (b : HostTogether D L) : Type 0 where
   pub found_is : IsKeyOf {E = AllocError} a.seats.keys b.seats.keys user (Ok found)
   pub looks : LooksAtKeys a.seats b.seats
   pub host : b.shared ≡ a.shared
@@ -64,7 +67,8 @@ pub record TiedTogether {D L : Type 0} (loaders : loader.Ghosts L) (a b : HostTo
   pub peers : loaders.tied a.peers b.peers
 
 -- a shared host with one of its callers, among those that a connection has
-abbrev pub together_among : {D L V C N : Type 0} → loader.Ghosts L → verifier.Ghosts V → clock.Ghosts C → nonces.Ghosts N → Parties (HostTogether D L) V C N Request ServerFrame
+abbrev pub together_among : {D L V C N : Type 0} → loader.Ghosts L → verifier.Ghosts V
+    → clock.Ghosts C → nonces.Ghosts N → Parties (HostTogether D L) V C N Request ServerFrame
 together_among loaders verifiers clocks drawn = record {
   name = λ a. string_bytes a.shared.name;
   looked = LooksTogether;
@@ -79,8 +83,11 @@ together_among loaders verifiers clocks drawn = record {
   challenges = drawn.coming;
 }
 
+-- this shared host, with these seats and these peers
 abbrev pub host_together : {D L : Type 0} → Shared D → Seats D → L → HostTogether D L
 host_together shared seats peers = record { shared = shared; seats = seats; peers = peers }
 
+-- this shared host with these seats and peers, and what a connection has around it
 abbrev pub together_at : {D L V C N : Type 0} → Shared D → Seats D → L → V → C → N → Around (HostTogether D L) V C N
-together_at shared seats peers verifier clock nonces = record { answerer = host_together shared seats peers; verifier = verifier; clock = clock; nonces = nonces }
+together_at shared seats peers verifier clock nonces =
+    record { answerer = host_together shared seats peers; verifier = verifier; clock = clock; nonces = nonces }

@@ -50,9 +50,10 @@ pub record State (D : Type 0) : Type 0 where
   pub doubtful : Bool
   pub further : Option Rec
 
--- the same without its owner: a log of records over a journal
+-- a tree's log without its owner: a log of records over a journal
 abbrev pub over_journal : {D : Type 0} → State D → LogState D Rec
-over_journal state = record { disk = state.disk; limits = state.limits; log = state.log; doubtful = state.doubtful; further = state.further }
+over_journal state =
+    record { disk = state.disk; limits = state.limits; log = state.log; doubtful = state.doubtful; further = state.further }
 
 -- the log that the state has
 abbrev pub log_of : {D : Type 0} → State D → Log
@@ -62,6 +63,7 @@ log_of state = record { owner = state.owner; limits = state.limits; records = st
 abbrev pub entries_of : {D : Type 0} → State D → List Rec
 entries_of state = state.log
 
+-- the part of a tree that stays: its owner and its limits
 abbrev pub fixed_of : {D : Type 0} → State D → UserName × Limits
 fixed_of state = (state.owner, state.limits)
 
@@ -81,7 +83,8 @@ pub record Opens {D : Type 0} (disks : Ghosts D) (owner : UserName) (limits : Li
 pub record Applies {D : Type 0} (disks : Ghosts D) (rec : Rec) (old new : State D) (result : Result ℕ AppendWhy) : Type 0 where
   pub added : AddsRecord disks (records_in old.owner) rec (over_journal old) (over_journal new) result
   pub owner : new.owner ≡ old.owner
-  pub full : is_full old.limits (sizes_of old.log) (size_of rec) ≡ true → result ≢ Err why.OutOfMemory → result ≡ Err (why.Full (length old.log))
+  pub full : is_full old.limits (sizes_of old.log) (size_of rec) ≡ true
+      → result ≢ Err why.OutOfMemory → result ≡ Err (why.Full (length old.log))
   pub full_only : (n : ℕ) → result ≡ Err (why.Full n) → (is_full old.limits (sizes_of old.log) (size_of rec) ≡ true) × (n ≡ length old.log)
   pub untouched : IfErr result (λ reason. reason ≢ why.Fault → new ≡ old)
   pub cause : HasCause (disks.faults old.disk) (disks.faults new.disk) (IsErrOf result why.Fault)
@@ -110,6 +113,7 @@ read_by journal (Ok tree) = Ok (state_of tree.owner journal tree.log)
 read_by journal (Err why) = Err (record { disk = journal.disk; why = why })
 
 -- the journal has the records of the tree, and these limits
-pub record IsKept {D : Type 0} (disks : Ghosts D) (owner : UserName) (journal : journal.State D) (log : List Rec) (limits : Limits) : Type 0 where
+pub record IsKept {D : Type 0} (disks : Ghosts D) (owner : UserName)
+    (journal : journal.State D) (log : List Rec) (limits : Limits) : Type 0 where
   pub keeps : KeepsLog disks record_in (fits owner) spelling.rec journal log
   pub limits_are : limits ≡ journal.limits

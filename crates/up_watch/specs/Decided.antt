@@ -47,13 +47,15 @@ given_in decided dir control = find path_cmp dir (given_on decided control)
 
 -- the text in a directory gave these rights after so many records
 abbrev pub IsGiven : Watching → Bool → PathName → Given → Type 0
-IsGiven watching control dir given = rights_by (after watching given.at) control ((facts_of watching.owner (tree_at watching.log given.at)).access dir) ≡ given.held
+IsGiven watching control dir given =
+    rights_by (after watching given.at) control ((facts_of watching.owner (tree_at watching.log given.at)).access dir) ≡ given.held
 
 -- what the texts gave is what they gave then
 pub record AreDecided (watching : Watching) (decided : Decided) : Type 0 where
-  pub each : (dir : PathName) (control : Bool) (given : Given) → given_in decided dir control ≡ Some given → IsGiven watching control dir given
+  pub each : (dir : PathName) (control : Bool) (given : Given)
+      → given_in decided dir control ≡ Some given → IsGiven watching control dir given
 
--- the same of what was decided in the tree as it is, and in the tree as it was
+-- what is kept of decisions is right in the tree as it is, and in the tree as it was
 pub record Remembers (watching : Watching) (known : Known) : Type 0 where
   pub current : AreDecided watching known.current
   pub past : AreDecided watching known.past

@@ -31,10 +31,11 @@ pub record Watching : Type 0 where
 abbrev pub now : Watching → Look
 now watching = record { owner = watching.owner; tree = tree_of watching.log; loaded = watching.loaded; user = watching.user }
 
--- and as it was directly after record n
+-- the watched tree as it was directly after record n, as its user meets it
 abbrev pub after : Watching → ℕ → Look
 after watching n = record { owner = watching.owner; tree = tree_at watching.log n; loaded = watching.loaded; user = watching.user }
 
+-- what a record changed, as Watch tells it
 abbrev pub change_of : Changed → Change
 change_of changed = record { delete = changed.delete; entry = changed.entry.now }
 
@@ -50,7 +51,8 @@ told watching n = option_and_then (event_of (now watching) (after watching (suc 
 
 -- the event of an item, where the user has any right on it
 abbrev pub item_told : Look → Entry → Option WatchEvent
-item_told look entry = if has_some look entry.name then Some (record { position = entry.sequence; delete = false; entry = shown look entry }) else None
+item_told look entry =
+    if has_some look entry.name then Some (record { position = entry.sequence; delete = false; entry = shown look entry }) else None
 
 -- an event stands before another where its path does
 abbrev pub is_before : WatchEvent → WatchEvent → Bool

@@ -1,4 +1,4 @@
--- Reading a message: a tag, and the fields that a table has behind it. The first field that is no spelling of a value that
+-- Reading a message: a tag, and the fields that a table has after it. The first field that is no spelling of a value that
 -- may stand there is Spelling, with its place; where the input ends before that, it is Short.
 use Rattle.std.specs.Prelude.{ℕ, Bool, true, false, List, [], ◌∷◌, Option, Some, None, Result, Ok}
 use Rattle.up_bytes.specs.declared.fault.FieldFault.{FieldFault}
@@ -26,6 +26,7 @@ use Rattle.up_wire.specs.Keys.{key_card_at, key_record_at}
 
 -- ---- what a client sends
 
+-- a Watch: a path's text and a sequence
 unfoldable pub watch_at : Input → Result (Request × Input) FieldFault
 watch_at input = do
   path ← text_at input
@@ -49,6 +50,7 @@ request_table =
     ∷ (0x31, made_of (λ card. Ask (request.KeyPut card)) key_card_at)
     ∷ []
 
+-- the tags of what a client sends, each with what follows it
 abbrev pub client_table : List (ℕ × (Input → Result (ClientFrame × Input) FieldFault))
 client_table =
     (0x01, made_of (λ user. Hello user) text_at)
@@ -56,6 +58,7 @@ client_table =
     ∷ (0x03, plain Bye)
     ∷ request_table
 
+-- a client's message is read by its tag
 abbrev pub client_at : Input → Result (ClientFrame × Input) FieldFault
 client_at = tagged_at client_table
 
@@ -65,6 +68,7 @@ client_of = whole_of client_at
 
 -- ---- what a server sends
 
+-- the bytes for what is malformed, each with what follows it
 abbrev pub what_table : List (ℕ × (Input → Result (What × Input) FieldFault))
 what_table =
     (0, plain what.Name)
@@ -87,33 +91,43 @@ what_table =
     ∷ (17, plain what.GroupName)
     ∷ []
 
+-- what is malformed is read by its byte
 unfoldable pub what_at : Input → Result (What × Input) FieldFault
 what_at input = tagged_at what_table input
 
+-- the bytes of the rights
 abbrev pub right_table : List (ℕ × (Input → Result (Right × Input) FieldFault))
-right_table = (0, plain right.Read) ∷ (1, plain right.Write) ∷ (2, plain right.List) ∷ (3, plain right.Create) ∷ (4, plain right.Delete) ∷ []
+right_table =
+    (0, plain right.Read) ∷ (1, plain right.Write) ∷ (2, plain right.List) ∷ (3, plain right.Create) ∷ (4, plain right.Delete) ∷ []
 
+-- a right is read by its byte
 unfoldable pub right_at : Input → Result (Right × Input) FieldFault
 right_at input = tagged_at right_table input
 
+-- an entry that may be missing: 0, or 1 and the entry
 abbrev pub option_table : List (ℕ × (Input → Result (Option Entry × Input) FieldFault))
 option_table = (0, plain None) ∷ (1, made_of (λ e. Some e) (entry_at true)) ∷ []
 
+-- an entry that may be missing is read by its byte
 unfoldable pub option_at : Input → Result (Option Entry × Input) FieldFault
 option_at input = tagged_at option_table input
 
+-- a row of Glob: how many elements remain, and the entry
 unfoldable pub row_of : Input → Result (Row × Input) FieldFault
 row_of input = do
   rest ← num_at input
   entry ← entry_at true rest.1
   Ok (record { entry = entry.0; rest = rest.0 }, entry.1)
 
+-- the bytes of the two kinds of event: 0 a Put, 1 a Delete
 abbrev pub event_table : List (ℕ × (Input → Result (Bool × Input) FieldFault))
 event_table = (0, plain false) ∷ (1, plain true) ∷ []
 
+-- the kind of an event is read by its byte
 unfoldable pub event_kind_at : Input → Result (Bool × Input) FieldFault
 event_kind_at input = tagged_at event_table input
 
+-- an event: its position, its kind and its entry
 unfoldable pub event_at : Input → Result (WatchEvent × Input) FieldFault
 event_at input = do
   position ← num_at input
@@ -121,6 +135,7 @@ event_at input = do
   entry ← entry_at true delete.1
   Ok (record { position = position.0; delete = delete.0; entry = entry.0 }, entry.1)
 
+-- the events of a Watch, and where to go on
 unfoldable pub events_at : Input → Result (Done × Input) FieldFault
 events_at input = do
   events ← list_at event_at input
@@ -141,6 +156,7 @@ done_table =
     ∷ (0x09, made_of (λ known. done.Key known) key_record_at)
     ∷ []
 
+-- what was done is read by its byte
 unfoldable pub done_at : Input → Result (Done × Input) FieldFault
 done_at input = tagged_at done_table input
 
@@ -172,6 +188,7 @@ reply_table =
     ∷ (0x05, made_of (λ r. Answer (reply.Permission r)) right_at)
     ∷ later_reply_table
 
+-- the tags of what a server sends, each with what follows it
 abbrev pub server_table : List (ℕ × (Input → Result (ServerFrame × Input) FieldFault))
 server_table =
     (0x81, made_of (λ bytes. Challenge bytes) (bytes_at 32))
@@ -179,6 +196,7 @@ server_table =
     ∷ (0x83, plain NotSigned)
     ∷ reply_table
 
+-- a server's message is read by its tag
 abbrev pub server_at : Input → Result (ServerFrame × Input) FieldFault
 server_at = tagged_at server_table
 

@@ -26,6 +26,7 @@ use Rattle.up_wire.specs.Keys.{key_card, key_record, IsKeyCard, IsKeyRecord, IsS
 
 -- ---- what a client sends
 
+-- the tag of a request
 abbrev pub request_tag : Request → ℕ
 request_tag (request.Lookup path) = 0x10
 request_tag (request.Put put) = 0x11
@@ -40,6 +41,7 @@ request_tag (request.StoreDelete reference) = 0x22
 request_tag (request.KeyLookup user) = 0x30
 request_tag (request.KeyPut card) = 0x31
 
+-- the fields of a request, after its tag
 abbrev pub request_fields : Request → List ℕ
 request_fields (request.Lookup path) = text path
 request_fields (request.Put put) = raw_entry put
@@ -54,18 +56,21 @@ request_fields (request.StoreDelete reference) = text reference
 request_fields (request.KeyLookup user) = text user
 request_fields (request.KeyPut card) = key_card card
 
+-- the tag of what a client sends
 abbrev pub client_tag : ClientFrame → ℕ
 client_tag (Hello user) = 0x01
 client_tag (Proof signature) = 0x02
 client_tag Bye = 0x03
 client_tag (Ask asked) = request_tag asked
 
+-- the fields of what a client sends, after the tag
 abbrev pub client_fields : ClientFrame → List ℕ
 client_fields (Hello user) = text user
 client_fields (Proof signature) = text signature
 client_fields Bye = []
 client_fields (Ask asked) = request_fields asked
 
+-- the payload of what a client sends: its tag and its fields
 abbrev pub client : ClientFrame → List ℕ
 client frame = byte (client_tag frame) ++ client_fields frame
 
@@ -92,13 +97,16 @@ what_tag what.Key = 15
 what_tag what.SnapshotWatch = 16
 what_tag what.GroupName = 17
 
+-- the element of a pattern that is malformed; nothing else that is malformed has a field
 abbrev pub what_fields : What → List ℕ
 what_fields (what.Pattern element) = num element
 what_fields _ = []
 
+-- what is malformed: its byte and its field
 abbrev pub spelled_what : What → List ℕ
 spelled_what w = byte (what_tag w) ++ what_fields w
 
+-- the byte of a right
 abbrev pub right_byte : Right → ℕ
 right_byte right.Read = 0
 right_byte right.Write = 1
@@ -111,10 +119,12 @@ abbrev pub option_tag : Option Entry → ℕ
 option_tag None = 0
 option_tag (Some e) = 1
 
+-- the entry, where there is one
 abbrev pub option_fields : Option Entry → List ℕ
 option_fields None = []
 option_fields (Some e) = entry e
 
+-- an entry that may be missing: 0, or 1 and the entry
 abbrev pub spelled_option : Option Entry → List ℕ
 spelled_option found = byte (option_tag found) ++ option_fields found
 
@@ -143,6 +153,7 @@ done_tag (done.Reference reference) = 0x07
 done_tag (done.Bytes bytes) = 0x08
 done_tag (done.Key known) = 0x09
 
+-- the fields of what was done, after its byte
 abbrev pub done_fields : Done → List ℕ
 done_fields (done.Changed position) = num position
 done_fields (done.Entry e) = entry e
@@ -154,6 +165,7 @@ done_fields (done.Reference reference) = raw reference
 done_fields (done.Bytes bytes) = text bytes
 done_fields (done.Key known) = key_record known
 
+-- what was done: its byte and its fields
 abbrev pub spelled_done : Done → List ℕ
 spelled_done d = byte (done_tag d) ++ done_fields d
 
@@ -178,6 +190,7 @@ reply_tag (reply.Full records) = 0x0F
 reply_tag reply.Io = 0x10
 reply_tag reply.OutOfMemory = 0x11
 
+-- the fields of a reply, after its tag
 abbrev pub reply_fields : Reply → List ℕ
 reply_fields (reply.Ok d) = spelled_done d
 reply_fields (reply.Invalid w) = spelled_what w
@@ -190,23 +203,27 @@ reply_fields (reply.TooLarge size) = num size
 reply_fields (reply.Full records) = num records
 reply_fields _ = []
 
+-- the tag of what a server sends
 abbrev pub server_tag : ServerFrame → ℕ
 server_tag (Challenge bytes) = 0x81
 server_tag Welcome = 0x82
 server_tag NotSigned = 0x83
 server_tag (Answer given) = reply_tag given
 
+-- the fields of what a server sends, after the tag
 abbrev pub server_fields : ServerFrame → List ℕ
 server_fields (Challenge bytes) = raw bytes
 server_fields Welcome = []
 server_fields NotSigned = []
 server_fields (Answer given) = reply_fields given
 
+-- the payload of what a server sends: its tag and its fields
 abbrev pub server : ServerFrame → List ℕ
 server frame = byte (server_tag frame) ++ server_fields frame
 
 -- ---- what each value of the program is, by its types
 
+-- a request as the program can hold it
 abbrev pub IsRequest : Request → Type 0
 IsRequest (request.Lookup path) = IsText path
 IsRequest (request.Put put) = IsRawEntry put
@@ -221,26 +238,32 @@ IsRequest (request.StoreDelete reference) = IsText reference
 IsRequest (request.KeyLookup user) = IsText user
 IsRequest (request.KeyPut card) = IsKeyCard card
 
+-- what a client sends, as the program can hold it
 abbrev pub IsClient : ClientFrame → Type 0
 IsClient (Hello user) = IsText user
 IsClient (Proof signature) = IsText signature
 IsClient Bye = ⊤
 IsClient (Ask asked) = IsRequest asked
 
+-- what is malformed, as the program can hold it
 abbrev pub IsWhat : What → Type 0
 IsWhat (what.Pattern element) = IsU64 element
 IsWhat _ = ⊤
 
+-- an entry that may be missing, as the program can hold it
 abbrev pub IsOption : Option Entry → Type 0
 IsOption None = ⊤
 IsOption (Some e) = IsEntry e
 
+-- a row as the program can hold it
 abbrev pub IsRow : Row → Type 0
 IsRow r = IsU64 r.rest × IsEntry r.entry
 
+-- an event as the program can hold it
 abbrev pub IsEvent : WatchEvent → Type 0
 IsEvent e = IsU64 e.position × IsEntry e.entry
 
+-- what was done, as the program can hold it
 abbrev pub IsDone : Done → Type 0
 IsDone (done.Changed position) = IsU64 position
 IsDone (done.Entry e) = IsEntry e
@@ -252,6 +275,7 @@ IsDone (done.Reference reference) = HasLength 32 reference
 IsDone (done.Bytes bytes) = IsText bytes
 IsDone (done.Key known) = IsKeyRecord known
 
+-- a reply as the program can hold it
 abbrev pub IsReply : Reply → Type 0
 IsReply (reply.Ok d) = IsDone d
 IsReply (reply.Invalid w) = IsWhat w
@@ -263,6 +287,7 @@ IsReply (reply.TooLarge size) = IsU64 size
 IsReply (reply.Full records) = IsU64 records
 IsReply _ = ⊤
 
+-- what a server sends, as the program can hold it
 abbrev pub IsServer : ServerFrame → Type 0
 IsServer (Challenge bytes) = HasLength 32 bytes
 IsServer Welcome = ⊤
@@ -271,19 +296,23 @@ IsServer (Answer given) = IsReply given
 
 -- ---- which of them have a spelling: those whose entries have, and whose endpoints have an address or are the host's own
 
+-- a request has a spelling
 abbrev pub IsSpelledRequest : Request → Type 0
 IsSpelledRequest (request.Put put) = IsSpelledRaw put
 IsSpelledRequest (request.KeyPut card) = IsSpelledKeyCard card
 IsSpelledRequest _ = ⊤
 
+-- what a client sends has a spelling
 abbrev pub IsSpelledClient : ClientFrame → Type 0
 IsSpelledClient (Ask asked) = IsSpelledRequest asked
 IsSpelledClient _ = ⊤
 
+-- an entry that may be missing has a spelling
 abbrev pub IsSpelledOption : Option Entry → Type 0
 IsSpelledOption None = ⊤
 IsSpelledOption (Some e) = IsSpelled e
 
+-- what was done has a spelling
 abbrev pub IsSpelledDone : Done → Type 0
 IsSpelledDone (done.Entry e) = IsSpelled e
 IsSpelledDone (done.Rows rows) = AllByRecursion (λ r. IsSpelled r.entry) rows
@@ -292,19 +321,23 @@ IsSpelledDone (done.Events events next) = AllByRecursion (λ e. IsSpelled e.entr
 IsSpelledDone (done.Key known) = IsSpelledKeyRecord known
 IsSpelledDone _ = ⊤
 
+-- a reply has a spelling
 abbrev pub IsSpelledReply : Reply → Type 0
 IsSpelledReply (reply.Ok d) = IsSpelledDone d
 IsSpelledReply (reply.FollowLink e) = IsSpelled e
 IsSpelledReply _ = ⊤
 
+-- what a server sends has a spelling
 abbrev pub IsSpelledServer : ServerFrame → Type 0
 IsSpelledServer (Answer given) = IsSpelledReply given
 IsSpelledServer _ = ⊤
 
 -- ---- the values that have a spelling
 
+-- what a client sends, where the program can hold it and it has a spelling
 abbrev pub FitsClient : ClientFrame → Type 0
 FitsClient frame = IsClient frame × IsSpelledClient frame
 
+-- what a server sends, where the program can hold it and it has a spelling
 abbrev pub FitsServer : ServerFrame → Type 0
 FitsServer frame = IsServer frame × IsSpelledServer frame

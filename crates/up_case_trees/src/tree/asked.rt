@@ -28,7 +28,7 @@ pub fn turn(
         "node" | "children" | "access" | "group" | "nearest" | "under" | "kids" => {
             return path_line(alloc, tree, keyword, words, answer);
         }
-        "grow" | "nodes" => return many::turn(alloc, tree, keyword, words, answer),
+        "grow" | "nodes" | "past" => return many::turn(alloc, tree, keyword, words, answer),
         _ => return recs::turn(alloc, tree, keyword, words, answer),
     }
     Ok(())

@@ -1,4 +1,5 @@
 //! Connections that come: answered in threads of their own, and in the thread that accepts where nothing is split off for them.
+use std::alloc::AllocError;
 use std::io;
 use std::io::{Read, Write};
 use std::net::{SocketAddr, TcpListener, TcpStream};
@@ -17,9 +18,9 @@ impl Attends for Echo {
 
     ghost is_part = { λ _ _. Unit {0} };
 
-    fn split(&self, part: &mut u64) -> Option<u64> {
-        *part = part.checked_sub(1)?;
-        Some(0)
+    fn split(&self, part: &mut u64) -> Result<u64, AllocError> {
+        *part = part.checked_sub(1).ok_or(AllocError)?;
+        Ok(0)
     }
 
     fn attend<R: Wait>(&self, _rt: &R, _part: &mut u64, mut stream: &TcpStream, _from: SocketAddr) {

@@ -1,6 +1,6 @@
 -- What comes of what a line says is what its call does.
 use Rattle.std.proofs.Common.{Ok, ap, append-nil, refl, subst, sym}
-use Rattle.up_following.specs.FollowTurns.{AskCame, Did, PullCame, SaysCame, world}
+use Rattle.up_following.specs.FollowTurns.{AskCame, LineDid, PullCame, SaysCame, world}
 use Rattle.up_following.specs.declared.line.FollowLine.{FollowLine}
 use Rattle.up_following.proofs.TurnLemmas.{weaker}
 use Rattle.up_following.proofs.turns.do_line.Goals as goal
@@ -8,7 +8,7 @@ use Rattle.up_following.proofs.turns.do_line.Goals as goal
 pub returns-in-Silent-clause-came : goal.returns-in-Silent-clause-came
 returns-in-Silent-clause-came g c =
     let a = world c.args.follower.now c.args.feed.now in
-    (Did.Nothing, (subst (λ (what : FollowLine). SaysCame g.D.Disk g.F.Feed a what (Ok Did.Nothing) a) (sym c.in-Silent.is) (refl, refl), sym (append-nil c.args.out.now.items)))
+    (LineDid.Nothing, (subst (λ (what : FollowLine). SaysCame g.D.Disk g.F.Feed a what (Ok LineDid.Nothing) a) (sym c.in-Silent.is) (refl, refl), sym (append-nil c.args.out.now.items)))
 
 pub returns-in-Pull-clause-came : goal.returns-in-Pull-clause-came
 returns-in-Pull-clause-came g c =

@@ -1,5 +1,5 @@
 use Rattle.std.proofs.Common.{append-nil, refl, subst, sym}
-use Rattle.up_script.specs.Scripts.{AskCame, CallCame, Did, EnrolCame, HostCame, OpenCame, SaysCame}
+use Rattle.up_script.specs.Scripts.{AskCame, CallCame, LineDid, EnrolCame, HostCame, OpenCame, SaysCame}
 use Rattle.up_script.specs.Standing.{parties, world}
 use Rattle.up_script.specs.Turns.{IsGood}
 use Rattle.up_script.proofs.TurnLemmas.{weaker}
@@ -9,7 +9,7 @@ pub returns-in-Silent : goal.returns-in-Silent
 returns-in-Silent g c =
     let who = parties g.D.Disk g.P.Loader g.V.Verifier g.C.Clock g.N.Nonces in
     let a = world c.args.sessions.now c.args.peers.now c.args.verifier.now c.args.clock.now c.args.nonces.now in
-    (Did.Nothing, (subst (λ what. SaysCame who c.args.limits a what _ a) (sym c.in-Silent.is) (refl, refl), sym (append-nil c.args.out.now.items)))
+    (LineDid.Nothing, (subst (λ what. SaysCame who c.args.limits a what _ a) (sym c.in-Silent.is) (refl, refl), sym (append-nil c.args.out.now.items)))
 
 pub open_host-requires-clause-owners : goal.open_host-requires-clause-owners
 open_host-requires-clause-owners g c = subst IsGood c.in-Host.is c.requires.good

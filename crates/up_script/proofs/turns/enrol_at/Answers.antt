@@ -1,7 +1,7 @@
 use Rattle.std.proofs.Common.{◌≡◌, ap, ◌∙◌}
 use Rattle.up_sessions.specs.Worlds.{is_named}
 use Rattle.up_script.specs.Scripts.{EnrolCame}
-use Rattle.up_script.specs.Turns.{enrol_said}
+use Rattle.up_script.specs.Turns.{result_of_enrol}
 use Rattle.up_script.proofs.TurnLemmas.{enrol_came, unmade, weaker, within}
 use Rattle.up_script.proofs.turns.enrol_at.Goals as goal
 
@@ -14,5 +14,5 @@ enrol-enrolled-requires-clause-place g c = within (is_named c.args.user.host) c.
 pub returns : goal.returns
 returns g c =
     let name = c.in_ok-name.name in
-    weaker (λ came. came ≡ enrol_said name c.enrol-enrolled.result) (λ came. EnrolCame g.D.Disk c.args.user c.args.sessions.now came c.enrol-enrolled.new.self) c.args.out.now.items c.say_enrolled.new.out.items c.say_enrolled.result
-    (λ came said. enrol_came g.D.Disk c.args.user c.args.sessions.now c.enrol-enrolled.new.self c.args.place c.enrol-enrolled.result came c.requires.place c.enrol-enrolled.ensures (said ∙ ap (λ n. enrol_said n c.enrol-enrolled.result) c.in_ok-name.ensures.cases)) c.say_enrolled.ensures
+    weaker (λ came. came ≡ result_of_enrol name c.enrol-enrolled.result) (λ came. EnrolCame g.D.Disk c.args.user c.args.sessions.now came c.enrol-enrolled.new.self) c.args.out.now.items c.say_enrol_result.new.out.items c.say_enrol_result.result
+    (λ came said. enrol_came g.D.Disk c.args.user c.args.sessions.now c.enrol-enrolled.new.self c.args.place c.enrol-enrolled.result came c.requires.place c.enrol-enrolled.ensures (said ∙ ap (λ n. result_of_enrol n c.enrol-enrolled.result) c.in_ok-name.ensures.cases)) c.say_enrol_result.ensures

@@ -1,6 +1,6 @@
 use Rattle.std.proofs.Common.{◌≡◌, refl, sym}
 use Rattle.up_script.specs.Scripts.{HostCame}
-use Rattle.up_script.specs.Turns.{host_said}
+use Rattle.up_script.specs.Turns.{result_of_host}
 use Rattle.up_script.proofs.OwnerLemmas.{owners_distinct, owners_plain}
 use Rattle.up_script.proofs.TurnLemmas.{host_came, room_for, weaker}
 use Rattle.up_script.proofs.turns.open_host.Goals as goal
@@ -19,5 +19,5 @@ open_host-opened-requires-clause-plain g c = owners_plain c.args.host.owners c.r
 
 pub returns : goal.returns
 returns g c =
-    weaker (λ came. came ≡ host_said c.args.host.name c.open_host-opened.result) (λ came. HostCame g.D.Disk c.args.limits c.args.host c.args.sessions.now came c.open_host-opened.new.self) c.args.out.now.items c.say_opened.new.out.items c.say_opened.result
-    (λ came said. host_came g.D.Disk c.args.limits c.args.host c.args.sessions.now c.open_host-opened.new.self c.as_str.result.now c.open_host-opened.result came (sym c.if-not-is_new.ensures) c.open_host-opened.ensures c.as_str.ensures said) c.say_opened.ensures
+    weaker (λ came. came ≡ result_of_host c.args.host.name c.open_host-opened.result) (λ came. HostCame g.D.Disk c.args.limits c.args.host c.args.sessions.now came c.open_host-opened.new.self) c.args.out.now.items c.say_host_result.new.out.items c.say_host_result.result
+    (λ came said. host_came g.D.Disk c.args.limits c.args.host c.args.sessions.now c.open_host-opened.new.self c.as_str.result.now c.open_host-opened.result came (sym c.if-not-is_new.ensures) c.open_host-opened.ensures c.as_str.ensures said) c.say_host_result.ensures

@@ -1,9 +1,13 @@
-use Rattle.std.proofs.Common.{◌≤◌, arith, length}
+use Rattle.std.proofs.Common.{◌≤◌, arith, length, subst, sym}
+use Rattle.std.specs.List.{AllByRecursion}
+use Rattle.up_disk.specs.Leaving.{IsBlank}
+use Rattle.up_sessions.proofs.BlankLemmas.{all_first}
+use Rattle.up_sessions.proofs.EmptyLemmas.{handed_empty}
 use Rattle.up_sessions.proofs.OpeningLemmas.{back_room, first_blank, hands_back, hands_none}
 use Rattle.up_sessions.proofs.opening.next_host.Goals as goal
 
 pub returns-in_default-clause-refuses : goal.returns-in_default-clause-refuses
-returns-in_default-clause-refuses g c = hands_none g.D.Disk c.args.limits c.args.owners c.args.free.now c.take_first.new.free c.requires.disks c.in_default.ensures.back c.in_default.ensures.spare
+returns-in_default-clause-refuses g c = hands_none g.D.Disk c.args.limits c.args.owners c.args.free.now c.take_first.new.free c.requires.disks c.requires.blank c.in_default.ensures.back c.in_default.ensures.spare
 
 pub hand_back-requires-clause-why : goal.hand_back-requires-clause-why
 hand_back-requires-clause-why g c =
@@ -22,4 +26,6 @@ returns-in-Err-clause-refuses g c =
     let many = c.disks_for-count.ensures in
     let enough : c.disks_for-count.result ≤ length c.args.free.now.disks = omega (arith, all, many) in
     hands_back g.D.Disk c.args.limits c.args.owners c.args.free.now c.take_first.new.free c.hand_back.new.free c.in-Ok.given.disks c.disks_for-count.result c.in-Err.fault c.hand_back.result c.disks_for-count.ensures enough
-    c.in-Ok.ensures.taken c.in-Ok.ensures.left c.in-Ok.ensures.room c.in-Err.ensures.refuses c.hand_back.ensures.why c.hand_back.ensures.disks c.hand_back.ensures.spare
+    c.in-Ok.ensures.taken c.in-Ok.ensures.left c.in-Ok.ensures.room c.in-Err.ensures.refuses
+    (handed_empty g.D.Disk g.met.D.Disk.counts_now c.args.limits c.args.owners c.in-Ok.given.disks c.in-Err.fault (subst (AllByRecursion (IsBlank g.D.Disk)) (sym c.in-Ok.ensures.taken) (all_first (IsBlank g.D.Disk) c.disks_for-count.result c.args.free.now.disks c.requires.blank)) c.in-Err.ensures.refuses)
+    c.hand_back.ensures.why c.hand_back.ensures.disks c.hand_back.ensures.spare

@@ -1,5 +1,5 @@
 use Rattle.std.proofs.Common.{◌≡◌, ◌<◌, ◌∷◌, [], length, arith, add-one, length-append, sym, ap, ◌∙◌}
-use Rattle.up_sessions.proofs.RoomLemmas.{turn_step}
+use Rattle.up_host.proofs.OpeningLemmas.{turn_step}
 use Rattle.up_sessions.proofs.room.turn.Goals as goal
 
 pub loop-turn-preserved : goal.loop-turn-preserved

@@ -1,6 +1,6 @@
 -- What comes of a line is what its call does.
 use Rattle.std.proofs.Common.{Ok, append-nil, refl, subst, sym}
-use Rattle.up_terminal.specs.Answers.{AskCame, CallCame, Did, SaysCame}
+use Rattle.up_terminal.specs.Answers.{AskCame, CallCame, LineDid, SaysCame}
 use Rattle.up_terminal.specs.declared.terminal_line.TerminalLine.{TerminalLine}
 use Rattle.up_terminal.proofs.AnswerLemmas.{weaker}
 use Rattle.up_terminal.proofs.answering.do_line.Goals as goal
@@ -8,7 +8,7 @@ use Rattle.up_terminal.proofs.answering.do_line.Goals as goal
 pub returns-in-Silent-clause-came : goal.returns-in-Silent-clause-came
 returns-in-Silent-clause-came g c =
     let ask = c.args.ask.now in
-    (Did.Nothing, (subst (λ (what : TerminalLine). SaysCame g.A.Ask.answers c.args.user.now ask what (Ok Did.Nothing) ask) (sym c.in-Silent.is) (refl, refl), sym (append-nil c.args.out.now.items)))
+    (LineDid.Nothing, (subst (λ (what : TerminalLine). SaysCame g.A.Ask.answers c.args.user.now ask what (Ok LineDid.Nothing) ask) (sym c.in-Silent.is) (refl, refl), sym (append-nil c.args.out.now.items)))
 
 pub returns-in-Request-clause-came : goal.returns-in-Request-clause-came
 returns-in-Request-clause-came g c =

@@ -43,13 +43,14 @@ not_false : (b : Bool) → not b ≡ false → b ≡ true
 not_false true h = refl
 not_false false h = absurd (false≢true (sym h))
 
+pub begin-start-requires : goal.begin-start-requires
+begin-start-requires c =
+    let self = c.args.self.now in
+    first_root self.owner (paths_of self) (slots_of self) c.requires.linked c.args.path.now (omega (arith, length-map self.slots.items known, eqb-false _ 0 (sym c.is_empty.ensures ∙ c.if-is_empty.false), self.slots.ok.0))
+    (sym c.owner.ensures ∙ (bytes_eq-Decides c.owner.result.now self.owner).0 (not_false _ (sym c.ne.ensures ∙ c.if-ne.false)))
+
 pub loop-n-init : goal.loop-n-init
-loop-n-init c =
-    let self = c.args.self.now in (
-      omega arith,
-      first_root self.owner (paths_of self) (slots_of self) c.requires.linked c.args.path.now (omega (arith, length-map self.slots.items known, eqb-false _ 0 (sym c.is_empty.ensures ∙ c.if-is_empty.false), self.slots.ok.0))
-          (sym c.owner.ensures ∙ (bytes_eq-Decides c.owner.result.now self.owner).0 (not_false _ (sym c.ne.ensures ∙ c.if-ne.false))),
-    )
+loop-n-init c = (c.begin-start.ensures.within, c.begin-start.ensures.at)
 
 pub returns-in-None : goal.returns-in-None
 returns-in-None c =

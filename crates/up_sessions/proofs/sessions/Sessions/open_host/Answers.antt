@@ -10,9 +10,10 @@ use Rattle.up_sessions.proofs.sessions.Sessions.open_host.Goals as goal
 pub returns-then-is_err : goal.returns-then-is_err
 returns-then-is_err g c =
     let enough : length c.args.owners + 2 ≤ length c.self.inside.free.disks = subst (λ (a : Hosts _). length c.args.owners + 2 ≤ length a.free) (sym c.self.view_is) c.requires.disks in
+    let blank : AllByRecursion (IsBlank g.D.Disk) c.self.inside.free.disks = subst (λ (a : Hosts _). AllByRecursion (IsBlank g.D.Disk) a.free) (sym c.self.view_is) c.requires.blank in
     rw (← c.self.view_is)
     (refuses_next g.D.Disk c.args.limits c.args.owners line.OutOfMemory c.self.inside.free c.self.inside.free c.self.inside.hosts.items c.reserve.new.self.items c.self.inside.sessions.items
-    (hands_none g.D.Disk c.args.limits c.args.owners c.self.inside.free c.self.inside.free enough refl refl) c.reserve.ensures.items)
+    (hands_none g.D.Disk c.args.limits c.args.owners c.self.inside.free c.self.inside.free enough blank refl refl) c.reserve.ensures.items)
 
 pub next_host-requires-clause-disks : goal.next_host-requires-clause-disks
 next_host-requires-clause-disks g c = subst (λ (a : Hosts _). length c.args.owners + 2 ≤ length a.free) (sym c.self.view_is) c.requires.disks

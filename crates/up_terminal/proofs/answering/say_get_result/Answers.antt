@@ -1,0 +1,13 @@
+-- What is said of the outcome.
+use Rattle.std.proofs.Common.{Ok, ap}
+use Rattle.up_terminal.specs.Answers.{LineDid, result_of_get}
+use Rattle.up_terminal.proofs.AnswerLemmas.{says, got_failed}
+use Rattle.up_terminal.proofs.answering.say_get_result.Goals as goal
+
+pub returns-in_ok-say_call_done-in-Ok-clause-said : goal.returns-in_ok-say_call_done-in-Ok-clause-said
+returns-in_ok-say_call_done-in-Ok-clause-said c =
+    says (result_of_get c.args.outcome) (LineDid.Got (Ok c.in-Ok.bytes)) c.args.out.now.items c.say_call_done.new.out.items (ap result_of_get c.in-Ok.is) c.in_ok-say_call_done-in-Ok.ensures
+
+pub returns-in-Err-clause-said : goal.returns-in-Err-clause-said
+returns-in-Err-clause-said c =
+    got_failed c.in-Err.fault c.args.outcome c.args.out.now.items c.say_call_failed-said.new.out.items c.say_call_failed-said.result c.in-Err.is c.say_call_failed-said.ensures.said c.say_call_failed-said.ensures.failed c.say_call_failed-said.ensures.unsaid
