@@ -1,6 +1,9 @@
 //! The logs of a server are opened, and those of the first format moved.
-ghost use Rattle.std.specs.Prelude.{◌≡◌, ◌+◌, length, IfOk};
+ghost use Rattle.std.specs.Prelude.{◌≡◌, ◌≤◌, ◌+◌, [], ◌∷◌, length, IfErr, IfOk};
+ghost use Rattle.up_command.specs.Statuses.{IsOneOf};
 ghost use Rattle.up_journal.specs.Journal.{AreLimits};
+ghost use Rattle.up_lists.specs.Counts.{Rose, StaysUnless};
+ghost use Rattle.up_server.specs.Endings.{ended_with};
 
 use crate::naming::{Format, Log, file_names};
 use crate::told_disk::ToldDisk;
@@ -47,7 +50,11 @@ pub(crate) fn served_disks<K: Sink>(
     place: Place<'_>,
     sink: &mut K,
 ) -> Result<Disks<ServedDisk>, u8>
-    ensures { IfOk result (λ disks. length disks.disks ≡ place.entry.trees + 2) }
+    ensures long { IfOk result (λ disks. length disks.disks ≡ place.entry.trees + 2) }
+    ensures statuses { IsOneOf (0 ∷ 3 ∷ 4 ∷ 6 ∷ 8 ∷ 12 ∷ []) (ended_with result) }
+    ensures write_fault { ended_with result ≡ 3 → Rose (K.faults sink.old) (K.faults sink.new) }
+    ensures sink_counts { K.faults sink.old ≤ K.faults sink.new }
+    ensures sink_quiet { StaysUnless (K.faults sink.old) (K.faults sink.new) (ended_with result ≡ 3) }
 {
     match opened(alloc, place) {
         Ok(logs) => all_moved(alloc, place, logs, sink),
@@ -70,7 +77,11 @@ fn all_moved<K: Sink>(
     logs: Disks<LogDisk>,
     sink: &mut K,
 ) -> Result<Disks<ServedDisk>, u8>
-    ensures { IfOk result (λ disks. length disks.disks ≡ length logs.disks) }
+    ensures long { IfOk result (λ disks. length disks.disks ≡ length logs.disks) }
+    ensures statuses { IsOneOf (0 ∷ 3 ∷ 4 ∷ 6 ∷ 8 ∷ 12 ∷ []) (ended_with result) }
+    ensures write_fault { ended_with result ≡ 3 → Rose (K.faults sink.old) (K.faults sink.new) }
+    ensures sink_counts { K.faults sink.old ≤ K.faults sink.new }
+    ensures sink_quiet { StaysUnless (K.faults sink.old) (K.faults sink.new) (ended_with result ≡ 3) }
 {
     let mut left = logs;
     let mut disks = Disks::new(alloc);
@@ -92,7 +103,12 @@ fn moved<K: Sink>(
     which: u64,
     disk: LogDisk,
     sink: &mut K,
-) -> Result<ServedDisk, u8> {
+) -> Result<ServedDisk, u8>
+    ensures statuses { IsOneOf (0 ∷ 3 ∷ 4 ∷ 6 ∷ 8 ∷ 12 ∷ []) (ended_with result) }
+    ensures write_fault { ended_with result ≡ 3 → Rose (K.faults sink.old) (K.faults sink.new) }
+    ensures sink_counts { K.faults sink.old ≤ K.faults sink.new }
+    ensures sink_quiet { StaysUnless (K.faults sink.old) (K.faults sink.new) (ended_with result ≡ 3) }
+{
     let log = Log::at(place.trees, which);
     match old_disk(alloc, place, log) {
         Ok(Some(old)) => moved_from(alloc, place, which, old, disk, sink),
@@ -102,6 +118,7 @@ fn moved<K: Sink>(
 }
 
 // Moves an old log to the disk of the new one at its place.
+#[tactic(auto, using(crate::proofs::EndLemmas::ends))]
 fn moved_from<K: Sink>(
     alloc: Global,
     place: Place<'_>,
@@ -109,7 +126,12 @@ fn moved_from<K: Sink>(
     old: LogDisk,
     disk: LogDisk,
     sink: &mut K,
-) -> Result<ServedDisk, u8> {
+) -> Result<ServedDisk, u8>
+    ensures statuses { IsOneOf (0 ∷ 3 ∷ 4 ∷ 6 ∷ 8 ∷ 12 ∷ []) (ended_with result) }
+    ensures write_fault { ended_with result ≡ 3 → Rose (K.faults sink.old) (K.faults sink.new) }
+    ensures sink_counts { K.faults sink.old ≤ K.faults sink.new }
+    ensures sink_quiet { StaysUnless (K.faults sink.old) (K.faults sink.new) (ended_with result ≡ 3) }
+{
     let log = Log::at(place.trees, which);
     let mut old = told(alloc, place, log, old)?;
     let mut new = told(alloc, place, log, disk)?;
@@ -138,7 +160,9 @@ fn tell_moved(place: Place<'_>, which: u64, moved: Moved) {
 }
 
 // The disk of a log as one that says how far it was read.
-fn told(alloc: Global, place: Place<'_>, log: Log, disk: LogDisk) -> Result<ServedDisk, u8> {
+fn told(alloc: Global, place: Place<'_>, log: Log, disk: LogDisk) -> Result<ServedDisk, u8>
+    ensures { IfErr result (λ status. status ≡ 4) }
+{
     match log.file(alloc, Format::Second) {
         Ok(name) => Ok(ToldDisk::new(disk, place.rt, name)),
         Err(_) => Err(Status::OutOfMemory.code()),

@@ -1,8 +1,11 @@
 //! `upspin serve`.
-ghost use Rattle.std.specs.Prelude.{◌≡◌, ◌<◌, ◌+◌, ◌^◌, [], ◌∷◌, length, map, string_bytes, None, Some, IfOk, IfSome};
-ghost use Rattle.up_command.specs.Statuses.{IsOneOf, usage_line};
+ghost use Rattle.std.specs.Prelude.{◌≡◌, ◌≤◌, ◌+◌, [], ◌∷◌, length, map, string_bytes, None, Some, true, is_some, IfErr, IfSome};
+ghost use Rattle.std.specs.Io.KnownBytes.{Appends};
+ghost use Rattle.up_command.specs.Statuses.{IsOneOf, code_of, usage_line};
+ghost use Rattle.up_lists.specs.Counts.{Rose, StaysUnless};
 ghost use Rattle.up_ends.specs.Writing.{WritesPart};
 ghost use Rattle.up_serve.specs.Plans.{plan_of};
+ghost use Rattle.up_server.specs.Endings.{ended_with, stopped_with};
 ghost use Rattle.up_shared.specs.Sharing.{AreSeats};
 
 use crate::door::{Door, Visit};
@@ -37,9 +40,10 @@ const FOLLOWERS_AT_ONCE: u64 = 64;
 /// 0 when all of them have ended.
 ///
 /// Words that do not fit get the usage line and 64, and touch no file. Any other status than 0 is that of what failed: 2 where the file of
-/// users, or the system's random bytes, cannot be read; 3 where the sink failed; 4 for want of memory; 6 where a disk failed; 7 for a file
-/// of users of over 67,108,864 bytes; 8 where a log is damaged; 9 where it cannot listen or accept, at either address; 10 at a bad line of the file of users;
-/// 12 where a log is full. A connection's end never ends the server.
+/// users, or the system's random bytes, cannot be read; 3 where the sink failed; 4 for lack of memory; 6 where a disk failed; 7 for a file
+/// of users of over 67,108,864 bytes; 8 where a log is damaged; 9 where it cannot listen or accept, at either address; 10 at a bad line of
+/// the file of users; 12 where a log is full. A connection's end never ends the server.
+#[tactic(auto, using(crate::proofs::EndLemmas::ends))]
 pub fn serve<R: Threads + Wait + Clock + Sync, K: Sink>(
     threads: &R,
     rt: HostRuntime,
@@ -49,6 +53,14 @@ pub fn serve<R: Threads + Wait + Clock + Sync, K: Sink>(
     ensures usage { plan_of (map string_bytes words.now) ≡ None
         → IsOneOf (3 ∷ 4 ∷ 64 ∷ []) result
         × WritesPart (K.held sink.old) (K.held sink.new) usage_line }
+    ensures usage_only { result ≡ 64 → (plan_of (map string_bytes words.now) ≡ None)
+        × Appends (K.held sink.old) (K.held sink.new) usage_line }
+
+    // The statuses that come, and the cause of the one whose object is seen here.
+    ensures statuses { IsOneOf (0 ∷ 2 ∷ 3 ∷ 4 ∷ 6 ∷ 7 ∷ 8 ∷ 9 ∷ 10 ∷ 12 ∷ 64 ∷ []) result }
+    ensures write_fault { result ≡ 3 → Rose (K.faults sink.old) (K.faults sink.new) }
+    ensures sink_counts { K.faults sink.old ≤ K.faults sink.new }
+    ensures sink_quiet { StaysUnless (K.faults sink.old) (K.faults sink.new) (result ≡ 3) }
 {
     match serve_words(rt.alloc(), words) {
         Ok(Some(plan)) => serve_plan(threads, rt, words, plan, sink),
@@ -58,6 +70,7 @@ pub fn serve<R: Threads + Wait + Clock + Sync, K: Sink>(
 }
 
 // The server of a plan.
+#[tactic(auto, using(crate::proofs::EndLemmas::ends))]
 fn serve_plan<R: Threads + Wait + Clock + Sync, K: Sink>(
     threads: &R,
     rt: HostRuntime,
@@ -66,6 +79,10 @@ fn serve_plan<R: Threads + Wait + Clock + Sync, K: Sink>(
     sink: &mut K,
 ) -> u8
     requires { plan_of (map string_bytes words.now) ≡ Some plan }
+    ensures statuses { IsOneOf (0 ∷ 2 ∷ 3 ∷ 4 ∷ 6 ∷ 7 ∷ 8 ∷ 9 ∷ 10 ∷ 12 ∷ []) result }
+    ensures write_fault { result ≡ 3 → Rose (K.faults sink.old) (K.faults sink.new) }
+    ensures sink_counts { K.faults sink.old ≤ K.faults sink.new }
+    ensures sink_quiet { StaysUnless (K.faults sink.old) (K.faults sink.new) (result ≡ 3) }
 {
     let alloc = rt.alloc();
     let Ok(random) = RandomState::new(&rt) else {
@@ -81,6 +98,7 @@ fn serve_plan<R: Threads + Wait + Clock + Sync, K: Sink>(
 }
 
 // The host of a plan, with its users enrolled.
+#[tactic(auto, using(crate::proofs::EndLemmas::ends))]
 fn opened<K: Sink>(
     rt: HostRuntime,
     random: RandomState,
@@ -89,6 +107,10 @@ fn opened<K: Sink>(
     sink: &mut K,
 ) -> Result<Host<ServedDisk>, u8>
     requires { plan_of (map string_bytes words.now) ≡ Some plan.now }
+    ensures statuses { IsOneOf (0 ∷ 2 ∷ 3 ∷ 4 ∷ 6 ∷ 7 ∷ 8 ∷ 10 ∷ 12 ∷ []) (ended_with result) }
+    ensures write_fault { ended_with result ≡ 3 → Rose (K.faults sink.old) (K.faults sink.new) }
+    ensures sink_counts { K.faults sink.old ≤ K.faults sink.new }
+    ensures sink_quiet { StaysUnless (K.faults sink.old) (K.faults sink.new) (ended_with result ≡ 3) }
 {
     let alloc = rt.alloc();
     let (Some(folder), Some(enrol)) = (text(&plan.folder), text(&plan.enrol)) else {
@@ -109,6 +131,7 @@ fn opened<K: Sink>(
 }
 
 // The host over these disks, with the users of a source enrolled.
+#[tactic(auto, using(crate::proofs::EndLemmas::ends))]
 fn enrolled<S: Source, K: Sink>(
     alloc: Global,
     random: RandomState,
@@ -117,8 +140,13 @@ fn enrolled<S: Source, K: Sink>(
     users: &mut S,
     sink: &mut K,
 ) -> Result<Host<ServedDisk>, u8>
-    requires { IfSome (plan_of (map string_bytes words.now))
+    requires fits { is_some (plan_of (map string_bytes words.now)) ≡ true }
+    requires disks { IfSome (plan_of (map string_bytes words.now))
         (λ plan. length disks.disks ≡ length plan.trees + 2) }
+    ensures statuses { IsOneOf (0 ∷ 2 ∷ 3 ∷ 4 ∷ 6 ∷ 7 ∷ 8 ∷ 10 ∷ 12 ∷ []) (ended_with result) }
+    ensures write_fault { ended_with result ≡ 3 → Rose (K.faults sink.old) (K.faults sink.new) }
+    ensures sink_counts { K.faults sink.old ≤ K.faults sink.new }
+    ensures sink_quiet { StaysUnless (K.faults sink.old) (K.faults sink.new) (ended_with result ≡ 3) }
 {
     match serve_open(alloc, random, words, disks, users, sink) {
         Ok(host) => Ok(host),
@@ -127,6 +155,7 @@ fn enrolled<S: Source, K: Sink>(
 }
 
 // Listens, and answers connections.
+#[tactic(auto, using(crate::proofs::EndLemmas::ends))]
 fn listen<R: Threads + Wait + Clock + Sync, K: Sink>(
     threads: &R,
     rt: HostRuntime,
@@ -134,7 +163,12 @@ fn listen<R: Threads + Wait + Clock + Sync, K: Sink>(
     host: Host<ServedDisk>,
     nonces: SeedNonces,
     sink: &mut K,
-) -> Status {
+) -> Status
+    ensures statuses { IsOneOf (0 ∷ 3 ∷ 4 ∷ 9 ∷ []) (code_of result) }
+    ensures write_fault { code_of result ≡ 3 → Rose (K.faults sink.old) (K.faults sink.new) }
+    ensures sink_counts { K.faults sink.old ≤ K.faults sink.new }
+    ensures sink_quiet { StaysUnless (K.faults sink.old) (K.faults sink.new) (code_of result ≡ 3) }
+{
     let Ok((shared, seats)) = host.into_shared(rt.alloc()) else {
         return Status::OutOfMemory;
     };
@@ -173,6 +207,7 @@ fn answer<R: Threads + Wait + Clock + Sync>(
     at_once: u64,
 ) -> Status
     requires { AreSeats door.now.shared.now visit.old.seats }
+    ensures { IsOneOf (0 ∷ 9 ∷ []) (code_of result) }
 {
     let bounds = Bounds {
         connections: plan.connections,
@@ -195,6 +230,7 @@ fn answer_followers<R: Threads + Wait + Clock + Sync>(
     at_once: u64,
 ) -> Status
     requires { AreSeats hatch.now.shared.now visit.old.seats }
+    ensures { IsOneOf (0 ∷ 9 ∷ []) (code_of result) }
 {
     let bounds = Bounds {
         connections: plan.feeds,
@@ -207,6 +243,7 @@ fn answer_followers<R: Threads + Wait + Clock + Sync>(
 }
 
 // Answers connections, and those of followers beside them, until both have ended.
+#[tactic(auto, using(crate::proofs::EndLemmas::ends))]
 fn answer_both<R: Threads + Wait + Clock + Sync>(
     threads: &R,
     rt: HostRuntime,
@@ -217,6 +254,7 @@ fn answer_both<R: Threads + Wait + Clock + Sync>(
     feed: TcpListener,
 ) -> Status
     requires { AreSeats door.now.shared.now visit.old.seats }
+    ensures { IsOneOf (0 ∷ 4 ∷ 9 ∷ []) (code_of result) }
 {
     let Ok(mut other) = visit.split_off(door.alloc, door.shared) else {
         return Status::OutOfMemory;
@@ -229,8 +267,9 @@ fn answer_both<R: Threads + Wait + Clock + Sync>(
     };
     let (followed, answered) = join(
         threads,
-        ||
+        || -> Status
             requires { AreSeats hatch.shared.now other.seats }
+            ensures { IsOneOf (0 ∷ 9 ∷ []) (code_of result) }
         {
             answer_followers(
                 threads,
@@ -242,8 +281,9 @@ fn answer_both<R: Threads + Wait + Clock + Sync>(
                 FOLLOWERS_AT_ONCE,
             )
         },
-        ||
+        || -> Status
             requires { AreSeats door.now.shared.now visit.now.seats }
+            ensures { IsOneOf (0 ∷ 9 ∷ []) (code_of result) }
         {
             answer(
                 threads,
@@ -263,7 +303,9 @@ fn answer_both<R: Threads + Wait + Clock + Sync>(
 }
 
 // The listener for followers, where the plan has one. The port of one whose address ends in `:0` is told on standard error.
-fn feed_listener(rt: HostRuntime, plan: &ServePlan) -> Result<Option<TcpListener>, Status> {
+fn feed_listener(rt: HostRuntime, plan: &ServePlan) -> Result<Option<TcpListener>, Status>
+    ensures { IfErr result (λ status. status ≡ Status.ListenFault) }
+{
     if plan.feed.is_empty() {
         return Ok(None);
     }
@@ -282,7 +324,13 @@ fn feed_listener(rt: HostRuntime, plan: &ServePlan) -> Result<Option<TcpListener
 }
 
 // The listener of an address, once it is printed.
-fn listening<K: Sink>(rt: HostRuntime, address: &str, sink: &mut K) -> Result<TcpListener, Status> {
+#[tactic(auto, using(crate::proofs::EndLemmas::ends))]
+fn listening<K: Sink>(rt: HostRuntime, address: &str, sink: &mut K) -> Result<TcpListener, Status>
+    ensures statuses { IsOneOf (0 ∷ 3 ∷ 4 ∷ 9 ∷ []) (stopped_with result) }
+    ensures write_fault { stopped_with result ≡ 3 → Rose (K.faults sink.old) (K.faults sink.new) }
+    ensures sink_counts { K.faults sink.old ≤ K.faults sink.new }
+    ensures sink_quiet { StaysUnless (K.faults sink.old) (K.faults sink.new) (stopped_with result ≡ 3) }
+{
     let (listener, here) = bound(rt, address)?;
     match say_listening(rt.alloc(), sink, here) {
         Status::Done => Ok(listener),
@@ -291,7 +339,9 @@ fn listening<K: Sink>(rt: HostRuntime, address: &str, sink: &mut K) -> Result<Tc
 }
 
 // The listener of an address, and where it is.
-fn bound(rt: HostRuntime, address: &str) -> Result<(TcpListener, SocketAddr), Status> {
+fn bound(rt: HostRuntime, address: &str) -> Result<(TcpListener, SocketAddr), Status>
+    ensures { IfErr result (λ status. status ≡ Status.ListenFault) }
+{
     let listener = match TcpListener::bind(&rt, address) {
         Ok(listener) => listener,
         Err(why) => return Err(refused(rt, address.as_bytes(), why)),
@@ -303,7 +353,9 @@ fn bound(rt: HostRuntime, address: &str) -> Result<(TcpListener, SocketAddr), St
 }
 
 // Says why nobody is served at an address any more.
-fn refused(rt: HostRuntime, address: &[u8], why: impl Display + Drop) -> Status {
+fn refused(rt: HostRuntime, address: &[u8], why: impl Display + Drop) -> Status
+    ensures { result ≡ Status.ListenFault }
+{
     let address = str::from_utf8(address).unwrap_or("");
     let _ = eprintln!(rt; "upspin: {address}: {why}");
     Status::ListenFault
