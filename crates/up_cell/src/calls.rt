@@ -5,6 +5,7 @@ ghost use Rattle.up_cell.specs.Positions.{Rising};
 ghost use Rattle.up_cell.specs.Turned.{IsLent, Turned};
 ghost use Rattle.up_lists.specs.Begins.{Begins};
 
+use crate::boxed::{Boxed, run};
 use crate::cell::{Cell, Seat};
 use crate::job::Job;
 use crate::rule::{Both, Give, Halves, Look, Settle, Tell};
@@ -25,7 +26,7 @@ impl<S: Grows + Drop> Cell<S> {
         let mut slots = Vec::with_capacity(alloc, 1)?;
         let count = state.length();
         let made = Snapshot::of(&state);
-        slots.push_reserved(Some(state));
+        slots.push_reserved(Some(Boxed::new(alloc, state)?));
         match Table::new(alloc, &[count, 0, 0], slots, &made) {
             Ok((table, place)) => Ok((Cell { table }, Seat { place })),
             Err(Refused { slots: _ }) => Err(AllocError),
@@ -57,7 +58,7 @@ impl<S: Grows + Drop> Cell<S> {
         let Some(mut state) = board.exchange(place, 0, None) else {
             unreachable!()
         };
-        job.run(&mut state);
+        run(job, &mut state);
         let count = state.length();
         let _none = board.exchange(place, 0, Some(state));
         board.store::<Tell<S>>(place, COUNT, count);

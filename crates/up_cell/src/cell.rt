@@ -1,4 +1,5 @@
 //! The cell and its seats.
+use crate::boxed::Boxed;
 use crate::rule::Turns;
 use crate::view::View;
 use atomic_table::Table;
@@ -10,7 +11,13 @@ use up_ends::Grows;
 /// One state, which is lent to one seat at a time. Contracts see which cell it is.
 #[derive(Drop)]
 pub struct Cell<S: Grows + Drop> {
-    pub(crate) table: Table<Option<S>, View<S::Entry, S::Fixed>, Snapshot<S>, Turns<S>, Global>,
+    pub(crate) table: Table<
+        Option<Boxed<S>>,
+        View<S::Entry, S::Fixed>,
+        Snapshot<S>,
+        Turns<S>,
+        Global,
+    >,
 }
 
 impl<S: Grows + Drop> Model for Cell<S> {
@@ -31,7 +38,7 @@ impl<S: Grows + Drop> Model for Cell<S> {
 /// share and its own positions with it for good.
 #[derive(Drop)]
 pub struct Seat<S: Grows> {
-    pub(crate) place: atomic_table::Seat<Option<S>, View<S::Entry, S::Fixed>>,
+    pub(crate) place: atomic_table::Seat<Option<Boxed<S>>, View<S::Entry, S::Fixed>>,
 }
 
 impl<S: Grows> Model for Seat<S> {

@@ -21,6 +21,7 @@
 //! one for the turn and one for those who sleep, and a slot with the state, under a rule that each step keeps (`specs/Kept.antt`).
 #![tactic(auto)]
 
+mod boxed;
 mod calls;
 mod cell;
 mod job;

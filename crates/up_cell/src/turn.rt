@@ -2,6 +2,7 @@
 ghost use Rattle.std.specs.Prelude.{◌≡◌, ◌<◌, [], false};
 ghost use Rattle.up_cell.specs.Plays.{Took};
 
+use crate::boxed::Boxed;
 use crate::rule::{Doze, Take, Turns};
 use crate::view::View;
 use atomic_table::Shared;
@@ -21,12 +22,12 @@ pub(crate) const SLEEPERS: usize = 2;
 const TRIES: u32 = 64;
 
 pub(crate) type Place<S> = atomic_table::Seat<
-    Option<S>,
+    Option<Boxed<S>>,
     View<<S as Grows>::Entry, <S as Grows>::Fixed>,
 >;
 
 pub(crate) type Board<S> = Shared<
-    Option<S>,
+    Option<Boxed<S>>,
     View<<S as Grows>::Entry, <S as Grows>::Fixed>,
     Snapshot<S>,
     Turns<S>,

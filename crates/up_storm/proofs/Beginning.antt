@@ -7,8 +7,8 @@ use Rattle.up_shared.specs.declared.shared.Seats.{Seats}
 use Rattle.up_shared.specs.declared.shared.Shared.{Shared}
 use Rattle.up_names.specs.Texts.{UserName}
 use Rattle.up_names.specs.UserNames.{user_of}
-use Rattle.up_shared.specs.Sharing.{AreSeats}
-use Rattle.up_shared.specs.Splits.{AreBoth, AreFirsts, AreSeconds, SeatsAdd}
+use Rattle.up_shared.specs.Sharing.{AreSeats, EachPair}
+use Rattle.up_shared.specs.Splits.{AreBoth, AreFirsts, AreSeconds, SeatsAdd, SeenAlike}
 use Rattle.up_storm.specs.Asked.{user_text}
 use Rattle.up_storm.specs.Generator.{first_number}
 use Rattle.up_storm.specs.Telling.{none_counted}
@@ -77,9 +77,15 @@ module _ {D L : Type 0} (start : Seats D) (all : List (Session D L)) where
   joining_none = record { goes = λ end h. h }
 
   pub joining_next : (seats other both : Seats D) (left more : List (Session D L)) (w : Session D L) → IsJoining start all seats left → left ≡ w ∷ more
-      → other ≡ w.seats → AreBoth seats other both → SeatsAdd seats other both → IsJoining start all both more
-  joining_next seats other both left more w h is same one shares = record {
-    goes = λ end rest. h.goes end (subst (λ (ws : List (Session D L)). AreJoined seats ws end) (sym is) (both, subst (λ (s : Seats D). AreBoth seats s both) same one, subst (λ (s : Seats D). SeatsAdd seats s both) same shares, rest));
+      → other ≡ w.seats → AreBoth seats other both → EachPair SeenAlike seats.trees.items other.trees.items → SeatsAdd seats other both → IsJoining start all both more
+  joining_next seats other both left more w h is same one alike shares = record {
+    goes = λ end rest. h.goes end (subst (λ (ws : List (Session D L)). AreJoined seats ws end) (sym is) (
+      both,
+      subst (λ (s : Seats D). AreBoth seats s both) same one,
+      subst (λ (s : Seats D). SeatsAdd seats s both) same shares,
+      subst (λ (s : Seats D). EachPair SeenAlike seats.trees.items s.trees.items) same alike,
+      rest,
+    ));
   }
 
   pub joining_all : (seats : Seats D) (left : List (Session D L)) → IsJoining start all seats left → left ≡ [] → AreJoined start all seats

@@ -1,8 +1,9 @@
 -- The sessions have ended, or one of them has failed: what comes of joining their seats, and of telling the whole.
 use Rattle.std.proofs.Common.{◌≡◌, ◌≤◌, ◌<◌, ℕ, Bool, true, false, List, [], ◌∷◌, ◌++◌, length, take, drop, refl, sym, ap, subst, ◌∙◌, arith, nat_le}
-use Rattle.std.specs.Prelude.{◌&&◌, Result, Ok, Err, IfOk, map, slice_index_or}
+use Rattle.std.specs.Prelude.{◌&&◌, Result, Ok, Err, IfOk, is_some, map, slice_index_or}
 use Rattle.std.specs.List.{AllByRecursion, list_any}
 use Rattle.std.proofs.lemmas.Bool.Decides.{nat_tests}
+use Rattle.up_blocks.specs.Records.{IsTold}
 use Rattle.up_disk.specs.declared.disk.Disk as disk
 use Rattle.up_host.specs.Alone.{HostState}
 use Rattle.up_host.specs.Shares.{IsSharedHost}
@@ -73,17 +74,19 @@ few_ok (Err e) items requests n ws back less long few came is = is
 module _ {D L : Type 0} (disks : disk.Ghosts D) (loader : Ghosts L) (none : L) (plan : Plan) (host : HostState D) where
   -- what was told is the text of a storm
   storm_told : {A E : Type 0} (made : Result A E) (text : A → Text) (shared : Shared D) (seats all : Seats D) (said : List Said)
-      → IsPrepared disks loader none plan.sessions host → IsSharedHost host shared seats → HasEnded loader none shared plan seats all said → AreSeats shared all
+      → IsPrepared disks loader none plan.sessions host → IsSharedHost host shared seats → AllByRecursion (IsTold (is_some (disks.content host.store.state.disk))) host.store.state.log
+      → HasEnded loader none shared plan seats all said → AreSeats shared all
       → IfOk made (λ (a : A). HasTold plan all said (text a)) → IfOk made (λ (a : A). IsStorm disks loader none plan (text a))
-  storm_told (Ok a) text shared seats all said prepared is_shared ended sits told = is_storm disks loader none plan (text a) host shared seats all said prepared is_shared ended sits told
-  storm_told (Err e) text shared seats all said prepared is_shared ended sits told = told
+  storm_told (Ok a) text shared seats all said prepared is_shared kept ended sits told = is_storm disks loader none plan (text a) host shared seats all said prepared is_shared kept ended sits told
+  storm_told (Err e) text shared seats all said prepared is_shared kept ended sits told = told
 
   pub storm_ok : {A E : Type 0} (result made : Result A E) (text : A → Text) (shared : Shared D) (seats all : Seats D) (shown said : List Said)
-      → IsPrepared disks loader none plan.sessions host → IsSharedHost host shared seats → HasEnded loader none shared plan seats all said → AreSeats shared all
+      → IsPrepared disks loader none plan.sessions host → IsSharedHost host shared seats → AllByRecursion (IsTold (is_some (disks.content host.store.state.disk))) host.store.state.log
+      → HasEnded loader none shared plan seats all said → AreSeats shared all
       → shown ≡ said → IfOk made (λ (a : A). HasTold plan all shown (text a)) → result ≡ made → IfOk result (λ (a : A). IsStorm disks loader none plan (text a))
-  storm_ok {A} {E} result made text shared seats all shown said prepared is_shared ended sits shows told is =
+  storm_ok {A} {E} result made text shared seats all shown said prepared is_shared kept ended sits shows told is =
       subst (λ (r : Result A E). IfOk r (λ (a : A). IsStorm disks loader none plan (text a))) (sym is)
-      (storm_told made text shared seats all said prepared is_shared ended sits (subst (λ (s : List Said). IfOk made (λ (a : A). HasTold plan all s (text a))) shows told))
+      (storm_told made text shared seats all said prepared is_shared kept ended sits (subst (λ (s : List Said). IfOk made (λ (a : A). HasTold plan all s (text a))) shows told))
 
   -- where a session has failed, nothing is told
   pub storm_err : {A E : Type 0} {e : E} (result : Result A E) (text : A → Text) → IsPrepared disks loader none plan.sessions host → result ≡ Err e

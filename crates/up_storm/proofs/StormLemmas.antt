@@ -1,7 +1,8 @@
 -- A whole storm, put together.
 use Rattle.std.proofs.Common.{◌≡◌, ◌≤◌, ◌<◌, ℕ, zero, suc, Bool, true, false, List, [], ◌∷◌, ◌++◌, length, refl, sym, ap, subst, ◌∙◌, arith, slice_get, Option, Some, None}
-use Rattle.std.specs.Prelude.{◌||◌, codes, map, slice_index_or, if◌then◌else◌}
+use Rattle.std.specs.Prelude.{◌||◌, codes, is_some, map, slice_index_or, if◌then◌else◌}
 use Rattle.std.specs.List.{AllByRecursion, list_any}
+use Rattle.up_blocks.specs.Records.{IsTold}
 use Rattle.up_command.specs.Printed.{ended}
 use Rattle.up_command.specs.Statuses.{AnswersWith}
 use Rattle.up_disk.specs.declared.disk.Disk as disk
@@ -195,9 +196,9 @@ told_by plan shared all first second said text sits owners h k is = record {
 }
 
 pub is_storm : {D L : Type 0} (disks : disk.Ghosts D) (loader : Ghosts L) (none : L) (plan : Plan) (text : Text) (host : HostState D) (shared : Shared D) (seats all : Seats D) (said : List Said)
-    → IsPrepared disks loader none plan.sessions host → IsSharedHost host shared seats → HasEnded loader none shared plan seats all said → AreSeats shared all → HasTold plan all said text
-    → IsStorm disks loader none plan text
-is_storm disks loader none plan text host shared seats all said prepared is_shared ended sits told =
+    → IsPrepared disks loader none plan.sessions host → IsSharedHost host shared seats → AllByRecursion (IsTold (is_some (disks.content host.store.state.disk))) host.store.state.log
+    → HasEnded loader none shared plan seats all said → AreSeats shared all → HasTold plan all said text → IsStorm disks loader none plan text
+is_storm disks loader none plan text host shared seats all said prepared is_shared kept ended sits told =
     let even : length all.trees.items ≡ length seats.trees.items
     = each_length IsTreeSeat shared.trees.items all.trees.items sits.trees ∙ sym (each_length IsTreeSeat shared.trees.items seats.trees.items is_shared.sits.trees) in
     record {
@@ -206,6 +207,7 @@ is_storm disks loader none plan text host shared seats all said prepared is_shar
       shared = shared;
       seats = seats;
       is_shared = is_shared;
+      kept = kept;
       all = all;
       said = said;
       ended = ended;

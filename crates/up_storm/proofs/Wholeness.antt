@@ -102,7 +102,7 @@ module _ {D L : Type 0} (taken : Seats D → Share) (is : IsShare taken) where
   joined_add n seats all (w ∷ ws) h less each =
       let both : Seats D = h.0 in
       let two = is.join seats w.seats both h.1 h.2 n less each.0 in
-      let more = joined_add n both all ws h.3 (is.both seats w.seats both h.1 n less each.0) each.1 in
+      let more = joined_add n both all ws h.4 (is.both seats w.seats both h.1 n less each.0) each.1 in
       record { add = omega (arith, two, more.add); all_is = more.all_is }
 
   same_parts : (n : ℕ) (vs ws : List (Session D L)) → length ws ≡ length vs → ((k : ℕ) (v w : Session D L) → slice_get vs k ≡ Some v → slice_get ws k ≡ Some w → SeatsLater v.seats w.seats)

@@ -5,8 +5,8 @@ use Rattle.up_entry.specs.declared.records.Rec.{Rec}
 use Rattle.up_lists.specs.Begins.{Begins}
 use Rattle.up_names.specs.UserNames.{user_of}
 use Rattle.up_peer.specs.declared.loader.Loader.{Ghosts}
-use Rattle.up_shared.specs.Sharing.{AreSeats}
-use Rattle.up_shared.specs.Splits.{AreBoth, AreFirsts, AreSeconds, SeatsAdd}
+use Rattle.up_shared.specs.Sharing.{AreSeats, EachPair}
+use Rattle.up_shared.specs.Splits.{AreBoth, AreFirsts, AreSeconds, SeatsAdd, SeenAlike}
 use Rattle.up_shared.specs.declared.shared.Seats.{Seats}
 use Rattle.up_shared.specs.declared.shared.Shared.{Shared}
 use Rattle.up_shared.specs.declared.shared.TreeSeat.{TreeSeat}
@@ -52,10 +52,13 @@ module _ {D L : Type 0} where
 
   -- ---- and end
 
-  -- the seats of all sessions were taken in again, one after the other, with their shares
+  -- The seats of all sessions were taken in again, one after the other, with their shares. What a session had seen of a tree's log and what
+  -- those before it had are one log.
   abbrev pub AreJoined : Seats D → List (Session D L) → Seats D → Type 0
   AreJoined seats [] all = all ≡ seats
-  AreJoined seats (w ∷ more) all = (both : Seats D) × AreBoth seats w.seats both × SeatsAdd seats w.seats both × AreJoined both more all
+  AreJoined seats (w ∷ more) all =
+      (both : Seats D) × AreBoth seats w.seats both × SeatsAdd seats w.seats both
+      × EachPair SeenAlike seats.trees.items w.seats.trees.items × AreJoined both more all
 
 -- The log of the tree at a place was read through the joined seats, in a turn of their own: all that the cell then had. It begins with what
 -- they had seen of it, and where they have the whole share, the records that were added to it since the host was shared are exactly

@@ -1,5 +1,7 @@
 -- A whole storm: its host is prepared and shared, its sessions run at once, and what came of them is printed. This project's own.
-use Rattle.std.specs.Prelude.{◌≡◌, ℕ, List, [], ◌∷◌, map, Option, codes}
+use Rattle.std.specs.Prelude.{◌≡◌, ℕ, List, [], ◌∷◌, map, Option, codes, is_some}
+use Rattle.std.specs.List.{AllByRecursion}
+use Rattle.up_blocks.specs.Records.{IsTold}
 use Rattle.up_command.specs.Statuses.{AnswersWith}
 use Rattle.up_disk.specs.declared.disk.Disk as disk
 use Rattle.up_entry.specs.declared.records.Rec.{Rec}
@@ -26,14 +28,16 @@ pub record HasTold {D : Type 0} (plan : Plan) (all : Seats D) (said : List Said)
   pub reads_second : IsRead all 1 second
   pub text_is : text ≡ storm_text plan first second said
 
--- A storm, and the text that it prints: a host was prepared and shared, its sessions ran at once and ended, the joined seats have the whole
--- share of each log, so that all records that were added are their own, and what came of it was told.
+-- A storm, and the text that it prints: a host was prepared and shared, with the bytes of each block that its store kept, where the store's
+-- disk tells its content; its sessions ran at once and ended, the joined seats have the whole share of each log, so that all records that
+-- were added are their own, and what came of it was told.
 pub record IsStorm {D L : Type 0} (disks : disk.Ghosts D) (loader : Ghosts L) (none : L) (plan : Plan) (text : Text) : Type 0 where
   pub host : HostState D
   pub prepared : IsPrepared disks loader none plan.sessions host
   pub shared : Shared D
   pub seats : Seats D
   pub is_shared : IsSharedHost host shared seats
+  pub kept : AllByRecursion (IsTold (is_some (disks.content host.store.state.disk))) host.store.state.log
   pub all : Seats D
   pub said : List Said
   pub ended : HasEnded loader none shared plan seats all said
