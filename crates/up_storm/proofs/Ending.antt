@@ -57,12 +57,20 @@ and_rest true q h = h
 and_rest false true h = refl
 and_rest false false h = h
 
+and_first : (p q : Bool) → p && q ≡ true → p ≡ true
+and_first true q h = refl
+and_first false q h = h
+
 le_from_test : (a b : ℕ) → nat_le a b ≡ true → a ≤ b
 le_from_test a b h = grind (arith, nat_tests)
 
 pub few_requests : (plan : Plan) → is_within plan ≡ true → plan.requests ≤ 4096
 few_requests plan h =
     le_from_test plan.requests 4096 (and_rest (nat_le plan.sessions 32) (nat_le plan.requests 4096) (and_rest (nat_le 1 plan.sessions) (nat_le plan.sessions 32 && nat_le plan.requests 4096) h))
+
+pub few_sessions : (plan : Plan) → is_within plan ≡ true → plan.sessions ≤ 32
+few_sessions plan h =
+    le_from_test plan.sessions 32 (and_first (nat_le plan.sessions 32) (nat_le plan.requests 4096) (and_rest (nat_le 1 plan.sessions) (nat_le plan.sessions 32 && nat_le plan.requests 4096) h))
 
 pub few_ok : {D L V E : Type 0} (result : Result V E) (items : V → List Said) (requests n : ℕ) (ws back : List (Session D L)) → requests ≤ 4096 → n ≡ length ws
     → ((k : ℕ) (d : Session D L) → k < n → IsFew requests (slice_index_or ws k d).tally) → back ≡ ws → IfOk result (λ (v : V). items v ≡ map (λ (w : Session D L). said_of w) back)

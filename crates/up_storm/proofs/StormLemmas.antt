@@ -154,7 +154,7 @@ shared_owners [] (c ∷ cells) seats h = absurd h
 shared_owners (t ∷ trees) [] seats h = absurd h
 shared_owners (t ∷ trees) (c ∷ cells) [] h = absurd h
 
-seated_owners : {D : Type 0} (cells : List (TreeCell D)) (seats : List (TreeSeat D)) → EachPair IsTreeSeat cells seats → map (λ (s : TreeSeat D). s.owner) seats ≡ map (λ (c : TreeCell D). c.owner) cells
+pub seated_owners : {D : Type 0} (cells : List (TreeCell D)) (seats : List (TreeSeat D)) → EachPair IsTreeSeat cells seats → map (λ (s : TreeSeat D). s.owner) seats ≡ map (λ (c : TreeCell D). c.owner) cells
 seated_owners [] [] h = refl
 seated_owners {D} (c ∷ cells) (s ∷ seats) h =
     ap (λ (u : UserName). u ∷ map (λ (x : TreeSeat D). x.owner) seats) h.0.owner ∙ ap (λ (us : List UserName). c.owner ∷ us) (seated_owners cells seats h.1)

@@ -43,7 +43,7 @@ record IsShare {D : Type 0} (taken : Seats D → Share) : Type 0 where
   later : (s t : Seats D) → SeatsLater s t → taken t ≡ taken s
 
 -- a session's share stays while it runs
-ran_later : {D L : Type 0} (loader : Ghosts L) (shared : Shared D) (full : Bool) (k n : ℕ) (v w : Session D L) → HasRun loader shared full k n v w → SeatsLater v.seats w.seats
+pub ran_later : {D L : Type 0} (loader : Ghosts L) (shared : Shared D) (full : Bool) (k n : ℕ) (v w : Session D L) → HasRun loader shared full k n v w → SeatsLater v.seats w.seats
 ran_later {D} {L} loader shared full k zero v w h = subst (λ (s : Session D L). SeatsLater v.seats s.seats) (sym h) (seats_same v.seats)
 ran_later loader shared full k (suc n) v w h =
     seats_trans v.seats h.0.seats w.seats h.1.answered.later (ran_later loader shared full k n h.0 w h.2)

@@ -7,3 +7,4 @@ pub mod Sessions
 pub mod Seating
 pub mod Preparing
 pub mod Storms
+pub mod Summary

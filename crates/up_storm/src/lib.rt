@@ -7,7 +7,8 @@
 //! and counted of it is told. Then the seats of all sessions are joined (`specs/Seating.antt`), the logs of both trees are read through
 //! them in turns of their own, and all is printed (`specs/Telling.antt`). `specs/Storms.antt` says it as a whole (`IsStorm`, `Means`).
 //!
-//! What is counted is what these runs gave; that the summary is a function of the words alone is not said here.
+//! What is counted is what these runs gave, and it is a function of the words alone: `specs/Summary.antt` runs the generator over a model of
+//! each session's files (`summary_of_words`), and the clause `summary` says that what is written begins with that.
 #![tactic(auto)]
 
 mod generator;

@@ -11,6 +11,7 @@ ghost use Rattle.up_storm.specs.Logs.{IsReadBy};
 ghost use Rattle.up_storm.specs.Plans.{is_within, plan_of};
 ghost use Rattle.up_storm.specs.Seating.{HasEnded, HasRead};
 ghost use Rattle.up_storm.specs.Storms.{HasTold, IsStorm, Means};
+ghost use Rattle.up_storm.specs.Summary.{TellsSummary};
 ghost use Rattle.up_storm.specs.Telling.{IsFew};
 
 use crate::logs::{LogRead, ReadLog};
@@ -51,6 +52,9 @@ pub fn storm_run<R: Threads + Wait + Sync, K: Sink, G: Gate + Sync>(
     ensures meaning { IfSome (plan_of (map string_bytes words.now)) (λ plan. result ≢ 4
         → Means ⟦<MemDisk as Disk>⟧ ⟦<PeerList<RefusingPeer> as Loader>⟧ [] plan
         (K.held sink.old) (K.held sink.new) result) }
+    // It begins with the summary that the words give, and ends with it where not all is printed.
+    ensures summary { IfSome (plan_of (map string_bytes words.now)) (λ plan. result ≡ 0
+        → TellsSummary plan (K.held sink.old) (K.held sink.new)) }
 
     // The statuses that come, and the cause of each.
     ensures statuses { IsOneOf (0 ∷ 3 ∷ 4 ∷ 64 ∷ []) result }
@@ -76,7 +80,7 @@ pub fn storm_run<R: Threads + Wait + Sync, K: Sink, G: Gate + Sync>(
 }
 
 // Runs a storm, with a thread for each session, and prints what came of it.
-#[tactic(auto, using(crate::proofs::StormLemmas::means))]
+#[tactic(auto, using(crate::proofs::StormLemmas::means, crate::proofs::Summed::told_summary))]
 fn run_plan<R: Threads + Wait + Sync, K: Sink, G: Gate + Sync>(
     rt: &R,
     alloc: Global,
@@ -89,6 +93,8 @@ fn run_plan<R: Threads + Wait + Sync, K: Sink, G: Gate + Sync>(
     ensures meaning { code_of result ≢ 4
         → Means ⟦<MemDisk as Disk>⟧ ⟦<PeerList<RefusingPeer> as Loader>⟧ [] plan
         (K.held sink.old) (K.held sink.new) (code_of result) }
+    ensures summary { code_of result ≡ 0
+        → TellsSummary plan (K.held sink.old) (K.held sink.new) }
     ensures status { IsOneOf (0 ∷ 3 ∷ 4 ∷ []) (code_of result) }
     ensures cause { HasCause (K.faults sink.old) (K.faults sink.new) (code_of result ≡ 3) }
     ensures quiet { StaysUnless (K.faults sink.old) (K.faults sink.new) (code_of result ≡ 3) }

@@ -1,0 +1,10 @@
+pub mod PlotTrees
+pub mod PlotRights
+pub mod PlotReplies
+pub mod PlotAnswers
+pub mod PlotChanges
+pub mod PlotSizes
+pub mod PlotMaking
+pub mod PlotChecking
+pub mod PlotGrowing
+pub mod PlotPuts

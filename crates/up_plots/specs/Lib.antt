@@ -1,0 +1,3 @@
+pub mod Plots
+pub mod Asks
+pub mod Answered
