@@ -1,5 +1,7 @@
 //! A host is shared.
-ghost use Rattle.std.specs.Prelude.{◌≡◌, IfOk, length};
+ghost use Rattle.std.specs.Prelude.{◌≡◌, IfOk, is_some, length};
+ghost use Rattle.std.specs.List.{AllByRecursion};
+ghost use Rattle.up_blocks.specs.Records.{IsTold};
 ghost use Rattle.up_host.specs.Shares.{AreShared, IsSharedHost, IsSharedTree};
 
 use crate::held::Held;
@@ -16,7 +18,10 @@ impl<D: Disk + Drop> Host<D> {
     /// is then dropped with its disks, and no log was changed.
     #[tactic(auto, using(crate::proofs::ShareLemmas::shared_sits))]
     pub fn into_shared(self, alloc: Global) -> Result<(Shared<D>, Seats<D>), AllocError>
-        ensures { IfOk result (λ made. IsSharedHost self made.0 made.1) }
+        ensures shared { IfOk result (λ made. IsSharedHost self made.0 made.1) }
+        // The store's log has the bytes of each block that it put, where its disk tells its content.
+        ensures told { AllByRecursion (IsTold (is_some (D.content self.store.state.disk)))
+            self.store.state.log }
     {
         let Host {
             name,
@@ -28,6 +33,7 @@ impl<D: Disk + Drop> Host<D> {
             random,
         } = self;
         let store_limits = store.state.limits();
+        let _records = store.state.position();
         let (store, store_seat) = Cell::new(alloc, store.state)?;
         let keys_limits = keys.state.limits();
         let (keys, keys_seat) = Cell::new(alloc, keys.state)?;

@@ -6,7 +6,7 @@ use Rattle.up_journal.specs.declared.limits.Limits.{Limits}
 use Rattle.up_names.specs.Texts.{UserName}
 use Rattle.up_shared.proofs.Pairs.{cons_none, cons_same, get_behind, length_map, map_append, set_behind}
 use Rattle.up_shared.specs.Sharing.{AreSeats, EachPair, IsTreeSeat}
-use Rattle.up_shared.specs.Splits.{AreBoth, AreFirsts, AreSeconds, both_trees, first_tree, joined_trees, second_tree}
+use Rattle.up_shared.specs.Splits.{AreBoth, AreFirsts, AreSeconds, SeenAlike, both_trees, first_tree, joined_trees, second_tree}
 use Rattle.up_shared.specs.declared.shared.Seats.{Seats}
 use Rattle.up_shared.specs.declared.shared.Shared.{Shared}
 use Rattle.up_shared.specs.declared.shared.TreeCell.{TreeCell}
@@ -102,9 +102,10 @@ module _ {D : Type 0} where
     pub whole : old ≡ done ++ rest
     pub whole_others : others ≡ joined ++ left
     pub now_is : now ≡ joined_trees done joined ++ rest
+    pub alike : EachPair SeenAlike done joined
 
   pub joining_none : (old others left : List (TreeSeat D)) → left ≡ others → Joining 0 old others left old
-  joining_none old others left is = record { done = []; rest = old; joined = []; so_many = refl; long = refl; whole = refl; whole_others = sym is; now_is = refl }
+  joining_none old others left is = record { done = []; rest = old; joined = []; so_many = refl; long = refl; whole = refl; whole_others = sym is; now_is = refl; alike = tt }
 
   length_joined : (xs ys : List (TreeSeat D)) → length xs ≡ length ys → length (joined_trees xs ys) ≡ length xs
   length_joined [] ys h = refl
@@ -117,12 +118,18 @@ module _ {D : Type 0} where
   joined_behind (z ∷ xs) [] x y h = absurd (omega (arith, h))
   joined_behind (v ∷ xs) (w ∷ ys) x y h = ap (λ (l : List (TreeSeat D)). both_trees v w ∷ l) (joined_behind xs ys x y (omega (arith, h)))
 
+  pairs_behind : (xs ys : List (TreeSeat D)) (x y : TreeSeat D) → EachPair SeenAlike xs ys → SeenAlike x y → EachPair SeenAlike (xs ++ x ∷ []) (ys ++ y ∷ [])
+  pairs_behind [] [] x y h k = (k, tt)
+  pairs_behind [] (z ∷ ys) x y h k = absurd h
+  pairs_behind (z ∷ xs) [] x y h k = absurd h
+  pairs_behind (v ∷ xs) (w ∷ ys) x y h k = (h.0, pairs_behind xs ys x y h.1 k)
+
   pub record NextPair (i : ℕ) (old others now more : List (TreeSeat D)) (other : TreeSeat D) : Type 0 where
     pub place : TreeSeat D
     pub here : slice_get now i ≡ Some place
     pub before : slice_get old i ≡ Some place
     pub that : slice_get others i ≡ Some other
-    pub step : Joining (i + 1) old others more (slice_set now i (both_trees place other))
+    pub step : SeenAlike place other → Joining (i + 1) old others more (slice_set now i (both_trees place other))
 
   pub joining_next : (i : ℕ) (old others left now : List (TreeSeat D)) (other : TreeSeat D) (more : List (TreeSeat D)) → length old ≡ length others
       → Joining i old others left now → left ≡ other ∷ more → NextPair i old others now more other
@@ -147,7 +154,7 @@ module _ {D : Type 0} where
             here = ap (λ (xs : List (TreeSeat D)). slice_get xs i) now_is ∙ ap (slice_get (joined_trees h.done h.joined ++ place ∷ rest)) at ∙ get_behind (joined_trees h.done h.joined) place rest;
             before = ap (λ (xs : List (TreeSeat D)). slice_get xs i) whole ∙ ap (slice_get (h.done ++ place ∷ rest)) (sym h.so_many) ∙ get_behind h.done place rest;
             that = ap (λ (xs : List (TreeSeat D)). slice_get xs i) others_are ∙ ap (slice_get (h.joined ++ other ∷ more)) (sym h.long) ∙ get_behind h.joined other more;
-            step = record {
+            step = λ pair. record {
               done = h.done ++ place ∷ [];
               rest = rest;
               joined = h.joined ++ other ∷ [];
@@ -161,27 +168,30 @@ module _ {D : Type 0} where
                   ∙ set_behind (joined_trees h.done h.joined) place rest (both_trees place other)
                   ∙ sym (append_assoc (joined_trees h.done h.joined) (both_trees place other ∷ []) rest)
                   ∙ ap (λ (xs : List (TreeSeat D)). xs ++ rest) (sym (joined_behind h.done h.joined place other same_length));
+              alike = pairs_behind h.done h.joined place other h.alike pair;
             };
           }
 
-  pub joining_ends : (i : ℕ) (old others left now : List (TreeSeat D)) → length old ≡ length others → Joining i old others left now → left ≡ [] → now ≡ joined_trees old others
+  pub joining_ends : (i : ℕ) (old others left now : List (TreeSeat D)) → length old ≡ length others → Joining i old others left now → left ≡ [] → (now ≡ joined_trees old others) × EachPair SeenAlike old others
   joining_ends i old others left now even h is = by h.rest h.whole h.now_is
     where
       others_are : others ≡ h.joined
       others_are = h.whole_others ∙ ap (λ (l : List (TreeSeat D)). h.joined ++ l) is ∙ append-nil h.joined
 
-      by : (rest : List (TreeSeat D)) → old ≡ h.done ++ rest → now ≡ joined_trees h.done h.joined ++ rest → now ≡ joined_trees old others
+      by : (rest : List (TreeSeat D)) → old ≡ h.done ++ rest → now ≡ joined_trees h.done h.joined ++ rest → (now ≡ joined_trees old others) × EachPair SeenAlike old others
       by (place ∷ rest) whole now_is =
           let a : length old ≡ length h.done + length (place ∷ rest) = ap length whole ∙ length-append h.done (place ∷ rest) in
           let b : length others ≡ length h.joined = ap length others_are in
           let c : length (place ∷ rest) ≡ length rest + 1 = omega arith in
           absurd (omega (arith, a, b, c, even, h.so_many, h.long))
       by [] whole now_is =
-          let same : old ≡ h.done = whole ∙ append-nil h.done in
-          now_is ∙ append-nil (joined_trees h.done h.joined) ∙ ap (λ (l : List (TreeSeat D)). joined_trees l h.joined) (sym same) ∙ ap (joined_trees old) (sym others_are)
+          let same : old ≡ h.done = whole ∙ append-nil h.done in (
+            now_is ∙ append-nil (joined_trees h.done h.joined) ∙ ap (λ (l : List (TreeSeat D)). joined_trees l h.joined) (sym same) ∙ ap (joined_trees old) (sym others_are),
+            subst (λ (l : List (TreeSeat D)). EachPair SeenAlike l others) (sym same) (subst (λ (l : List (TreeSeat D)). EachPair SeenAlike h.done l) (sym others_are) h.alike),
+          )
 
   -- nothing is left where as many were joined as there are
-  pub joining_all : (i : ℕ) (old others left now : List (TreeSeat D)) → length old ≡ length others → Joining i old others left now → length others ≤ i → now ≡ joined_trees old others
+  pub joining_all : (i : ℕ) (old others left now : List (TreeSeat D)) → length old ≡ length others → Joining i old others left now → length others ≤ i → (now ≡ joined_trees old others) × EachPair SeenAlike old others
   joining_all i old others left now even h all = joining_ends i old others left now even h (no_more left (let a = ap length h.whole_others in let b = length-append h.joined left in omega (arith, a, b, all, h.long)))
     where
       no_more : (xs : List (TreeSeat D)) → length xs ≡ 0 → xs ≡ []

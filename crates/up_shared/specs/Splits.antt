@@ -1,6 +1,7 @@
 -- Seats of a host that are split and joined, and the shares that they have. This project's own.
 use Rattle.std.specs.Prelude.{◌≡◌, ◌≤◌, ◌+◌, ◌*◌, ◌-◌, ◌^◌, ℕ, List, [], ◌∷◌, map}
-use Rattle.up_cell.specs.Known.{Known, both_of, first_of, second_of}
+use Rattle.up_cell.specs.Known.{Known, both_of, first_of, longer, second_of}
+use Rattle.up_lists.specs.Begins.{Begins}
 use Rattle.up_shared.specs.declared.shared.Seats.{Seats}
 use Rattle.up_shared.specs.declared.shared.TreeSeat.{TreeSeat}
 
@@ -42,6 +43,11 @@ module _ {D : Type 0} where
   joined_trees (x ∷ xs) (y ∷ ys) = both_trees x y ∷ joined_trees xs ys
   joined_trees [] ys = []
   joined_trees (x ∷ xs) [] = x ∷ xs
+
+  -- What two seats at a tree had seen is one log: the longer of it begins with both.
+  pub record SeenAlike (place other : TreeSeat D) : Type 0 where
+    pub this : Begins place.seat.seen (longer place.seat.seen other.seat.seen)
+    pub that : Begins other.seat.seen (longer place.seat.seen other.seat.seen)
 
   -- Each seat is both of its place.
   pub record AreBoth (before other after : Seats D) : Type 0 where

@@ -1,7 +1,7 @@
 //! Seats are split and joined.
 ghost use Rattle.std.specs.Prelude.{◌≡◌, ◌≤◌, [], if◌then◌else◌, is_ok, length, map, vec_capacity, IfOk, OnErr, OnOk};
 ghost use Rattle.up_shared.specs.Sharing.{AreSeats, EachPair, IsTreeSeat};
-ghost use Rattle.up_shared.specs.Splits.{AreBoth, AreFirsts, AreSeconds, SeatsAdd, both_trees, first_tree, joined_trees, second_tree};
+ghost use Rattle.up_shared.specs.Splits.{AreBoth, AreFirsts, AreSeconds, SeatsAdd, SeenAlike, both_trees, first_tree, joined_trees, second_tree};
 
 use crate::shared::{Seats, Shared, TreeCell, TreeSeat};
 use std::alloc::{AllocError, Global};
@@ -45,6 +45,7 @@ impl<D: Disk + Drop> Shared<D> {
         requires these { AreSeats self.now seats.old }
         requires those { AreSeats self.now other }
         ensures joined { AreBoth seats.old other seats.new }
+        ensures alike { EachPair SeenAlike seats.old.trees.items other.trees.items }
         ensures shares { SeatsAdd seats.old other seats.new }
         ensures sits { AreSeats self.now seats.new }
     {
@@ -126,7 +127,8 @@ fn join_trees<D: Disk + Drop>(
 )
     requires these { EachPair IsTreeSeat cells.now seats.old.items }
     requires those { EachPair IsTreeSeat cells.now others.items }
-    ensures { seats.new.items ≡ joined_trees seats.old.items others.items }
+    ensures joined { seats.new.items ≡ joined_trees seats.old.items others.items }
+    ensures alike { EachPair SeenAlike seats.old.items others.items }
 {
     let mut left = VecDeque::from(others);
     for i in 0..cells.len() {
@@ -141,7 +143,8 @@ fn join_trees<D: Disk + Drop>(
 fn join_tree<D: Disk + Drop>(tree: &TreeCell<D>, place: &mut TreeSeat<D>, other: TreeSeat<D>)
     requires this { IsTreeSeat tree.now place.old }
     requires that { IsTreeSeat tree.now other }
-    ensures { place.new ≡ both_trees place.old other }
+    ensures joined { place.new ≡ both_trees place.old other }
+    ensures alike { SeenAlike place.old other }
 {
     let TreeSeat {
         owner: _,

@@ -2,15 +2,16 @@ use Rattle.std.proofs.Common.{◌≡◌, ◌+◌, ap, sym, subst, ◌∙◌, ari
 use Rattle.up_shared.proofs.Halves.{Joining, joining_all, joining_ends, joining_next}
 use Rattle.up_shared.proofs.Pairs.{each_at, each_length, get_within, no_front, read_at, some_same}
 use Rattle.up_shared.specs.Sharing.{IsTreeSeat}
-use Rattle.up_shared.specs.Splits.{both_trees}
+use Rattle.up_shared.specs.Splits.{SeenAlike, both_trees}
 use Rattle.up_shared.proofs.splitting.join_trees.Goals as goal
 
 pub returns-in_default : goal.returns-in_default
 returns-in_default g c =
     let one = each_length IsTreeSeat c.args.cells.now c.args.seats.now.items c.requires.these in
     let other = each_length IsTreeSeat c.args.cells.now c.args.others.items c.requires.those in
-    joining_ends c.loop-i.i c.args.seats.now.items c.args.others.items c.loop-i.left.items c.loop-i.seats.items (one ∙ sym other) c.loop-i.invariant
-    (no_front c.loop-i.left.items (c.in_default.ensures.items ∙ c.in_default.ensures.rest))
+    let ends = joining_ends c.loop-i.i c.args.seats.now.items c.args.others.items c.loop-i.left.items c.loop-i.seats.items (one ∙ sym other) c.loop-i.invariant
+    (no_front c.loop-i.left.items (c.in_default.ensures.items ∙ c.in_default.ensures.rest)) in
+    record { joined = ends.0; alike = ends.1 }
 
 pub index_mut-requires : goal.index_mut-requires
 index_mut-requires g c =
@@ -47,11 +48,13 @@ loop-i-preserved g c =
     let within = get_within c.loop-i.seats.items c.loop-i.i next.place next.here in
     let mine : slice_get c.loop-i.seats.items c.loop-i.i ≡ Some c.index_mut.result.now = read_at c.loop-i.seats.items c.loop-i.i c.index_mut.result.now within c.index_mut.ensures.value in
     let same = some_same next.place c.index_mut.result.now (sym next.here ∙ mine) in
-    let joined : both_trees next.place c.in-Some.other ≡ c.join_tree.new.place = ap (λ place. both_trees place c.in-Some.other) same ∙ sym c.join_tree.ensures in
-    subst (λ place. Joining (c.loop-i.i + 1) c.args.seats.now.items c.args.others.items c.pop_front.new.self.items (slice_set c.loop-i.seats.items c.loop-i.i place)) joined next.step
+    let joined : both_trees next.place c.in-Some.other ≡ c.join_tree.new.place = ap (λ place. both_trees place c.in-Some.other) same ∙ sym c.join_tree.ensures.joined in
+    subst (λ place. Joining (c.loop-i.i + 1) c.args.seats.now.items c.args.others.items c.pop_front.new.self.items (slice_set c.loop-i.seats.items c.loop-i.i place)) joined
+    (next.step (subst (λ place. SeenAlike place c.in-Some.other) (sym same) c.join_tree.ensures.alike))
 
 pub returns : goal.returns
 returns g c =
     let one = each_length IsTreeSeat c.args.cells.now c.args.seats.now.items c.requires.these in
     let other = each_length IsTreeSeat c.args.cells.now c.args.others.items c.requires.those in
-    joining_all c.loop-i.i c.args.seats.now.items c.args.others.items c.loop-i.left.items c.loop-i.seats.items (one ∙ sym other) c.loop-i.invariant (omega (arith, other, c.loop-i-test.false))
+    let all = joining_all c.loop-i.i c.args.seats.now.items c.args.others.items c.loop-i.left.items c.loop-i.seats.items (one ∙ sym other) c.loop-i.invariant (omega (arith, other, c.loop-i-test.false)) in
+    record { joined = all.0; alike = all.1 }
