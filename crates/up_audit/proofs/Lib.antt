@@ -2,7 +2,6 @@ pub mod ListLemmas
 pub mod ChangeLemmas
 pub mod MarkLemmas
 pub mod NoteLemmas
-pub mod DifferentLemmas
 pub mod OwnerLemmas
 pub mod WordLemmas
 pub mod TextLemmas

@@ -4,7 +4,8 @@ use Rattle.std.specs.List.{AllByRecursion, slice_split}
 use Rattle.std.proofs.lemmas.Bool.{eqb-false, eqb-true}
 use Rattle.std.specs.Prelude.{◌==◌, if◌then◌else◌, IfSome}
 use Rattle.std.specs.Result.{result_ok}
-use Rattle.up_audit.specs.Words.{audit_plan, if_different, if_so_many, are_different, owners_for, owners_named, trees_named, trees_word}
+use Rattle.up_audit.specs.Words.{audit_plan, if_different, if_so_many, owners_for, owners_named, trees_named, trees_word}
+use Rattle.up_command.specs.Users.{are_different}
 use Rattle.up_command.specs.Words.{◌>>=◌}
 use Rattle.up_names.specs.Texts.{Text, UserName}
 use Rattle.up_names.specs.UserNames.{user_of}

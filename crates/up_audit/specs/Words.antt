@@ -1,7 +1,8 @@
 -- The words of `upspin audit`. This project's own.
-use Rattle.std.specs.Prelude.{ℕ, ◌+◌, ◌==◌, Bool, true, not, ◌&&◌, if◌then◌else◌, List, [], ◌∷◌, length, codes, Option, Some, None}
-use Rattle.std.specs.List.{list_any, slice_split}
+use Rattle.std.specs.Prelude.{ℕ, ◌+◌, ◌==◌, ◌&&◌, if◌then◌else◌, List, [], ◌∷◌, length, codes, Option, Some, None}
+use Rattle.std.specs.List.{slice_split}
 use Rattle.std.specs.Str.{bytes_eq}
+use Rattle.up_command.specs.Users.{are_different}
 use Rattle.up_command.specs.Words.{◌>>=◌}
 use Rattle.up_names.specs.Texts.{Text, UserName}
 use Rattle.up_reports.specs.Owners.{owner_in}
@@ -14,15 +15,6 @@ owners_named (word ∷ more) = do
   owner ← owner_in word
   others ← owners_named more
   Some (owner ∷ others)
-
--- whether one of these users is this one
-abbrev pub has_user : List UserName → UserName → Bool
-has_user users user = list_any (λ one. bytes_eq one user) users
-
--- no user stands twice
-abbrev pub are_different : List UserName → Bool
-are_different [] = true
-are_different (user ∷ more) = not (has_user more user) && are_different more
 
 -- these users, where no user stands twice
 abbrev pub if_different : List UserName → Option (List UserName)

@@ -2,13 +2,14 @@
 ghost use Rattle.std.specs.Prelude.{◌≡◌, ◌==◌, ◌+◌, ◌++◌, ◌∷◌, [], false, if◌then◌else◌, map, option_map, string_bytes, None, Some, IfOk, IfSome};
 ghost use Rattle.std.specs.List.{AllByRecursion, slice_split};
 ghost use Rattle.std.specs.Option.{option_copied};
-ghost use Rattle.up_audit.specs.Words.{are_different, audit_plan, owners_for, owners_named, trees_named, trees_word};
+ghost use Rattle.up_audit.specs.Words.{audit_plan, owners_for, owners_named, trees_named, trees_word};
+ghost use Rattle.up_command.specs.Users.{are_different};
 ghost use Rattle.up_policy.specs.Trees.{owns_snapshots};
 ghost use Rattle.up_reports.specs.Owners.{owner_in};
 ghost use Rattle.up_text.specs.Lists.{is_comma};
 
 use std::alloc::{AllocError, Global};
-use std::collections::BTreeSet;
+use up_command::are_different;
 use up_lists::Items;
 use up_names::User;
 use up_reports::owner_in;
@@ -114,21 +115,5 @@ fn add_owner(alloc: Global, owners: &mut Items<User>, word: &[u8]) -> Result<boo
         return Ok(false);
     };
     owners.push(owner)?;
-    Ok(true)
-}
-
-// Whether no user stands twice.
-#[tactic(auto, using(crate::proofs::DifferentLemmas::seens))]
-fn are_different(alloc: Global, users: &[User]) -> Result<bool, AllocError>
-    ensures { IfOk result (λ are. are ≡ are_different users.now) }
-{
-    let mut seen = BTreeSet::new(alloc);
-    let mut left = users;
-    while let Some((first, rest)) = left.split_first() {
-        if !seen.insert(first.clone()?)? {
-            return Ok(false);
-        }
-        left = rest;
-    }
     Ok(true)
 }

@@ -1,3 +1,4 @@
 pub mod Words
+pub mod Users
 pub mod Printed
 pub mod Statuses

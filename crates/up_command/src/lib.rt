@@ -11,6 +11,7 @@ mod output;
 mod saying;
 mod status;
 mod usage_line;
+mod users;
 mod words;
 
 pub use input::read_script;
@@ -18,4 +19,5 @@ pub use output::{Stop, finish, flush, print};
 pub use saying::{bad_line, say, say_count, say_fault, say_numbered, say_reply};
 pub use status::Status;
 pub use usage_line::usage;
+pub use users::are_different;
 pub use words::{call_path, is, key_named, user_named, words_of};

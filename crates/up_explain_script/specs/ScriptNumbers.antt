@@ -5,7 +5,8 @@ use Rattle.std.specs.List.{list_all, list_any}
 use Rattle.std.specs.Option.{option_and_then}
 use Rattle.std.specs.Str.{bytes_eq}
 use Rattle.up_names.specs.Texts.{Text, UserName}
-use Rattle.up_script_lines.specs.ScriptLines.{has_user, line_of}
+use Rattle.up_command.specs.Users.{has_user}
+use Rattle.up_script_lines.specs.ScriptLines.{line_of}
 use Rattle.up_script_lines.specs.declared.script_lines.NewHost.{NewHost}
 use Rattle.up_script_lines.specs.declared.script_lines.ScriptLine.{ScriptLine}
 use Rattle.up_script_lines.specs.declared.script_lines.ScriptLine.TheVariants as lines

@@ -3,7 +3,7 @@ ghost use Rattle.std.specs.Prelude.{◌≡◌, ◌≢◌, false, true, not, IfEr
 ghost use Rattle.std.specs.List.{list_all};
 ghost use Rattle.up_explain_can.specs.declared.why.Why.{Why};
 ghost use Rattle.up_explain_script.specs.ScriptNumbers.{has_host, has_tree, hosts_behind, is_new};
-ghost use Rattle.up_script_lines.specs.ScriptLines.{has_user};
+ghost use Rattle.up_command.specs.Users.{has_user};
 ghost use Rattle.up_script_lines.specs.declared.script_lines.ScriptLine.{ScriptLine};
 
 use crate::host_flaws::host_flaw;

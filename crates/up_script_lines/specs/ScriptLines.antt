@@ -1,8 +1,7 @@
 -- What each line of a script says by itself, whatever came before it. The script language is this project's own. Keywords, numbers
 -- and names of hosts are read as they stand; users, keys and proofs stand coded in their words.
-use Rattle.std.specs.Prelude.{ℕ, Bool, ◌&&◌, ◌||◌, not, nat_le, if◌then◌else◌, List, [], ◌∷◌, length, codes, Option, Some, None, is_some}
-use Rattle.std.specs.Char.{is_ascii_digit}
-use Rattle.std.specs.List.{list_all, list_any, slice_split}
+use Rattle.std.specs.Prelude.{ℕ, Bool, ◌&&◌, not, nat_le, if◌then◌else◌, List, [], ◌∷◌, length, codes, Option, Some, None, is_some}
+use Rattle.std.specs.List.{list_all, slice_split}
 use Rattle.std.specs.Str.{bytes_eq}
 use Rattle.up_names.specs.Texts.{Text, UserName}
 use Rattle.up_policy.specs.Trees.{owns_snapshots}
@@ -12,6 +11,7 @@ use Rattle.up_text.specs.Numbers.{num_of}
 use Rattle.up_text.specs.Requests.{client_line_of, request_of}
 use Rattle.up_text.specs.Words.{decoded}
 use Rattle.up_text.specs.declared.requests.ClientLine.{ClientLine}
+use Rattle.up_command.specs.Users.{are_different}
 use Rattle.up_command.specs.Words.{◌>>=◌, key_named, user_named}
 use Rattle.up_sign.specs.HostNames.{host_named}
 use Rattle.up_script_lines.specs.declared.script_lines.ScriptLine.{ScriptLine}
@@ -34,15 +34,6 @@ users_named (word ∷ more) = do
   user ← user_named word
   others ← users_named more
   Some (user ∷ others)
-
--- whether one of these users is this one
-abbrev pub has_user : List UserName → UserName → Bool
-has_user users user = list_any (λ one. bytes_eq one user) users
-
--- no user stands twice
-abbrev pub are_different : List UserName → Bool
-are_different [] = Bool.true
-are_different (user ∷ more) = not (has_user more user) && are_different more
 
 -- the trees of one host: at most 8, of different users, none of whom is a snapshot user
 abbrev pub are_owners : List UserName → Bool

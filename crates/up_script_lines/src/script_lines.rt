@@ -6,8 +6,9 @@ ghost use Rattle.up_policy.specs.Trees.{owns_snapshots};
 ghost use Rattle.up_text.specs.Lines.{words_left};
 ghost use Rattle.up_text.specs.Lists.{is_comma};
 ghost use Rattle.up_text.specs.Words.{decoded};
+ghost use Rattle.up_command.specs.Users.{are_different};
 ghost use Rattle.up_command.specs.Words.{key_named, user_named};
-ghost use Rattle.up_script_lines.specs.ScriptLines.{are_different, are_owners, enrol_line, host_line, line_of, open_line, session_line, session_named, trees_named, users_named};
+ghost use Rattle.up_script_lines.specs.ScriptLines.{are_owners, enrol_line, host_line, line_of, open_line, session_line, session_named, trees_named, users_named};
 ghost use Rattle.up_script_lines.specs.Askable.{IsAskable};
 
 use std::alloc::{AllocError, Global};

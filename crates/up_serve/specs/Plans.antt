@@ -4,13 +4,14 @@ use Rattle.std.specs.Prelude.{None}
 use Rattle.std.specs.List.{AllByRecursion, IsDistinct, after_first, before_first, list_all, list_any}
 use Rattle.std.specs.Result.{result_ok}
 use Rattle.std.specs.Str.{bytes_eq}
+use Rattle.up_command.specs.Users.{are_different}
 use Rattle.up_command.specs.Words.{◌>>=◌}
 use Rattle.up_entry.specs.Rules.{is_address}
 use Rattle.up_names.specs.Texts.{Text, UserName}
 use Rattle.up_names.specs.UserNames.{user_of}
 use Rattle.up_policy.specs.Trees.{owns_snapshots}
 use Rattle.up_serve.specs.declared.plan.ServePlan.{ServePlan}
-use Rattle.up_sign.specs.HostNames.{host_named, is_host_name}
+use Rattle.up_sign.specs.HostNames.{is_host_name}
 use Rattle.up_text.specs.Numbers.{num_of}
 
 -- ---- options and their values
@@ -89,15 +90,6 @@ abbrev pub feed_in : List Text → List Text → Option (Text × ℕ)
 feed_in addresses numbers = if (length addresses == 0) && (length numbers == 0) then Some ([], 0) else given_feed addresses numbers
 
 -- ---- trees
-
--- whether one of these users is this one
-abbrev pub has_user : List UserName → UserName → Bool
-has_user users user = list_any (λ one. bytes_eq one user) users
-
--- no user stands twice
-abbrev pub are_different : List UserName → Bool
-are_different [] = true
-are_different (user ∷ more) = not (has_user more user) && are_different more
 
 -- these users may be the owners of trees: all differ, and none of them is a snapshot user
 abbrev pub are_owners : List UserName → Bool

@@ -2,15 +2,16 @@
 ghost use Rattle.std.specs.Prelude.{◌≡◌, ◌++◌, [], ◌∷◌, codes, false, true, not, map, option_map, position, string_bytes, None, Some, IfNone, IfOk, IfSome, if◌then◌else◌};
 ghost use Rattle.std.specs.List.{after_first, before_first, list_all, list_any};
 ghost use Rattle.std.specs.Option.{option_and_then, option_copied};
+ghost use Rattle.up_command.specs.Users.{are_different};
 ghost use Rattle.up_policy.specs.Trees.{owns_snapshots};
-ghost use Rattle.up_serve.specs.Plans.{IsPlan, address_in, all_read, are_different, are_owners, feed_in, given_feed, if_owners, is_equals, once, options_plan, peer_in, plan_of, user_in, values_of};
+ghost use Rattle.up_serve.specs.Plans.{IsPlan, address_in, all_read, are_owners, feed_in, given_feed, if_owners, is_equals, once, options_plan, peer_in, plan_of, user_in, values_of};
 ghost use Rattle.up_sign.specs.HostNames.{host_named, is_host_name};
 ghost use Rattle.up_text.specs.Numbers.{num_of};
 
 use crate::options::{are_pairs, at_most_once, lacks, next_value, once};
 use std::alloc::{AllocError, Global};
-use std::collections::BTreeSet;
 use up_bytes::{Bytes, copy_of};
+use up_command::are_different;
 use up_entry::is_address;
 use up_lists::Items;
 use up_names::{NameFault, User, parse_user};
@@ -268,22 +269,6 @@ fn owns_snapshots(owner: &User) -> bool
         Some(suffix) => suffix == "snapshot",
         None => false,
     }
-}
-
-// Whether no user stands twice.
-#[tactic(auto, using(crate::proofs::DifferentLemmas::seens))]
-fn are_different(alloc: Global, users: &[User]) -> Result<bool, AllocError>
-    ensures { IfOk result (λ are. are ≡ are_different users.now) }
-{
-    let mut seen = BTreeSet::new(alloc);
-    let mut left = users;
-    while let Some((first, rest)) = left.split_first() {
-        if !seen.insert(first.clone()?)? {
-            return Ok(false);
-        }
-        left = rest;
-    }
-    Ok(true)
 }
 
 // The peers.

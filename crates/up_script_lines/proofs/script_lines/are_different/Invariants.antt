@@ -1,6 +1,6 @@
 -- What is left is different exactly where all is.
 use Rattle.std.proofs.Common.{◌≡◌, length}
-use Rattle.up_script_lines.specs.ScriptLines.{are_different}
+use Rattle.up_command.specs.Users.{are_different}
 use Rattle.up_script_lines.proofs.script_lines.are_different.Given as goal
 
 abbrev pub invariant-loop-first : goal.invariant-loop-first

@@ -1,15 +1,15 @@
--- That no user stands twice is found by those that were seen.
+-- That no user stands twice: it is found by those that were seen, and then no two are equal.
 use Rattle.std.proofs.Common.{◌≡◌, ◌∙◌, ◌&&◌, ◌||◌, Bool, true, false, not, cond, List, [], ◌∷◌, refl, sym, ap}
-use Rattle.std.proofs.lemmas.Bool.{true≢false}
+use Rattle.std.proofs.lemmas.Bool.{and_parts, or_parts, true≢false}
 use Rattle.std.proofs.lemmas.Map.Text.{is_eq-slice_cmp}
 use Rattle.std.proofs.lemmas.Slice.Eq.{bytes_eq-Decides}
 use Rattle.std.specs.BTreeSet.{BTreeSet, IsEmpty, Updates, contains}
 use Rattle.std.specs.Cmp.Lexicographic.{slice_cmp}
-use Rattle.std.specs.List.{list_all}
+use Rattle.std.specs.List.{AllByRecursion, IsDistinct, list_all}
 use Rattle.std.specs.Ordering.{nat_cmp}
 use Rattle.std.specs.Str.{bytes_eq}
 use Rattle.up_names.specs.Texts.{Text, UserName}
-use Rattle.up_audit.specs.Words.{are_different, has_user}
+use Rattle.up_command.specs.Users.{are_different, has_user}
 
 -- none of these users is among the others
 abbrev pub none_in : (UserName → Bool) → List UserName → Bool
@@ -22,7 +22,7 @@ seen_by seen user = contains (slice_cmp nat_cmp) seen user
 pub record SeenGoing (all : List UserName) (seen : BTreeSet UserName) (left : List UserName) : Type 0 where
   pub whole : (are_different left && none_in (seen_by seen) left) ≡ are_different all
 
-other_way : (a b : Text) → bytes_eq a b ≡ bytes_eq b a
+pub other_way : (a b : Text) → bytes_eq a b ≡ bytes_eq b a
 other_way a b = by (bytes_eq a b) (bytes_eq b a) refl refl
   where
     by : (x y : Bool) → bytes_eq a b ≡ x → bytes_eq b a ≡ y → x ≡ y
@@ -96,3 +96,25 @@ pub seen_end : {all : List UserName} {seen : BTreeSet UserName} → SeenGoing al
 seen_end going = going.whole
 
 pub ruleset seens = (seen_first, seen_step, seen_twice, seen_end)
+
+-- ---- what is known of users of whom none stands twice
+
+pub not_true : (b : Bool) → not b ≡ true → b ≡ false
+not_true true is = absurd (cc)
+not_true false is = refl
+
+none_has : (users : List UserName) (user : UserName) → has_user users user ≡ false → AllByRecursion (λ other. bytes_eq user other ≡ false) users
+none_has [] user none = tt
+none_has (one ∷ more) user none = let parts = or_parts (bytes_eq one user) (has_user more user) none in (other_way user one ∙ parts.0, none_has more user parts.1)
+
+-- no two are equal
+pub different : (users : List UserName) → are_different users ≡ true → IsDistinct bytes_eq users
+unfolding IsDistinct
+different [] is = tt
+different (user ∷ more) is =
+    let parts = and_parts (not (has_user more user)) (are_different more) is in (none_has more user (not_true (has_user more user) parts.0), different more parts.1)
+
+-- none of whom a test is so
+pub all_fail : (p : Text → Bool) (xs : List Text) → list_all (λ x. not (p x)) xs ≡ true → AllByRecursion (λ x. p x ≡ false) xs
+all_fail p [] all = tt
+all_fail p (x ∷ xs) all = let parts = and_parts (not (p x)) (list_all (λ y. not (p y)) xs) all in (not_true (p x) parts.0, all_fail p xs parts.1)

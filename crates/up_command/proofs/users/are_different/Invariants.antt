@@ -1,7 +1,7 @@
 -- No user that is left stands twice or was seen, exactly where no user stands twice.
 use Rattle.std.proofs.Common.{length}
-use Rattle.up_audit.proofs.DifferentLemmas.{SeenGoing}
-use Rattle.up_audit.proofs.words.are_different.Given as goal
+use Rattle.up_command.proofs.UserLemmas.{SeenGoing}
+use Rattle.up_command.proofs.users.are_different.Given as goal
 
 abbrev pub invariant-loop-first : goal.invariant-loop-first
 invariant-loop-first l = SeenGoing l.fn.users l.seen l.left
