@@ -14,9 +14,12 @@ use up_net::LogDisk;
 
 /// Runs `upspin follow`, and answers its status. Where the words are others, nobody is pulled from, and no file is touched.
 pub fn follow_status(rt: HostRuntime, words: &[String]) -> u8 {
+    let Ok(random) = RandomState::new(&rt) else {
+        return READ_FAULT;
+    };
     match leader_of(rt, words) {
-        Ok(Some(mut leader)) => follow_over(rt, words, &mut leader, log_of(&rt, words)),
-        Ok(None) => follow_over(rt, words, &mut nobody(rt), no_log(rt.alloc())),
+        Ok(Some(mut leader)) => follow_over(rt, random, words, &mut leader, log_of(&rt, words)),
+        Ok(None) => follow_over(rt, random, words, &mut nobody(rt), no_log(rt.alloc())),
         Err(_) => OUT_OF_MEMORY,
     }
 }
@@ -29,15 +32,13 @@ fn nobody(rt: HostRuntime) -> ListFeed {
 /// Runs it over a leader and the log.
 fn follow_over<F: Feed>(
     rt: HostRuntime,
+    random: RandomState,
     words: &[String],
     leader: &mut F,
     log: Result<Disks<LogDisk>, AllocError>,
 ) -> u8
     requires { IfOk log (λ disks. length disks.disks ≡ 1) }
 {
-    let Ok(random) = RandomState::new(&rt) else {
-        return READ_FAULT;
-    };
     let Ok(mut disks) = log else {
         return OUT_OF_MEMORY;
     };

@@ -2,6 +2,7 @@
 //! command's top call.
 #![tactic(auto)]
 
+mod arguments;
 mod asking;
 mod following;
 mod reports;
@@ -10,7 +11,8 @@ mod storms;
 mod telling;
 mod words;
 
-use crate::words::{Command, command_of, words};
+use crate::arguments::{Command, command_of};
+use crate::words::words;
 use std::process::ExitCode;
 use std::sync::Wait;
 use std::thread::Threads;

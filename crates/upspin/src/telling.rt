@@ -1,5 +1,5 @@
 //! What is told on standard error, where nothing is promised.
-use crate::words::Command;
+use crate::arguments::Command;
 
 /// The version, which `--help` and `--version` tell.
 const VERSION: &str = "0.1";

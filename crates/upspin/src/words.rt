@@ -1,78 +1,40 @@
-//! The program's words, and the command that they name.
+//! The words behind the program's name.
+use crate::arguments::program_words;
 use std::alloc::AllocError;
+use std::env::FillError;
 use std::rt::Env;
-use std::{env, io};
+use up_bytes::{Bytes, copy_of};
+use up_lists::Items;
 
-/// A command for people.
-#[derive(Clone, Copy, Drop, PartialEq, Eq)]
-pub enum Command {
-    Serve,
-    Client,
-    Copy,
-    Follow,
-    Audit,
-    Share,
-    Storm,
-    Can,
-    /// The words `explain can`, and no others.
-    ExplainCan,
-    /// The words `explain script`, and no others.
-    ExplainScript,
-    /// `script`, and the words of no command, which get the usage line from it.
-    Script,
+/// The words behind the program's name, as texts.
+pub fn words(rt: &(impl Env + AllocGlobal)) -> Result<Vec<String>, AllocError> {
+    let given = given_words(rt)?;
+    program_words(rt.alloc(), given.as_slice())
 }
 
-/// The words behind the program's name. One that is not UTF-8 is no word of a command, and then there is none at all.
-pub fn words(rt: &(impl Env + AllocGlobal)) -> Result<Vec<String>, AllocError> {
-    let mut words = Vec::new(rt.alloc());
-    match env::args(rt) {
-        Ok(all) => {
-            for word in all.skip(1) {
-                words.push(word)?;
-            }
-        }
-        Err(error) => {
-            if error.kind() == io::ErrorKind::OutOfMemory {
-                return Err(AllocError);
-            }
+// The bytes of each, as the system gives them, in their order.
+fn given_words(rt: &(impl Env + AllocGlobal)) -> Result<Items<Bytes>, AllocError> {
+    let mut words = Items::new(rt.alloc());
+    for place in 1..usize::MAX {
+        match word_at(rt, place)? {
+            Some(word) => words.push(word)?,
+            None => break,
         }
     }
     Ok(words)
 }
 
-/// The command that the first word names.
-pub fn command_of(words: &[String]) -> Command {
-    match words {
-        [] => Command::Script,
-        [word, kind] if word.as_str() == "explain" => explained(kind.as_str()),
-        [word, ..] => command_named(word.as_str()),
+// The bytes of the word at a place, that of the program's name being 0. `None` behind the last one. The room for it is doubled until it is
+// enough.
+fn word_at(rt: &(impl Env + AllocGlobal), place: usize) -> Result<Option<Bytes>, AllocError> {
+    let alloc = rt.alloc();
+    for power in 12..40 {
+        let mut room = vec![in alloc; 0; 1 << power]?;
+        match rt.arg(place, room.as_mut_slice()) {
+            Ok(size) => return Ok(Some(copy_of(alloc, &room[..size])?)),
+            Err(FillError::NotPresent) => return Ok(None),
+            Err(FillError::TooLong) => {}
+        }
     }
-}
-
-fn explained(kind: &str) -> Command {
-    match kind {
-        "can" => Command::ExplainCan,
-        "script" => Command::ExplainScript,
-        _ => Command::Script,
-    }
-}
-
-fn command_named(word: &str) -> Command {
-    match word {
-        "can" => Command::Can,
-        "serve" => Command::Serve,
-        "client" => Command::Client,
-        _ => other_command(word),
-    }
-}
-
-fn other_command(word: &str) -> Command {
-    match word {
-        "copy" => Command::Copy,
-        "follow" => Command::Follow,
-        "audit" => Command::Audit,
-        "share" => Command::Share,
-        "storm" => Command::Storm,
-        _ => Command::Script,
-    }
+    Err(AllocError)
 }
