@@ -28,13 +28,15 @@ fn given_words(rt: &(impl Env + AllocGlobal)) -> Result<Items<Bytes>, AllocError
 // enough.
 fn word_at(rt: &(impl Env + AllocGlobal), place: usize) -> Result<Option<Bytes>, AllocError> {
     let alloc = rt.alloc();
-    for power in 12..40 {
-        let mut room = vec![in alloc; 0; 1 << power]?;
+    let mut most: usize = 4096;
+    for _ in 0..28_u32 {
+        let mut room = vec![in alloc; 0; most]?;
         match rt.arg(place, room.as_mut_slice()) {
             Ok(size) => return Ok(Some(copy_of(alloc, &room[..size])?)),
             Err(FillError::NotPresent) => return Ok(None),
             Err(FillError::TooLong) => {}
         }
+        most = most.saturating_mul(2);
     }
     Err(AllocError)
 }
