@@ -1,4 +1,5 @@
 //! The files of cases, and the topic of each.
+use crate::follow_cases::Follows;
 use crate::host_cases::Hosts;
 use crate::script_cases::{Command, run_scripts};
 use crate::serve_cases::Serves;
@@ -117,6 +118,7 @@ fn run_hashed<R: AllocGlobal + Print>(
         "scripts" => run_scripts(rt, file, Command::Can, random, tally),
         "sessions" => run_scripts(rt, file, Command::Script, random, tally),
         "hosts" => run_lines(rt, file, Hosts::new(rt.alloc(), random), tally),
+        "follows" => run_lines(rt, file, Follows::new(random), tally),
         "globs" | "steps" | "watches" => run_lines(rt, file, Asked::new(random), tally),
         "rights" => run_lines(rt, file, Rights::new(random), tally),
         "serves" => run_lines(rt, file, Serves::new(random), tally),

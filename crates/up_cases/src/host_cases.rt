@@ -8,7 +8,7 @@ mod opening;
 mod peers;
 mod requests;
 mod sessions;
-mod stopping;
+pub mod stopping;
 mod talking;
 mod waiting;
 mod words;

@@ -6,6 +6,7 @@
 #![tactic(auto)]
 
 mod files;
+mod follow_cases;
 mod host_cases;
 mod script_cases;
 mod serve_cases;

@@ -21,12 +21,18 @@ use up_report_files::open_for_reading;
 use up_terminal::client_run;
 
 /// Whose tree it is.
-const OWNER: &str = "ann@a.example";
+pub const OWNER: &str = "ann@a.example";
+
+/// A user who has a key there, and no tree.
+const TREELESS: &str = "bob@b.example";
+
+/// The file of users.
+const ENROLLED: &str = "ann@a.example ann@a.example\nbob@b.example bob@b.example\n";
 
 /// The log of the tree, and that of the follower.
 const LEADER: &str = "tree-0.log2";
 
-const FOLLOWER: &str = "followed.log2";
+pub const FOLLOWER: &str = "followed.log2";
 
 /// How many directories are made below the first one.
 const DIRECTORIES: u64 = 150;
@@ -42,7 +48,7 @@ pub fn run<R: Threads + Wait + Clock + Sync>(
     helper: &str,
 ) -> io::Result<u64> {
     clear_all(rt);
-    fs::write(&rt, USERS, "ann@a.example ann@a.example\n")?;
+    fs::write(&rt, USERS, ENROLLED)?;
     let feed = free_port(rt)?;
     let words = words(rt, helper, feed)?;
     let (hears, says) = pipe(&rt)?;
@@ -97,7 +103,7 @@ fn words(rt: HostRuntime, helper: &str, feed: u16) -> io::Result<Vec<String>> {
         "--connections",
         "1",
         "--feeds",
-        "2",
+        "3",
         "--feed",
     ] {
         words.push(String::from_str(rt.alloc(), word)?)?;
@@ -106,7 +112,7 @@ fn words(rt: HostRuntime, helper: &str, feed: u16) -> io::Result<Vec<String>> {
     Ok(words)
 }
 
-/// Changes and pulls at once, and then pulls alone, up to the last record.
+/// A pull of who has no tree there, which fails; then changes and pulls at once, and then pulls alone, up to the last record.
 fn changed_and_followed<R: Threads + Wait + Clock + Sync>(
     threads: &R,
     rt: HostRuntime,
@@ -115,15 +121,26 @@ fn changed_and_followed<R: Threads + Wait + Clock + Sync>(
     mut hears: PipeReader,
 ) -> io::Result<()> {
     let port = port_heard(rt, &mut hears)?;
+    refused(rt, helper, feed)?;
     let (changed, meanwhile) = join(
         threads,
         || changed(rt, helper, port),
-        || pulled(rt, helper, feed),
+        || pulled(rt, helper, feed, OWNER, PULLS),
     );
     changed?;
     meanwhile?;
-    let said = pulled(rt, helper, feed)?;
+    let said = pulled(rt, helper, feed, OWNER, PULLS)?;
     if said.as_str().ends_with("\npulled 0\n") {
+        Ok(())
+    } else {
+        Err(other())
+    }
+}
+
+/// A pull of who has no tree there fails.
+fn refused(rt: HostRuntime, helper: &str, feed: u16) -> io::Result<()> {
+    let said = pulled(rt, helper, feed, TREELESS, 1)?;
+    if said.as_str() == "failed\n" {
         Ok(())
     } else {
         Err(other())
@@ -161,17 +178,23 @@ fn owner(rt: HostRuntime) -> io::Result<User> {
     }
 }
 
-/// Pulls, and answers what that printed.
-fn pulled(rt: HostRuntime, helper: &str, feed: u16) -> io::Result<String> {
+/// Pulls so often, as this user, and answers what that printed.
+pub fn pulled(
+    rt: HostRuntime,
+    helper: &str,
+    feed: u16,
+    user: &str,
+    pulls: u64,
+) -> io::Result<String> {
     let alloc = rt.alloc();
     let mut lines = String::new(alloc);
-    for _ in 0..PULLS {
+    for _ in 0..pulls {
         lines.push_str("pull\n")?;
     }
     let address = format!(in alloc; "home@127.0.0.1:{feed}")?;
     let words = all_words(
         rt,
-        ["follow", address.as_str(), helper, OWNER, FOLLOWER].as_slice(),
+        ["follow", address.as_str(), helper, user, FOLLOWER].as_slice(),
     )?;
     let mut source = source_of(rt, lines);
     let mut sink = MemSink::new(alloc, Items::new(alloc));

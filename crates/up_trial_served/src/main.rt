@@ -6,13 +6,16 @@
 //! The program is the server's and the clients' helper too: its words are then `verify ..` or `sign ..`. It prints how many examples and lines
 //! there were, and before that each line whose reply is another one; its status is 1 where there is one, or where an example, or the follower, could not be run.
 //!
-//! Then a server takes changes of a client while a follower pulls them from it; once all have ended, the two logs are compared, and the number
-//! of their records is printed.
+//! Then a follower pulls from a leader that sends what no server sends: each time that is a failure, or a record that is none.
+//!
+//! Then a server takes changes of a client while a follower pulls them from it, and refuses one that has no tree there; once all have
+//! ended, the two logs are compared, and the number of their records is printed.
 #![tactic(auto)]
 
 mod example;
 mod following;
 mod helper;
+mod leading;
 mod serving;
 mod session;
 
@@ -46,10 +49,11 @@ fn run_all<R: Threads + Wait + Clock + Sync>(threads: &R, rt: HostRuntime) -> io
     Ok(tally)
 }
 
-/// Runs all examples, and then a server with a follower.
+/// Runs all examples, then a follower of a leader that sends what no server sends, and then a server with a follower.
 fn run<R: Threads + Wait + Clock + Sync>(threads: &R, rt: HostRuntime) -> io::Result<(Tally, u64)> {
     let tally = run_all(threads, rt)?;
     let helper = helper::path(&rt)?;
+    leading::run(threads, rt, helper.as_str())?;
     let followed = following::run(threads, rt, helper.as_str())?;
     Ok((tally, followed))
 }

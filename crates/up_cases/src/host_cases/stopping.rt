@@ -143,8 +143,8 @@ fn ask_all(
     Ok(())
 }
 
-// Each text that was told, behind the places at which it was, with a bar between.
-fn add_alike(told: &[String], answer: &mut Answer) {
+/// Adds each text that was told, behind the places at which it was, with a bar between.
+pub fn add_alike(told: &[String], answer: &mut Answer) {
     for (place, text) in told.iter().enumerate() {
         if is_first(told, place, text.as_str()) {
             add_bar(answer);

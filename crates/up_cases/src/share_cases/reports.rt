@@ -108,8 +108,8 @@ pub fn filled(alloc: Global, bytes: &[u8], fails: Items<u64>) -> MemDisk {
     disk
 }
 
-// A list of a number, where there is one.
-fn one(alloc: Global, number: Option<u64>) -> Result<Items<u64>, AllocError> {
+/// A list of a number, where there is one.
+pub fn one(alloc: Global, number: Option<u64>) -> Result<Items<u64>, AllocError> {
     let mut numbers = Items::new(alloc);
     if let Some(number) = number {
         numbers.push(number)?;
