@@ -7,6 +7,7 @@ use crate::share_cases::Shares;
 use std::hash::RandomState;
 use std::random::RandomSource;
 use std::rt::Files;
+use std::sync::Wait;
 use std::{fs, io};
 use up_case_audits::Audits;
 use up_case_files::{CacheLines, ClientLines, CopyLines, TerminalLines};
@@ -20,7 +21,7 @@ use up_case_trees::{Asked, Trees};
 use up_case_worlds::Worlds;
 
 /// Runs each file of a folder, in order of their names.
-pub fn run_all<R: Files + RandomSource + AllocGlobal + Print + Clone + Drop>(
+pub fn run_all<R: Files + RandomSource + AllocGlobal + Print + Clone + Drop + Wait>(
     rt: &R,
     folder: &str,
     tally: &mut Tally,
@@ -47,7 +48,7 @@ fn names_of_files<R: Files + AllocGlobal + Clone + Drop>(
 }
 
 // Runs a file's lines.
-fn run_file<R: Files + RandomSource + AllocGlobal + Print>(
+fn run_file<R: Files + RandomSource + AllocGlobal + Print + Wait>(
     rt: &R,
     folder: &str,
     name: &str,
@@ -63,7 +64,7 @@ fn run_file<R: Files + RandomSource + AllocGlobal + Print>(
 }
 
 // Runs lines about the topic that their file is named for.
-fn run_topic<R: RandomSource + AllocGlobal + Print>(
+fn run_topic<R: RandomSource + AllocGlobal + Print + Wait>(
     rt: &R,
     file: File<'_>,
     tally: &mut Tally,
@@ -84,7 +85,7 @@ fn run_topic<R: RandomSource + AllocGlobal + Print>(
 }
 
 // The same of other topics: ends and frames, peers and signatures, and what logs are made of.
-fn run_other_topic<R: RandomSource + AllocGlobal + Print>(
+fn run_other_topic<R: RandomSource + AllocGlobal + Print + Wait>(
     rt: &R,
     file: File<'_>,
     tally: &mut Tally,
@@ -107,7 +108,7 @@ fn run_other_topic<R: RandomSource + AllocGlobal + Print>(
 }
 
 // The same of topics whose names are hashed, with these keys.
-fn run_hashed<R: AllocGlobal + Print>(
+fn run_hashed<R: AllocGlobal + Print + Wait>(
     rt: &R,
     file: File<'_>,
     random: RandomState,
@@ -117,7 +118,7 @@ fn run_hashed<R: AllocGlobal + Print>(
     match topic_of(name) {
         "scripts" => run_scripts(rt, file, Command::Can, random, tally),
         "sessions" => run_scripts(rt, file, Command::Script, random, tally),
-        "hosts" => run_lines(rt, file, Hosts::new(rt.alloc(), random), tally),
+        "hosts" => run_lines(rt, file, Hosts::new(rt, rt.alloc(), random), tally),
         "follows" => run_lines(rt, file, Follows::new(random), tally),
         "globs" | "steps" | "watches" => run_lines(rt, file, Asked::new(random), tally),
         "rights" => run_lines(rt, file, Rights::new(random), tally),

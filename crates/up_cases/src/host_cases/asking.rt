@@ -1,17 +1,14 @@
 //! What a user asks of a host.
 use crate::host_cases::events::{add_event, add_reply};
 use crate::host_cases::requests::{File, file_request, line_request, store_request};
-use crate::host_cases::sessions::session_of;
+use crate::host_cases::served::Served;
 use std::alloc::Global;
 use up_case_lines::{Answer, Fault, Words};
 use up_disk::MemDisk;
-use up_host::{Event, Host};
+use up_host::Host;
 use up_peer::{Loader, Peers};
 use up_sign::Session;
 use up_wire::{Reply, Request};
-
-/// The moment of each request.
-const NOW: u64 = 86_400;
 
 /// Asks a host that has no peers, as [`ask`] does.
 pub fn ask_alone(
@@ -28,15 +25,15 @@ pub fn ask_alone(
 
 /// `USER WORDS`: what comes of what the words of a script ask. Besides, `put PATH TIME SEQ BYTES` has the bytes stored first, as one
 /// block, and `remote PATH TIME SEQ ADDRESS BYTES` says that the block is at an address.
-pub fn ask<L: Loader>(
+pub fn ask<S: Served, L: Loader>(
     alloc: Global,
-    host: &mut Host<MemDisk>,
+    host: &mut S,
     loader: &mut L,
     mut words: Words<'_>,
     answer: &mut Answer,
 ) -> Result<(), Fault> {
     let name = words.word()?;
-    match session_of(alloc, host, name)? {
+    match host.session(alloc, name)? {
         Some(session) => {
             let asked = ask_as(alloc, host, loader, &session, words, answer);
             drop(session);
@@ -49,9 +46,9 @@ pub fn ask<L: Loader>(
     }
 }
 
-fn ask_as<L: Loader>(
+fn ask_as<S: Served, L: Loader>(
     alloc: Global,
-    host: &mut Host<MemDisk>,
+    host: &mut S,
     loader: &mut L,
     session: &Session,
     mut words: Words<'_>,
@@ -69,36 +66,25 @@ fn ask_as<L: Loader>(
 }
 
 // Asks what a line asks.
-fn ask_request<L: Loader>(
+fn ask_request<S: Served, L: Loader>(
     alloc: Global,
-    host: &mut Host<MemDisk>,
+    host: &mut S,
     loader: &mut L,
     session: &Session,
     request: Request,
     answer: &mut Answer,
 ) -> Result<(), Fault> {
-    let event = event_of(alloc, host, loader, session, &request);
+    let event = host.event(alloc, loader, session, &request);
     drop(request);
     let added = add_event(alloc, &event, answer);
     drop(event);
     added
 }
 
-/// What comes of a request, of which nothing else is known.
-pub fn event_of<L: Loader>(
-    alloc: Global,
-    host: &mut Host<MemDisk>,
-    loader: &mut L,
-    session: &Session,
-    request: &Request,
-) -> Event {
-    host.ask(alloc, loader, session, request, NOW)
-}
-
 // The bytes are stored, and then the file is put. No bytes are no block.
-fn put<L: Loader>(
+fn put<S: Served, L: Loader>(
     alloc: Global,
-    host: &mut Host<MemDisk>,
+    host: &mut S,
     loader: &mut L,
     session: &Session,
     file: File<'_>,
@@ -110,9 +96,9 @@ fn put<L: Loader>(
     Ok(())
 }
 
-fn put_file<L: Loader>(
+fn put_file<S: Served, L: Loader>(
     alloc: Global,
-    host: &mut Host<MemDisk>,
+    host: &mut S,
     loader: &mut L,
     session: &Session,
     file: File<'_>,
@@ -123,16 +109,16 @@ fn put_file<L: Loader>(
 }
 
 // Stores the bytes of a word. Where they are not stored, the answer says why.
-fn store<L: Loader>(
+fn store<S: Served, L: Loader>(
     alloc: Global,
-    host: &mut Host<MemDisk>,
+    host: &mut S,
     loader: &mut L,
     session: &Session,
     word: &str,
     answer: &mut Answer,
 ) -> Result<bool, Fault> {
     let request = store_request(alloc, word)?;
-    let event = event_of(alloc, host, loader, session, &request);
+    let event = host.event(alloc, loader, session, &request);
     drop(request);
     let stored = is_stored(alloc, &event.reply, answer);
     drop(event);

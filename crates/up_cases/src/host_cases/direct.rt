@@ -1,5 +1,5 @@
 //! The requests of a connection, asked of the host itself.
-use crate::host_cases::asking::event_of;
+use crate::host_cases::served::event_of;
 use crate::host_cases::sessions::session_of;
 use std::alloc::{AllocError, Global};
 use up_bytes::{Fields, Writer};

@@ -6,36 +6,43 @@ use crate::host_cases::asking::ask_alone;
 use crate::host_cases::direct::direct_line;
 use crate::host_cases::lines::{enrol_line, key_line, text_line};
 use crate::host_cases::opening::{add_sizes, host_over, new_host};
-use crate::host_cases::peers::{Has, Kind, Told, ask_peer, ask_with, has_of, kind_of, tree};
+use crate::host_cases::peers::{
+    Kind, Told, add_told, ask_peer, ask_with, has_of, kind_of, told_of, tree,
+};
+use crate::host_cases::sharing::{Line, Lines};
 use crate::host_cases::stopping::{Asked, add_images};
 use crate::host_cases::talking::{failing_line, many_line, prefixes_line, talk_line};
 use crate::host_cases::waiting::waits_line;
-use crate::host_cases::words::cut;
+use crate::host_cases::words::{cut, cut_asks};
 use std::alloc::Global;
 use std::hash::RandomState;
 use std::mem;
+use std::sync::Wait;
 use up_case_lines::{Answer, Fault, Topic, Words, user_of};
 use up_disk::{Disks, MemDisk};
 use up_host::{Host, TreePeer};
 
-/// The hosts that stand.
+/// The hosts that stand. What one is asked is asked of a shared one too, and a line that this answers otherwise says so.
 #[derive(Drop)]
-pub struct Hosts {
+pub struct Hosts<'a, R: Wait> {
+    rt: &'a R,
     random: RandomState,
     named: Vec<Named>,
 }
 
-/// A host, and its name.
+/// A host, its name, and the lines about it.
 #[derive(Drop)]
 struct Named {
     name: String,
     host: Host<MemDisk>,
+    lines: Lines,
 }
 
-impl Hosts {
+impl<'a, R: Wait> Hosts<'a, R> {
     /// No host. Names are hashed with these keys.
-    pub fn new(alloc: Global, random: RandomState) -> Hosts {
+    pub fn new(rt: &'a R, alloc: Global, random: RandomState) -> Hosts<'a, R> {
         Hosts {
+            rt,
             random,
             named: Vec::new(alloc),
         }
@@ -86,7 +93,11 @@ impl Hosts {
 
     fn add(&mut self, alloc: Global, name: &str, host: Host<MemDisk>) -> Result<(), Fault> {
         match name.to_string(alloc) {
-            Ok(name) => self.push(Named { name, host }),
+            Ok(name) => self.push(Named {
+                name,
+                host,
+                lines: Lines::none(alloc),
+            }),
             Err(_) => {
                 drop(host);
                 Err(Fault::OutOfMemory)
@@ -106,12 +117,13 @@ impl Hosts {
 }
 
 fn host_in(named: Named) -> Host<MemDisk> {
-    let Named { name, host } = named;
+    let Named { name, host, lines } = named;
     drop(name);
+    drop(lines);
     host
 }
 
-impl Topic for Hosts {
+impl<'a, R: Wait> Topic for Hosts<'a, R> {
     fn turn(&mut self, alloc: Global, line: &str, answer: &mut Answer) -> Result<(), Fault> {
         let mut words = Words::new(line);
         match words.word()? {
@@ -126,7 +138,7 @@ impl Topic for Hosts {
     }
 }
 
-impl Hosts {
+impl<'a, R: Wait> Hosts<'a, R> {
     // `host NAME OPERATOR OWNERS PLACE:CALL,CALL ..`: a host over empty disks.
     fn host_line(
         &mut self,
@@ -137,7 +149,62 @@ impl Hosts {
         let name = words.word()?;
         self.forget(name);
         let host = new_host(alloc, self.random, words, answer)?;
-        self.keep(alloc, name, host)
+        self.keep(alloc, name, host)?;
+        self.begin(alloc, name, words)
+    }
+
+    // The line that opened a host, if it stands, is the first of its lines.
+    fn begin(&mut self, alloc: Global, name: &str, words: Words<'_>) -> Result<(), Fault> {
+        match self.place(name) {
+            Some(place) => self.named[place].lines.begin(alloc, words),
+            None => Ok(()),
+        }
+    }
+
+    // Adds what was answered, and what a host that is shared answers otherwise.
+    fn tell(
+        &mut self,
+        alloc: Global,
+        line: Line<'_>,
+        asked: Result<(), Fault>,
+        alone: Answer,
+        answer: &mut Answer,
+    ) -> Result<(), Fault> {
+        let text = alone.finish()?;
+        answer.push(text.as_str());
+        let compared = match asked {
+            Ok(()) => self.compare(alloc, line, text.as_str(), answer),
+            Err(fault) => Err(fault),
+        };
+        drop(text);
+        compared
+    }
+
+    fn compare(
+        &mut self,
+        alloc: Global,
+        line: Line<'_>,
+        text: &str,
+        answer: &mut Answer,
+    ) -> Result<(), Fault> {
+        if let Some(other) = self.shared_answer(alloc, line)? {
+            if other.as_str() != text {
+                answer.part();
+                answer.word("but shared");
+                answer.word(other.as_str());
+            }
+            drop(other);
+        }
+        Ok(())
+    }
+
+    // What a host that is shared answers to this line, where it can be asked.
+    fn shared_answer(&mut self, alloc: Global, line: Line<'_>) -> Result<Option<String>, Fault> {
+        let (rt, random) = (self.rt, self.random);
+        match self.place(line.name) {
+            Some(place) => self.named[place].lines.answer(rt, alloc, random, line),
+            None => Ok(None),
+        }
     }
 
     // `again NAME OPERATOR OWNERS`: a host over the disks of the host of this name, which it handed back.
@@ -193,21 +260,28 @@ impl Hosts {
         mut words: Words<'_>,
         answer: &mut Answer,
     ) -> Result<(), Fault> {
+        let name = words.word()?;
         let mut told = Vec::new(alloc);
-        let asked = self.ask_told(alloc, &mut words, &mut told, answer);
+        let mut alone = Answer::new(alloc);
+        let asked = self.ask_told(alloc, name, words, &mut told, &mut alone);
         drop(told);
-        asked
+        let line = Line {
+            keyword: "with",
+            name,
+            words,
+        };
+        self.tell(alloc, line, asked, alone, answer)
     }
 
     // Tells the peers, and asks the host that has them, which takes them.
     fn ask_told(
         &mut self,
         alloc: Global,
-        words: &mut Words<'_>,
+        name: &str,
+        words: Words<'_>,
         told: &mut Vec<Told>,
         answer: &mut Answer,
     ) -> Result<(), Fault> {
-        let name = words.word()?;
         let (peers, asks) = cut_asks(words.some()?)?;
         self.add_all(alloc, peers, told)?;
         let told = mem::replace(told, Vec::new(alloc));
@@ -222,19 +296,9 @@ impl Hosts {
 
     fn add_all(&mut self, alloc: Global, words: &str, told: &mut Vec<Told>) -> Result<(), Fault> {
         for word in words.split(' ') {
-            self.add_told(alloc, word, told)?;
+            add_told(told, self.told_peer(alloc, word))?;
         }
         Ok(())
-    }
-
-    fn add_told(&mut self, alloc: Global, word: &str, told: &mut Vec<Told>) -> Result<(), Fault> {
-        match told.push(self.told_peer(alloc, word)?) {
-            Ok(()) => Ok(()),
-            Err(refused) => {
-                drop(refused);
-                Err(Fault::OutOfMemory)
-            }
-        }
     }
 
     // `OWNERS/ADDRESS/KIND`: a peer that has the trees of these owners and the blocks of this address.
@@ -242,17 +306,7 @@ impl Hosts {
         let (owners, rest) = cut(word, '/')?;
         let (address, kind) = cut(rest, '/')?;
         let has = has_of(alloc, owners, address)?;
-        self.told_by(alloc, has, kind)
-    }
-
-    fn told_by(&mut self, alloc: Global, has: Has, word: &str) -> Result<Told, Fault> {
-        match self.told_kind(alloc, word) {
-            Ok(kind) => Ok(Told { has, kind }),
-            Err(fault) => {
-                drop(has);
-                Err(fault)
-            }
-        }
+        told_of(has, self.told_kind(alloc, kind))
     }
 
     // `host:NAME:ASKER` for the host of this name, which is asked as this user; else a peer in memory.
@@ -303,8 +357,27 @@ impl Hosts {
         mut words: Words<'_>,
         answer: &mut Answer,
     ) -> Result<(), Fault> {
-        let host = self.get(words.word()?)?;
-        match keyword {
+        let name = words.word()?;
+        let line = Line {
+            keyword,
+            name,
+            words,
+        };
+        let mut alone = Answer::new(alloc);
+        let asked = self.host_answer(alloc, line, &mut alone);
+        self.tell(alloc, line, asked, alone, answer)
+    }
+
+    // What the host itself answers.
+    fn host_answer(
+        &mut self,
+        alloc: Global,
+        line: Line<'_>,
+        answer: &mut Answer,
+    ) -> Result<(), Fault> {
+        let host = self.get(line.name)?;
+        let words = line.words;
+        match line.keyword {
             "enrol" => enrol_line(alloc, host, words, answer),
             "key" => key_line(alloc, host, words, answer),
             "text" => text_line(alloc, host, words, answer),
@@ -333,9 +406,4 @@ fn peer_of(alloc: Global, host: Host<MemDisk>, asker: &str) -> Result<TreePeer<M
             Err(fault)
         }
     }
-}
-
-// What stands before the first ` : `, and behind it.
-fn cut_asks(words: &str) -> Result<(&str, &str), Fault> {
-    words.split_once(" : ").ok_or(Fault::BadLine)
 }

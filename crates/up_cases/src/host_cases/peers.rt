@@ -1,11 +1,12 @@
 //! Peers as words tell them, and what is asked of a host that has them.
 use crate::host_cases::asking::ask;
+use crate::host_cases::served::Served;
 use crate::host_cases::words::cut;
 use std::alloc::Global;
 use up_bytes::Bytes;
 use up_case_lines::{Answer, Fault, Words, bytes_of, number_of, path_of, user_of};
 use up_disk::MemDisk;
-use up_host::{Host, TreePeer};
+use up_host::TreePeer;
 use up_lists::Items;
 use up_names::User;
 use up_peer::{ListPeer, Loader, Peer, PeerAnswer, PeerCall, PeerQuestion, Peers, RefusingPeer};
@@ -59,6 +60,44 @@ fn users_of(alloc: Global, word: &str) -> Result<Items<User>, Fault> {
 fn add_user(alloc: Global, users: &mut Items<User>, name: &str) -> Result<(), Fault> {
     users.push(user_of(alloc, name)?)?;
     Ok(())
+}
+
+/// The peers that words tell, each `OWNERS/ADDRESS/KIND`, none of them a whole host.
+pub fn told_in_memory(alloc: Global, words: &str) -> Result<Vec<Told>, Fault> {
+    let mut told = Vec::new(alloc);
+    for word in words.split(' ') {
+        add_told(&mut told, told_one(alloc, word))?;
+    }
+    Ok(told)
+}
+
+fn told_one(alloc: Global, word: &str) -> Result<Told, Fault> {
+    let (owners, rest) = cut(word, '/')?;
+    let (address, kind) = cut(rest, '/')?;
+    let has = has_of(alloc, owners, address)?;
+    told_of(has, kind_of(alloc, kind))
+}
+
+/// A peer that has this, and is of this kind, where it is one.
+pub fn told_of(has: Has, kind: Result<Kind, Fault>) -> Result<Told, Fault> {
+    match kind {
+        Ok(kind) => Ok(Told { has, kind }),
+        Err(fault) => {
+            drop(has);
+            Err(fault)
+        }
+    }
+}
+
+/// Adds a peer, where it is one.
+pub fn add_told(told: &mut Vec<Told>, one: Result<Told, Fault>) -> Result<(), Fault> {
+    match told.push(one?) {
+        Ok(()) => Ok(()),
+        Err(refused) => {
+            drop(refused);
+            Err(Fault::OutOfMemory)
+        }
+    }
 }
 
 /// `refuses`, `list:ANSWERS`, or `chain:OWNER:COUNT:LAST` for so many texts, of which the one at place i, from 0, names the owner's
@@ -175,9 +214,9 @@ fn add_got(alloc: Global, answers: &mut Items<PeerAnswer>, text: &str) -> Result
 
 /// Asks a host that has these peers, one line after the other, each behind a bar but the first; at last the sum of the counts. The
 /// peers are of any kind here alone, where their list ends too.
-pub fn ask_with(
+pub fn ask_with<S: Served>(
     alloc: Global,
-    host: &mut Host<MemDisk>,
+    host: &mut S,
     told: Vec<Told>,
     asks: &str,
     answer: &mut Answer,
@@ -209,9 +248,9 @@ fn add_close(faults: u128, answer: &mut Answer) {
     answer.number(u64::try_from(faults).unwrap_or(u64::MAX));
 }
 
-fn ask_all<L: Loader>(
+fn ask_all<S: Served, L: Loader>(
     alloc: Global,
-    host: &mut Host<MemDisk>,
+    host: &mut S,
     peers: &mut L,
     asks: &str,
     answer: &mut Answer,

@@ -9,7 +9,7 @@ use up_names::User;
 use up_sign::{Session, SignOn};
 use up_wire::KeyRecord;
 
-/// The session of the user of this name, where it has a key record. The verifier says Yes to each signature.
+/// The session of the user of this name, where it has a key record.
 pub fn session_of(
     alloc: Global,
     host: &Host<MemDisk>,
@@ -26,7 +26,8 @@ fn card_of<'a>(host: &'a Host<MemDisk>, user: &User) -> Option<&'a KeyRecord> {
     host.key_record(user)
 }
 
-fn signed_on(alloc: Global, card: Option<&KeyRecord>) -> Result<Option<Session>, AllocError> {
+/// The session of whoever has this record. The verifier says Yes to each signature.
+pub fn signed_on(alloc: Global, card: Option<&KeyRecord>) -> Result<Option<Session>, AllocError> {
     match card {
         Some(card) => Ok(proved(alloc, begin(alloc, "h", card, [0; 32])?)),
         None => Ok(None),

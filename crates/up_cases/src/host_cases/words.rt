@@ -5,3 +5,8 @@ use up_case_lines::Fault;
 pub fn cut(word: &str, mark: char) -> Result<(&str, &str), Fault> {
     word.split_once(mark).ok_or(Fault::BadLine)
 }
+
+/// What stands before the first ` : `, and behind it.
+pub fn cut_asks(words: &str) -> Result<(&str, &str), Fault> {
+    words.split_once(" : ").ok_or(Fault::BadLine)
+}
