@@ -14,6 +14,7 @@ use Rattle.up_calls.specs.declared.event.Event.{Event}
 use Rattle.up_names.specs.PathNames.{PathName}
 use Rattle.up_names.specs.Texts.{UserName}
 use Rattle.up_peer.specs.declared.loader.Loader.{Ghosts}
+use Rattle.up_sessions.proofs.OddLemmas.{Any, Comes, ComesTo}
 use Rattle.up_sessions.proofs.IoLemmas.{IoByReply}
 use Rattle.up_sessions.proofs.SeenLemmas.{IsSeenAs, asked_seen}
 use Rattle.up_sessions.proofs.TalkLemmas.{held_seen, talks_whole}
@@ -83,14 +84,14 @@ module _ {D P S N : Type 0} (disks : disk.Ghosts D) (loader : Ghosts P) (host : 
   )
 
   -- so a conversation with the object is one with the host
-  pub talks_among : {X : Type 0} (talk said : Talking X) (result : Result X ClientFault) (old new : S) (then : HostState D) (last : P) → IoByReply talk → said ≡ talk → then ≡ host new → last ≡ peers new
+  pub talks_among : {X : Type 0} (talk said : Talking X) (result : Result X ClientFault) (old new : S) (then : HostState D) (last : P) → IoByReply talk → ComesTo (Comes Any) talk → said ≡ talk → then ≡ host new → last ≡ peers new
       → Held answers_in said old result new → TalksTo disks loader (before old ++ after old) (user (session old)) (moment old) talk result (host old) then (peers old) last
-  talks_among {X} talk said result old new then last by same is also held =
+  talks_among {X} talk said result old new then last by comes same is also held =
       let seen =
       held_seen (λ s. (host s, peers s)) (IsAt (before old ++ after old) (user (session old)) (moment old)) answers_in (answers_as disks loader (before old ++ after old) (user (session old)) (moment old))
       (step_seen (before old ++ after old) (user (session old)) (moment old)) talk old new result (record { hosts_are = refl; user_is = refl; moment_is = refl })
       (subst (λ (t : Talking X). Held answers_in t old result new) same held) in
-      talks_whole disks loader (before old ++ after old) (user (session old)) (moment old) talk (host old) then (peers old) last result by
+      talks_whole disks loader (before old ++ after old) (user (session old)) (moment old) talk (host old) then (peers old) last result by comes
       (subst (λ (h : HostState D). Held (answers_as disks loader (before old ++ after old) (user (session old)) (moment old)) talk (host old, peers old) result (h, last)) (sym is)
       (subst (λ p. Held (answers_as disks loader (before old ++ after old) (user (session old)) (moment old)) talk (host old, peers old) result (host new, p)) (sym also) seen.0))
 

@@ -8,6 +8,9 @@ pub mod BehindLemmas
 pub mod SeenLemmas
 pub mod StayLemmas
 pub mod IoLemmas
+pub mod ReadLemmas
+pub mod KindLemmas
+pub mod OddLemmas
 pub mod TalkLemmas
 pub mod AmongLemmas
 pub mod CountLemmas

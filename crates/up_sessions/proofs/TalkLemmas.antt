@@ -8,6 +8,8 @@ use Rattle.up_host.specs.Alone.{HostState, disk_faults, io_of}
 use Rattle.up_names.specs.Texts.{UserName}
 use Rattle.up_peer.specs.declared.loader.Loader.{Ghosts}
 use Rattle.up_sessions.proofs.IoLemmas.{IoByReply, after, at_end}
+use Rattle.up_sessions.proofs.KindLemmas.{OfKind, call_kind}
+use Rattle.up_sessions.proofs.OddLemmas.{Any, Comes, ComesTo, held_comes, never_odd}
 use Rattle.up_sessions.proofs.StayLemmas.{stays_none, stays_then}
 use Rattle.up_sessions.specs.Asking.{StaysHost}
 use Rattle.up_sessions.specs.Talking.{TalksTo, answers_as, io_in, io_in_fault}
@@ -105,11 +107,16 @@ module _ {D P : Type 0} (disks : disk.Ghosts D) (loader : Ghosts P) (hosts : Lis
   held_stays talk a b result (heard {request = request} {hear = hear} {next = next} reply answer rest) =
       stays_then disks a.0 next.0 b.0 answer.2.stays (held_stays (hear reply) next b result rest)
 
+  -- each answer is of the kind that was asked for
+  answers_kind : (a b : HostState D × P) (request : Request) (reply : Reply) → answers_as disks loader hosts user moment a request (Some reply) b → OfKind request reply
+  answers_kind a b request reply step = subst (OfKind request) step.1 (call_kind _ _ _ (record { user = user; request = request }) step.0 step.2.asked.outcome)
+
   -- a conversation with a host, whole
-  pub talks_whole : {X : Type 0} (talk : Talking X) (host after_it : HostState D) (old new : P) (result : Result X ClientFault) → IoByReply talk
+  pub talks_whole : {X : Type 0} (talk : Talking X) (host after_it : HostState D) (old new : P) (result : Result X ClientFault) → IoByReply talk → ComesTo (Comes Any) talk
       → Held (answers_as disks loader hosts user moment) talk (host, old) result (after_it, new) → TalksTo disks loader hosts user moment talk result host after_it old new
-  talks_whole talk host after_it old new result by held = record {
+  talks_whole talk host after_it old new result by comes held = record {
     held = held;
+    in_kind = never_odd result (held_comes (answers_as disks loader hosts user moment) answers_kind talk (host, old) (after_it, new) result comes held);
     counts = held_counts talk (host, old) (after_it, new) result by held;
     stays = held_stays talk (host, old) (after_it, new) result held;
   }

@@ -1,5 +1,5 @@
 -- A client talks with a host among the others of a script, at one moment. This project's own.
-use Rattle.std.specs.Prelude.{◌≡◌, ℕ, ℤ, List, Option, Some, None, Result, Ok, Err}
+use Rattle.std.specs.Prelude.{◌≡◌, ◌≢◌, ℕ, ℤ, List, Option, Some, None, Result, Ok, Err}
 use Rattle.up_client.specs.Getting.{get_talk}
 use Rattle.up_client.specs.Putting.{put_talk}
 use Rattle.up_client.specs.Talks.{Held, Talking}
@@ -34,10 +34,12 @@ abbrev pub io_in : {X : Type 0} → Result X ClientFault → ℕ
 io_in (Ok x) = 0
 io_in (Err fault) = io_in_fault fault
 
--- a conversation was held with a host, and its disks and the peers failed where Io came of it
+-- A conversation was held with a host, which never answered something of another kind than was asked for; and its disks and the peers
+-- failed where Io came of it.
 pub record TalksTo {D P X : Type 0} (disks : disk.Ghosts D) (loader : Ghosts P) (hosts : List (HostState D)) (user : UserName)
     (moment : ℕ) (talk : Talking X) (result : Result X ClientFault) (host after : HostState D) (old new : P) : Type 0 where
   pub held : Held (answers_as disks loader hosts user moment) talk (host, old) result (after, new)
+  pub in_kind : result ≢ Err client.Odd
   pub counts : CountsRose (disk_faults disks host) (disk_faults disks after) (loader.faults old) (loader.faults new) (io_in result)
   pub stays : StaysHost disks host after
 

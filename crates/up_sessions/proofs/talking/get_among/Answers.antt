@@ -2,6 +2,7 @@ use Rattle.std.proofs.Common.{refl, rules}
 use Rattle.up_client.specs.Getting.{get_talk}
 use Rattle.up_sessions.proofs.AmongLemmas.{talks_among}
 use Rattle.up_sessions.proofs.IoLemmas.{get_io}
+use Rattle.up_sessions.proofs.OddLemmas.{get_comes}
 use Rattle.up_sessions.specs.declared.talking.SessionAsk.{SessionAsk}
 use Rattle.up_sign.specs.SigningOn.{Signing}
 use Rattle.up_sessions.proofs.talking.get_among.Goals as goal
@@ -10,4 +11,4 @@ pub returns : goal.returns
 returns g c =
     talks_among g.D.Disk g.P.Loader (λ (s : SessionAsk g.row.D.Denot g.row.P.Denot). s.host.now) (λ (s : SessionAsk g.row.D.Denot g.row.P.Denot). s.peers.now) (λ (s : SessionAsk g.row.D.Denot g.row.P.Denot). s.before.now)
     (λ (s : SessionAsk g.row.D.Denot g.row.P.Denot). s.after.now) (λ (s : SessionAsk g.row.D.Denot g.row.P.Denot). s.session.now) (λ (n : Signing). n.user) (λ (s : SessionAsk g.row.D.Denot g.row.P.Denot). s.moment)
-    (get_talk c.args.path.now) _ c.get.result _ c.get.new.ask _ _ (get_io c.args.path.now) refl (search rules) (search rules) c.get.ensures.talk
+    (get_talk c.args.path.now) _ c.get.result _ c.get.new.ask _ _ (get_io c.args.path.now) (get_comes c.args.path.now) refl (search rules) (search rules) c.get.ensures.talk
