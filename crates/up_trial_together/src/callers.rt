@@ -11,6 +11,7 @@ use std::sync::Wait;
 use std::thread;
 use std::thread::Threads;
 use up_calls::Event;
+use up_disk::Disk;
 use up_host::Host;
 use up_shared::{Seats, Shared};
 use up_sign::Session;
@@ -21,8 +22,8 @@ const THREADS: usize = 8;
 
 /// A caller's seats, and what came of its requests.
 #[derive(Drop)]
-pub struct Caller<'d> {
-    seats: Seats<HostDisk<'d>>,
+pub struct Caller<D: Disk + Drop> {
+    seats: Seats<D>,
     pub events: Vec<Event>,
 }
 
@@ -32,7 +33,7 @@ pub fn ask_at_once<'d, R: Threads + Wait + Sync>(
     alloc: Global,
     host: Host<HostDisk<'d>>,
     plans: &[Plan<'_>],
-) -> Result<Vec<Caller<'d>>, AllocError> {
+) -> Result<Vec<Caller<HostDisk<'d>>>, AllocError> {
     let (shared, mut seats) = host.into_shared(alloc)?;
     let came = share(rt, alloc, &shared, &mut seats, plans);
     drop(seats);
@@ -40,13 +41,13 @@ pub fn ask_at_once<'d, R: Threads + Wait + Sync>(
     came
 }
 
-fn share<'d, R: Threads + Wait + Sync>(
+fn share<R: Threads + Wait + Sync, D: Disk + Drop + Send>(
     rt: &R,
     alloc: Global,
-    shared: &Shared<HostDisk<'d>>,
-    seats: &mut Seats<HostDisk<'d>>,
+    shared: &Shared<D>,
+    seats: &mut Seats<D>,
     plans: &[Plan<'_>],
-) -> Result<Vec<Caller<'d>>, AllocError>
+) -> Result<Vec<Caller<D>>, AllocError>
     requires { AreSeats shared.now seats.old }
 {
     let mut callers = callers_at(alloc, shared, seats, plans.len())?;
@@ -56,12 +57,12 @@ fn share<'d, R: Threads + Wait + Sync>(
 
 // So many callers, each with seats that were split off from these.
 #[tactic(auto, using(crate::proofs::CallerLemmas::none_each))]
-fn callers_at<'d>(
+fn callers_at<D: Disk + Drop>(
     alloc: Global,
-    shared: &Shared<HostDisk<'d>>,
-    seats: &mut Seats<HostDisk<'d>>,
+    shared: &Shared<D>,
+    seats: &mut Seats<D>,
     count: usize,
-) -> Result<Vec<Caller<'d>>, AllocError>
+) -> Result<Vec<Caller<D>>, AllocError>
     requires { AreSeats shared.now seats.old }
     ensures { IfOk result (λ callers.
         All (λ caller. AreSeats shared.now caller.seats) callers.items) }
@@ -74,11 +75,11 @@ fn callers_at<'d>(
 }
 
 // One more of them.
-fn add_caller<'d>(
+fn add_caller<D: Disk + Drop>(
     alloc: Global,
-    shared: &Shared<HostDisk<'d>>,
-    seats: &mut Seats<HostDisk<'d>>,
-    callers: &mut Vec<Caller<'d>>,
+    shared: &Shared<D>,
+    seats: &mut Seats<D>,
+    callers: &mut Vec<Caller<D>>,
 ) -> Result<(), AllocError>
     requires sits { AreSeats shared.now seats.old }
     requires each { All (λ caller. AreSeats shared.now caller.seats) callers.old.items }
@@ -96,12 +97,12 @@ fn add_caller<'d>(
 }
 
 // Runs all callers at once, each by the plan at its place.
-fn run_all<'d, R: Threads + Wait + Sync>(
+fn run_all<R: Threads + Wait + Sync, D: Disk + Drop + Send>(
     rt: &R,
     alloc: Global,
-    shared: &Shared<HostDisk<'d>>,
+    shared: &Shared<D>,
     plans: &[Plan<'_>],
-    callers: &mut [Caller<'d>],
+    callers: &mut [Caller<D>],
 )
     requires { All (λ caller. AreSeats shared.now caller.seats) callers.old }
 {
@@ -109,17 +110,17 @@ fn run_all<'d, R: Threads + Wait + Sync>(
         rt,
         callers,
         THREADS,
-        &|k, caller: &mut Caller<'_>| caller.run(rt, alloc, shared, plans, k),
+        &|k, caller: &mut Caller<D>| caller.run(rt, alloc, shared, plans, k),
     );
 }
 
-impl<'d> Caller<'d> {
+impl<D: Disk + Drop> Caller<D> {
     // Asks what the plan at a place has.
     fn run<R: Wait>(
         &mut self,
         rt: &R,
         alloc: Global,
-        shared: &Shared<HostDisk<'d>>,
+        shared: &Shared<D>,
         plans: &[Plan<'_>],
         k: usize,
     )
@@ -148,7 +149,7 @@ impl<'d> Caller<'d> {
         &mut self,
         rt: &R,
         alloc: Global,
-        shared: &Shared<HostDisk<'d>>,
+        shared: &Shared<D>,
         others: &mut Others<'_>,
         plan: &Plan<'_>,
     )
@@ -164,7 +165,7 @@ impl<'d> Caller<'d> {
         &mut self,
         rt: &R,
         alloc: Global,
-        shared: &Shared<HostDisk<'d>>,
+        shared: &Shared<D>,
         others: &mut Others<'_>,
         session: &Session,
         request: &Request,

@@ -1,5 +1,6 @@
 //! Four callers at once on two trees.
 use crate::callers::{Caller, ask_at_once};
+use crate::disks::HostDisk;
 use crate::hosts::{Line, host_with};
 use crate::judging::right_replies;
 use crate::plans::{Part, Plan, add_plan, plan_with};
@@ -79,7 +80,7 @@ fn right_against(
     random: RandomState,
     never: &AtomicU64,
     plans: &[Plan<'_>],
-    callers: &[Caller<'_>],
+    callers: &[Caller<HostDisk<'_>>],
 ) -> Result<u64, AllocError> {
     let mut alone = host_with(alloc, random, never, never, SHARED.as_slice())?;
     let right = right_replies(alloc, &mut alone, plans, callers);

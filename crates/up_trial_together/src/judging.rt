@@ -16,7 +16,7 @@ pub fn right_replies(
     alloc: Global,
     host: &mut Host<HostDisk<'_>>,
     plans: &[Plan<'_>],
-    callers: &[Caller<'_>],
+    callers: &[Caller<HostDisk<'_>>],
 ) -> u64 {
     let mut right: u64 = 0;
     for position in 0..=last_position(callers) {
@@ -27,7 +27,7 @@ pub fn right_replies(
     right
 }
 
-fn last_position(callers: &[Caller<'_>]) -> u64 {
+fn last_position(callers: &[Caller<HostDisk<'_>>]) -> u64 {
     let mut last = 0;
     for caller in callers.iter() {
         for event in caller.events.iter() {
@@ -42,7 +42,7 @@ fn right_at(
     alloc: Global,
     host: &mut Host<HostDisk<'_>>,
     plans: &[Plan<'_>],
-    callers: &[Caller<'_>],
+    callers: &[Caller<HostDisk<'_>>],
     position: u64,
     changes: bool,
 ) -> u64 {
@@ -57,7 +57,7 @@ fn right_of(
     alloc: Global,
     host: &mut Host<HostDisk<'_>>,
     plan: &Plan<'_>,
-    caller: &Caller<'_>,
+    caller: &Caller<HostDisk<'_>>,
     position: u64,
     changes: bool,
 ) -> u64 {

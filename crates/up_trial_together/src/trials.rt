@@ -152,7 +152,7 @@ fn came_of<'d, R: Threads + Wait + Sync>(
     host: Host<HostDisk<'d>>,
     flag: &AtomicU64,
     trial: Trial,
-) -> Result<Vec<Caller<'d>>, AllocError> {
+) -> Result<Vec<Caller<HostDisk<'d>>>, AllocError> {
     let plans = plans_of(alloc, flag, trial.asked.as_slice())?;
     arm(flag);
     let came = ask_at_once(rt, alloc, host, plans.as_slice());
@@ -161,14 +161,14 @@ fn came_of<'d, R: Threads + Wait + Sync>(
 }
 
 // Whether each caller has one reply, of its kind.
-fn are_wanted(came: &[Caller<'_>], trial: Trial) -> bool {
+fn are_wanted(came: &[Caller<HostDisk<'_>>], trial: Trial) -> bool {
     match came {
         [one, other] => is_wanted(one, trial.wanted[0]) && is_wanted(other, trial.wanted[1]),
         _ => false,
     }
 }
 
-fn is_wanted(caller: &Caller<'_>, wanted: Wanted) -> bool {
+fn is_wanted(caller: &Caller<HostDisk<'_>>, wanted: Wanted) -> bool {
     match (wanted, caller.events.first()) {
         (Wanted::Changed, Some(event)) => matches!(&event.reply, Reply::Ok(Done::Changed(_))),
         (Wanted::Entry, Some(event)) => matches!(&event.reply, Reply::Ok(Done::Entry(_))),

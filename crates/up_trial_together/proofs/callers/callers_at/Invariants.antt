@@ -4,7 +4,7 @@ use Rattle.up_trial_together.proofs.callers.callers_at.Given as goal
 
 -- the seats are those of the host, and so are each caller's
 abbrev pub invariant-loop-made : goal.invariant-loop-made
-invariant-loop-made l = record {
+invariant-loop-made g l = record {
   sits : AreSeats l.shared l.seats;
   each : All (λ caller. AreSeats l.shared caller.seats) l.callers.items;
 }
