@@ -31,7 +31,7 @@ pub words_bad : {read left given : List Text} (word : Text) (after : List Text)
 words_bad {read} {left} {given} word after going cut bad =
     let not_one : is_utf8 word ≡ false = no_text (is_utf8 word) (λ t. bad (IsUtf8-from_is_utf8 word t)) in
     let none : list_all is_utf8 given ≡ false =
-        sym going.texts ∙ (ap (list_all is_utf8) cut ∙ ap (λ b. b && list_all is_utf8 after) not_one) in
+    sym going.texts ∙ (ap (list_all is_utf8) cut ∙ ap (λ b. b && list_all is_utf8 after) not_one) in
     sym (ap (λ b. if b then given else []) none)
 
 pub words_end : {read left given : List Text} → WordsGoing read left given → left ≡ [] → read ≡ program_words given

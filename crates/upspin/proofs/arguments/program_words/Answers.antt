@@ -9,7 +9,7 @@ pub returns-in-Err : goal.returns-in-Err
 returns-in-Err c =
     ap (map string_bytes) c.new.ensures.items
     ∙ words_bad c.in-Some.word.now c.in-Some.rest.now c.loop-word.invariant c.in-Some.ensures.cases.0
-        (λ text. c.in-Err.ensures.cases.0 (subst IsUtf8 (sym c.as_slice.ensures) text))
+    (λ text. c.in-Err.ensures.cases.0 (subst IsUtf8 (sym c.as_slice.ensures) text))
 
 pub loop-word-preserved : goal.loop-word-preserved
 loop-word-preserved c =
