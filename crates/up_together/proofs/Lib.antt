@@ -1,4 +1,4 @@
-mod AnsweringLemmas
+pub mod AnsweringLemmas
 mod HoldingLemmas
 pub mod SittingLemmas
-mod ThroughLemmas
+pub mod ThroughLemmas
