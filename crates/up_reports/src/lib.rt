@@ -16,7 +16,7 @@ mod telling;
 
 pub use logs::{Logs, open_logs, put_logs};
 pub use opening::{open_trees, put_back, put_trees};
-pub use owners::{owner_in, owns_snapshots};
+pub use owners::owner_in;
 pub use refused::Refused;
 pub use telling::{Last, add_number, damaged_line, silent, tell, tell_refused};
 use up_journal::Limits;

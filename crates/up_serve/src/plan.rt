@@ -15,7 +15,7 @@ use up_command::are_different;
 use up_entry::is_address;
 use up_lists::Items;
 use up_names::{NameFault, User, parse_user};
-use up_reports::owns_snapshots;
+use up_policy::owns_snapshots;
 use up_sign::HostName;
 use up_text::read_num;
 
