@@ -7,6 +7,7 @@ use Rattle.up_command.specs.Statuses.{IsOneOf, input_limit}
 use Rattle.up_disk.specs.Spare.{Spared}
 use Rattle.up_disk.specs.declared.disk.Disk.{Ghosts}
 use Rattle.up_ends.proofs.Going.{WritesPart-none}
+use Rattle.up_host.proofs.CountLemmas.{host_faults, opens_later, refuses_counts}
 use Rattle.up_host.specs.Alone.{HostState, disk_faults}
 use Rattle.up_host.specs.Opens.{IsRefusedAs, OpensHost, OpensTrees, RefusesHost, WereOpened, disks_of, logs_of}
 use Rattle.up_calls.specs.Routes.{LogName}
@@ -25,7 +26,6 @@ use Rattle.up_names.specs.Texts.{Text, UserName}
 use Rattle.up_reports.proofs.TellLemmas.{refused_codes, refused_complete, refused_six}
 use Rattle.up_reports.specs.Telling.{AnswersOne, Stays, refused_by}
 use Rattle.up_reports.specs.declared.refused.Refused.{Refused}
-use Rattle.up_serve.proofs.CountLemmas.{host_faults, opens_later, refuses_counts}
 use Rattle.up_serve.proofs.TellLemmas.{stopped_codes, stopped_six}
 use Rattle.up_serve.specs.Enrolling.{EnrolsUsers, KeepsHost, enrolment, is_cut}
 use Rattle.up_serve.specs.Serving.{AreServed, HasCauses, IsInput, IsServed, Reads, Serves, disks_after, result_code}
