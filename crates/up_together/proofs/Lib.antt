@@ -1,4 +1,3 @@
 pub mod AnsweringLemmas
 mod HoldingLemmas
 pub mod SittingLemmas
-pub mod ThroughLemmas
