@@ -62,7 +62,7 @@ leads_odd io (Ok x) = false
 leads_odd io (Err given) = is_odd io given
 
 -- a text by whether it is a control file's, and whether the fetch of a block failed
-abbrev text_by : Bool → Bool → Result (List ℕ) Reply → Result (List ℕ) Reply
+abbrev pub text_by : Bool → Bool → Result (List ℕ) Reply → Result (List ℕ) Reply
 text_by is_control failed read = if not is_control then Ok [] else if failed then Err reply.Io else read
 
 module _ (io : Bool) where
@@ -83,7 +83,7 @@ module _ (io : Bool) where
       go true = refl
       go false = refl
 
-  -- a refusal, where there is one, is no Io
+  -- a refusal, where there is one, is no such reply
   abbrev IsQuiet : Option Reply → Type 0
   IsQuiet None = Unit {0}
   IsQuiet (Some given) = is_odd io given ≡ false
