@@ -1,5 +1,5 @@
 -- What is known of a plan whose owners are all different, none of them a snapshot user.
-use Rattle.std.proofs.Common.{subst, Option, Some, None, ◌≡◌, ◌∙◌, Bool, true, false, List, ap}
+use Rattle.std.proofs.Common.{subst, Option, Some, None, ◌≡◌, ◌∙◌, Bool, true, false, List, refl, ap}
 use Rattle.std.proofs.lemmas.Bool.{and_parts}
 use Rattle.std.specs.List.{AllByRecursion, IsDistinct}
 use Rattle.std.specs.Prelude.{IfSome, if◌then◌else◌}

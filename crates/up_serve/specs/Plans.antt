@@ -11,7 +11,7 @@ use Rattle.up_names.specs.Texts.{Text, UserName}
 use Rattle.up_names.specs.UserNames.{user_of}
 use Rattle.up_policy.specs.Trees.{owns_snapshots}
 use Rattle.up_serve.specs.declared.plan.ServePlan.{ServePlan}
-use Rattle.up_sign.specs.HostNames.{is_host_name}
+use Rattle.up_sign.specs.HostNames.{host_named, is_host_name}
 use Rattle.up_text.specs.Numbers.{num_of}
 
 -- ---- options and their values
