@@ -29,6 +29,6 @@ pub use laws::{lines_are_words, lines_tell_replies};
 pub use line_words::LineWords;
 pub use lines::{cut_word, is_silent, next_line, one_word, three_words, two_words};
 pub use numbers::{read_int, read_num};
-pub use replies::reply_lines;
+pub use replies::{push_reply, reply_lines};
 pub use requests::{ClientLine, read_request};
 pub use words::{push_word, read_word, word_text, write_word};
