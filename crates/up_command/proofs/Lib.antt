@@ -1,3 +1,3 @@
+pub mod SayLemmas
 pub mod WordLemmas
 pub mod UserLemmas
-pub mod SayLemmas
