@@ -70,7 +70,7 @@ pub(crate) fn add_line(lines: &mut Vec<Bytes>, line: Vec<u8>) -> Result<(), Allo
 }
 
 /// Adds the lines behind the first one of a reply.
-#[tactic(auto, unfolding(crate::specs::Replies::reply_words, crate::specs::Replies::further_words))]
+#[tactic(auto, unfolding(crate::specs::Replies::reply_words))]
 fn add_further(alloc: Global, lines: &mut Vec<Bytes>, reply: &Reply) -> Result<(), AllocError>
     ensures { OnOk result (lines.new.items ≡ lines.old.items
         ++ map (λ words. spaced words) (drop 1 (reply_words reply.now))) }
@@ -165,7 +165,7 @@ fn add_event(alloc: Global, lines: &mut Vec<Bytes>, event: &WatchEvent) -> Resul
 // ---- all lines in one text
 
 /// Adds the lines behind the first one of a reply, each behind this front.
-#[tactic(auto, unfolding(crate::specs::Replies::reply_words, crate::specs::Replies::further_words))]
+#[tactic(auto, unfolding(crate::specs::Replies::reply_words))]
 fn push_further(out: &mut Vec<u8>, front: &[u8], reply: &Reply) -> Result<(), AllocError>
     ensures { OnOk result (out.new.items ≡ out.old.items
         ++ flat_map (λ words. line_behind front.now (spaced words))
