@@ -8,7 +8,8 @@
 //! they ask, what they have the client do, and whether they are such a line at all, which does not depend on who asks.
 //! [`reply_lines`] gives exactly the lines that tell a reply: words parted by single spaces ([`lines_are_words`]), and different
 //! ones for different replies that have a spelling, but for key records that differ alone in whether an endpoint is the host's own
-//! store or the address `local` ([`lines_tell_replies`]). [`fault_lines`] gives those that tell a client's fault.
+//! store or the address `local` ([`lines_tell_replies`]). [`push_reply`] writes them to a text, each behind a front. [`fault_lines`] gives those
+//! that tell a client's fault.
 #![tactic(auto)]
 
 mod client_faults;
