@@ -1,18 +1,13 @@
 -- Lines behind the number of a session and a space are those about the session.
-use Rattle.std.proofs.Common.{◌≡◌, ◌∙◌, ℕ, List, [], ◌∷◌, ◌++◌, codes, decimal, refl, ap, append_assoc}
+use Rattle.std.proofs.Common.{◌≡◌, ◌∙◌, ℕ, List, [], ◌∷◌, ◌++◌, codes, decimal, refl, ap}
 use Rattle.std.specs.List.{flat_map}
-use Rattle.up_command.specs.Printed.{all_numbered, ended, numbered}
+use Rattle.up_command.specs.Printed.{all_numbered, numbered}
 use Rattle.up_names.specs.Texts.{Text}
 use Rattle.up_text.specs.Replies.{line_behind}
 
--- a line about a session
-line_numbered : (number : ℕ) (text : Text) → line_behind (decimal number ++ codes " ") text ≡ numbered number text
-line_numbered number text = append_assoc (decimal number) (codes " ") (ended text)
-
 each_numbered : (number : ℕ) (lines : List Text) → flat_map (line_behind (decimal number ++ codes " ")) lines ≡ all_numbered number lines
 each_numbered number [] = refl
-each_numbered number (text ∷ more) =
-    ap (λ t. t ++ flat_map (line_behind (decimal number ++ codes " ")) more) (line_numbered number text) ∙ ap (λ t. numbered number text ++ t) (each_numbered number more)
+each_numbered number (text ∷ more) = ap (λ t. numbered number text ++ t) (each_numbered number more)
 
 pub lines_numbered : (number : ℕ) (front old new : Text) (lines : List Text) → front ≡ decimal number ++ codes " " → new ≡ old ++ flat_map (line_behind front) lines → new ≡ old ++ all_numbered number lines
 lines_numbered number front old new lines front_is new_is =

@@ -121,4 +121,4 @@ first_text (words ∷ more) = spaced words
 
 -- a line of output behind a front, with its LF
 abbrev pub line_behind : Text → Text → Text
-line_behind front text = front ++ text ++ codes "\n"
+line_behind front text = front ++ (text ++ codes "\n")

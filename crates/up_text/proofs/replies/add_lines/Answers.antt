@@ -10,4 +10,4 @@ returns-in-OutOfMemory c = none_added c.args.reply.now c.args.lines.now.items c.
 pub returns : goal.returns
 returns c =
     then_ok c.add_further.result (all_added c.args.reply.now c.args.lines.now.items c.add_line.new.lines.items c.add_further.new.lines.items c.add_first.new.out.items c.in_default.not-OutOfMemory
-    (c.in_ok-add_first.ensures ∙ ap (λ t. t ++ first_text (reply_words c.args.reply.now)) c.new-line.ensures) c.in_ok-add_line.ensures) c.add_further.ensures
+    (c.in_ok-add_first.ensures ∙ ap (λ t. t ++ first_text (reply_words c.args.reply.now)) c.new-line.ensures.items) c.in_ok-add_line.ensures) c.add_further.ensures
