@@ -34,3 +34,4 @@ pub mod Grouped
 pub mod Quiet
 pub mod Nameds
 pub mod Standings
+pub mod Othered

@@ -5,4 +5,5 @@ pub mod Steps
 pub mod Kept
 pub mod ChangesBelow
 pub mod Groups
+pub mod Others
 pub mod MemTrees

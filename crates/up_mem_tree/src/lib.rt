@@ -22,6 +22,7 @@ mod laws;
 mod making;
 mod mem_tree;
 mod nearest;
+mod others;
 mod positions;
 mod reading;
 mod rooms;
