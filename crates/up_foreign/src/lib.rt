@@ -11,6 +11,7 @@
 #![tactic(auto)]
 
 mod items;
+mod left;
 mod needed;
 mod noted;
 

@@ -36,7 +36,7 @@ use Rattle.up_mem_tree.specs.declared.kept.Kept.{Kept}
 use Rattle.up_mem_tree.specs.declared.steps.ParentStep.{ParentStep}
 use Rattle.up_mem_tree.specs.declared.steps.Step.{Step}
 use Rattle.up_mem_tree.specs.Kept.{IsStepFor, paths_of, slots_of}
-use Rattle.up_mem_tree.specs.Others.{HasAccessOthers, HasAllOthers, HasGroupOthers, HasOthers, HasParentOthers, HasStepOthers, KeepsPaths}
+use Rattle.up_mem_tree.specs.Others.{HasAccessOthers, HasAllOthers, HasGroupOthers, HasOthers, HasParentOthers, HasStepOthers, HasTested, KeepsPaths, is_foreign}
 use Rattle.up_mem_tree.specs.Slots.{Known}
 use Rattle.up_mem_tree.specs.Steps.{IsAboveOf, IsStepOf, access_change, group_change, group_file, own_id}
 use Rattle.up_mem_tree.proofs.RecordChanges.{access_control, access_here, access_other, group_here, group_never, group_other}
@@ -65,56 +65,68 @@ kept_with false path old new is = subst (KeepsPaths old) (sym is) (kept_all old)
 
 -- ---- what these groups have
 
-module _ (owner : List ℕ) where
-  pub none_other : (paths : List PathName) → HasOthers owner paths []
-  none_other paths group there other = absurd (no_member group there)
+module _ (test : PathName → Bool) where
+  pub none_tested : (paths : List PathName) → HasTested test paths []
+  none_tested paths group there passes = absurd (no_member group there)
 
-  pub others_still : (old new groups : List PathName) → KeepsPaths old new → HasOthers owner old groups → HasOthers owner new groups
-  others_still old new groups kept has_them group there other = kept.each group (has_them group there other)
+  pub tested_still : (old new groups : List PathName) → KeepsPaths old new → HasTested test old groups → HasTested test new groups
+  tested_still old new groups kept has_them group there passes = kept.each group (has_them group there passes)
 
-  both_others : (paths xs ys : List PathName) → HasOthers owner paths xs → HasOthers owner paths ys → HasOthers owner paths (xs ++ ys)
-  both_others paths xs ys one two group there other = elim (Contains-append_cases xs ys group there) [ inl h ↦ one group h other | inr h ↦ two group h other ]
+  both_tested : (paths xs ys : List PathName) → HasTested test paths xs → HasTested test paths ys → HasTested test paths (xs ++ ys)
+  both_tested paths xs ys one two group there passes = elim (Contains-append_cases xs ys group there) [ inl h ↦ one group h passes | inr h ↦ two group h passes ]
 
   -- one group, by what was tested
-  pub one_other : (paths : List PathName) (group : PathName) → (bytes_eq group.owner owner ≡ false → has paths group ≡ true) → HasOthers owner paths (group ∷ [])
-  one_other paths group known q there other = elim (Contains-cons group q [] there) [
-    | inl same ↦ subst (λ p. has paths p ≡ true) same (known (subst (λ (p : PathName). bytes_eq p.owner owner ≡ false) (sym same) other))
+  pub one_tested : (paths : List PathName) (group : PathName) → (test group ≡ true → has paths group ≡ true) → HasTested test paths (group ∷ [])
+  one_tested paths group known q there passes = elim (Contains-cons group q [] there) [
+    | inl same ↦ subst (λ p. has paths p ≡ true) same (known (subst (λ p. test p ≡ true) (sym same) passes))
     | inr none ↦ absurd (no_member q none)
   ]
 
-  -- it is not new
-  pub not_new : (es : List (PathName × (Unit {0}))) (group : PathName) (b : Bool) → b ≡ (not (bytes_eq group.owner owner) && is_none (entries.find path_cmp group es)) → b ≡ false → HasOthers owner (keys_of es) (group ∷ [])
-  not_new es group b is old = one_other (keys_of es) group (λ other. by (bytes_eq group.owner owner) (entries.find path_cmp group es) other refl (sym is ∙ old))
-    where
-      by : (same : Bool) (found : Option (Unit {0})) → same ≡ false → entries.find path_cmp group es ≡ found → (not same && is_none found) ≡ false → has (keys_of es) group ≡ true
-      by true found other at h = absurd (false≢true (sym other))
-      by false None other at h = absurd (false≢true (sym h))
-      by false (Some x) other at h = has_key es group ∙ ap is_some at
+  -- it does not pass
+  pub one_fails : (paths : List PathName) (group : PathName) → test group ≡ false → HasTested test paths (group ∷ [])
+  one_fails paths group fails = one_tested paths group (λ passes. absurd (false≢true (sym fails ∙ passes)))
 
   -- it was added
-  pub now_there : (path : PathName) (old new : List PathName) → new ≡ with_path path old → HasOthers owner new (path ∷ [])
-  now_there path old new is = one_other new path (λ other. ap (λ ps. has ps path) is ∙ (has-with path old path ∙ ap (λ b. b || has old path) (path_eq_itself path)))
+  pub now_there : (path : PathName) (old new : List PathName) → new ≡ with_path path old → HasTested test new (path ∷ [])
+  now_there path old new is = one_tested new path (λ passes. ap (λ ps. has ps path) is ∙ (has-with path old path ∙ ap (λ b. b || has old path) (path_eq_itself path)))
 
   -- ---- one more of a list
 
   module _ {X : Type 0} (named : List X → List PathName) (apart : (xs ys : List X) → named (xs ++ ys) ≡ named xs ++ named ys) where
-    next_others : (xs : List X) (i : ℕ) (x : X) → i < length xs → x ≡ get_or xs i x → (old new : List PathName) → KeepsPaths old new → HasOthers owner old (named (take i xs)) → HasOthers owner new (named (x ∷ [])) →
-        HasOthers owner new (named (take (i + 1) xs))
-    next_others xs i x within is old new kept before one =
+    next_tested : (xs : List X) (i : ℕ) (x : X) → i < length xs → x ≡ get_or xs i x → (old new : List PathName) → KeepsPaths old new → HasTested test old (named (take i xs)) → HasTested test new (named (x ∷ [])) →
+        HasTested test new (named (take (i + 1) xs))
+    next_tested xs i x within is old new kept before one =
         let at : slice_get xs i ≡ Some x = slice_get-get_or xs i x within ∙ ap Some (sym is) in
         let taken : take (i + 1) xs ≡ take i xs ++ x ∷ [] = ap (λ m. take m xs) (let e : i + 1 ≡ suc i = omega arith in e) ∙ take_next i xs x at in
-        subst (HasOthers owner new) (sym (ap named taken ∙ apart (take i xs) (x ∷ [])))
-        (both_others new (named (take i xs)) (named (x ∷ [])) (others_still old new (named (take i xs)) kept before) one)
+        subst (HasTested test new) (sym (ap named taken ∙ apart (take i xs) (x ∷ [])))
+        (both_tested new (named (take i xs)) (named (x ∷ [])) (tested_still old new (named (take i xs)) kept before) one)
 
-  pub items_next : (items : List Item) (i : ℕ) (item : Item) → i < length items → item ≡ get_or items i item → (old new : List PathName) → KeepsPaths old new → HasOthers owner old (groups_in (take i items)) →
-      HasOthers owner new (groups_in (item ∷ [])) → HasOthers owner new (groups_in (take (i + 1) items))
-  items_next = next_others groups_in (filter_map-append group_in)
+  pub items_next : (items : List Item) (i : ℕ) (item : Item) → i < length items → item ≡ get_or items i item → (old new : List PathName) → KeepsPaths old new → HasTested test old (groups_in (take i items)) →
+      HasTested test new (groups_in (item ∷ [])) → HasTested test new (groups_in (take (i + 1) items))
+  items_next = next_tested groups_in (filter_map-append group_in)
 
-  pub rules_next : (rules : List Rule) (i : ℕ) (rule : Rule) → i < length rules → rule ≡ get_or rules i rule → (old new : List PathName) → KeepsPaths old new → HasOthers owner old (groups_named (take i rules)) →
-      HasOthers owner new (groups_in rule.items) → HasOthers owner new (groups_named (take (i + 1) rules))
+  pub rules_next : (rules : List Rule) (i : ℕ) (rule : Rule) → i < length rules → rule ≡ get_or rules i rule → (old new : List PathName) → KeepsPaths old new → HasTested test old (groups_named (take i rules)) →
+      HasTested test new (groups_in rule.items) → HasTested test new (groups_named (take (i + 1) rules))
   rules_next rules i rule within is old new kept before one =
-      next_others groups_named (flat_map-append (λ (rule : Rule). groups_in rule.items)) rules i rule within is old new kept before
-      (subst (HasOthers owner new) (sym (append-nil (groups_in rule.items))) one)
+      next_tested groups_named (flat_map-append (λ (rule : Rule). groups_in rule.items)) rules i rule within is old new kept before
+      (subst (HasTested test new) (sym (append-nil (groups_in rule.items))) one)
+
+  -- all of them
+  pub items_all : (items : List Item) (i : ℕ) (paths : List PathName) → length items ≤ i → HasTested test paths (groups_in (take i items)) → HasTested test paths (groups_in items)
+  items_all items i paths past told = subst (λ xs. HasTested test paths (groups_in xs)) (take_all i items past) told
+
+  pub rules_all : (rules : List Rule) (i : ℕ) (paths : List PathName) → length rules ≤ i → HasTested test paths (groups_named (take i rules)) → HasTested test paths (groups_named rules)
+  rules_all rules i paths past told = subst (λ xs. HasTested test paths (groups_named xs)) (take_all i rules past) told
+
+module _ (owner : List ℕ) where
+  -- it is not new
+  pub not_new : (es : List (PathName × (Unit {0}))) (group : PathName) (b : Bool) → b ≡ (not (bytes_eq group.owner owner) && is_none (entries.find path_cmp group es)) → b ≡ false → HasOthers owner (keys_of es) (group ∷ [])
+  not_new es group b is old = one_tested (is_foreign owner) (keys_of es) group (λ foreign. by (bytes_eq group.owner owner) (entries.find path_cmp group es) foreign refl (sym is ∙ old))
+    where
+      by : (same : Bool) (found : Option (Unit {0})) → not same ≡ true → entries.find path_cmp group es ≡ found → (not same && is_none found) ≡ false → has (keys_of es) group ≡ true
+      by true found foreign at h = absurd (false≢true foreign)
+      by false None foreign at h = absurd (false≢true (sym h))
+      by false (Some x) foreign at h = has_key es group ∙ ap is_some at
 
   -- ---- what a step has, once there are more paths
 
@@ -124,7 +136,7 @@ module _ (owner : List ℕ) where
     where
       by : (text : Option (List Rule)) → IfSome text (λ rules. HasOthers owner old (groups_named rules)) → IfSome text (λ rules. HasOthers owner new (groups_named rules))
       by None told = tt
-      by (Some rules) told = others_still old new (groups_named rules) kept told
+      by (Some rules) told = tested_still (is_foreign owner) old new (groups_named rules) kept told
 
   pub parent_still : (parent : Option ParentStep) (old new : List PathName) → KeepsPaths old new → HasParentOthers owner old parent → HasParentOthers owner new parent
   parent_still None old new kept told = tt

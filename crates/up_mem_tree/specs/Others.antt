@@ -1,5 +1,5 @@
 -- The groups of other owners that the texts of a log name, and named once. This project's own.
-use Rattle.std.specs.Prelude.{◌≡◌, ℕ, Bool, true, false, List, Option, Some, None, Contains, IfSome, ⊤}
+use Rattle.std.specs.Prelude.{◌≡◌, ℕ, Bool, true, not, List, Option, Some, None, Contains, IfSome, ⊤}
 use Rattle.std.specs.Str.{bytes_eq}
 use Rattle.up_names.specs.Texts.{UserName}
 use Rattle.up_names.specs.PathNames.{PathName}
@@ -15,10 +15,17 @@ use Rattle.up_mem_tree.specs.declared.history.Change.{Change}
 use Rattle.up_mem_tree.specs.declared.steps.ParentStep.{ParentStep}
 use Rattle.up_mem_tree.specs.declared.steps.Step.{Step}
 
+-- those of these groups that pass a test are among the paths
+abbrev pub HasTested : (PathName → Bool) → List PathName → List PathName → Type 0
+HasTested test paths groups = (group : PathName) → Contains groups group → test group ≡ true → has_path paths group ≡ true
+
+-- a group of another owner
+abbrev pub is_foreign : UserName → PathName → Bool
+is_foreign owner group = not (bytes_eq group.owner owner)
+
 -- those of these groups that are another owner's are among the paths
 abbrev pub HasOthers : UserName → List PathName → List PathName → Type 0
-HasOthers owner paths groups =
-    (group : PathName) → Contains groups group → bytes_eq group.owner owner ≡ false → has_path paths group ≡ true
+HasOthers owner paths groups = HasTested (is_foreign owner) paths groups
 
 -- Each group of another owner that some Access or Group text names, after whatever number of records, is among the paths.
 pub record HasAllOthers (owner : UserName) (records : List Rec) (paths : List PathName) : Type 0 where
