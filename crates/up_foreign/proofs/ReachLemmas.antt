@@ -1,13 +1,13 @@
 -- Which groups can be needed at all: those of other owners that the tree's texts name, and those that loaded texts name.
-use Rattle.std.proofs.Common.{◌≡◌, ◌⊎◌, ℕ, zero, suc, ◌+◌, ◌<◌, ◌≤◌, Bool, true, false, not, cond, ◌&&◌, List, [], ◌∷◌, ◌++◌, length, filter, map, take, drop, refl, sym, ap, subst, ◌∙◌, inl, inr, arith, Option, Some, None, is_some}
-use Rattle.std.specs.Prelude.{Contains, ℤ, pos, negsuc, nat_lt, if◌then◌else◌, slice_get, unwrap_or}
+use Rattle.std.proofs.Common.{◌≡◌, ◌⊎◌, ℕ, zero, suc, ◌+◌, ◌<◌, ◌≤◌, ◌==◌, Bool, true, false, not, cond, ◌&&◌, List, [], ◌∷◌, ◌++◌, length, filter, map, take, drop, refl, sym, ap, subst, ◌∙◌, inl, inr, arith, Option, Some, None, Result, Ok, Err, is_some}
+use Rattle.std.specs.Prelude.{Contains, OnOk, ℤ, pos, negsuc, nat_lt, if◌then◌else◌, slice_get, unwrap_or}
 use Rattle.std.specs.List.{AllByRecursion, flat_map}
 use Rattle.std.specs.Map.{keys_of}
 use Rattle.std.specs.FinMap.Entries.{find, find-where_key, where_key}
 use Rattle.std.specs.Option.{option_and_then, option_or}
 use Rattle.std.specs.Ordering.{eq_by_cmp}
 use Rattle.std.specs.Str.{bytes_eq}
-use Rattle.std.proofs.lemmas.Bool.{cases_lt, false≢true}
+use Rattle.std.proofs.lemmas.Bool.{cases_lt, eqb-true, false≢true}
 use Rattle.std.proofs.lemmas.Grind.{flat_map-append}
 use Rattle.std.proofs.lemmas.List.{take-append-drop, take_all}
 use Rattle.std.proofs.lemmas.Option.{slice_get_within}
@@ -60,6 +60,15 @@ in_filter p (x ∷ xs) q h = go (p x) refl h (in_filter p xs q)
       | inr there ↦ let r = rest there in (r.0, Contains-behind x q xs r.1)
     ]
     go false is h rest = let r = rest h in (r.0, Contains-behind x q xs r.1)
+
+-- a list of no length
+pub empty_when : {X : Type 0} (xs : List X) (n : ℕ) → n ≡ length xs → (n == 0) ≡ true → xs ≡ []
+empty_when [] n long zero = refl
+empty_when (x ∷ xs) n long zero = let none : n ≡ 0 = eqb-true n 0 zero in absurd (omega (arith, long, none))
+
+pub empty_of : {X : Type 0} (xs : List X) (n : ℕ) → n ≡ length xs → n ≡ 0 → xs ≡ []
+empty_of [] n long none = refl
+empty_of (x ∷ xs) n long none = absurd (omega (arith, long, none))
 
 empty : {X : Type 0} (xs : List X) → ((x : X) → Contains xs x → ⊥) → xs ≡ []
 empty [] none = refl
@@ -311,13 +320,11 @@ covers_any tree loaded left names covers = record { each = λ n path q there. by
     by q (inl there) = inl there
     by q (inr none) = absurd (no_member q none)
 
-pub may_cover_any : (tree : TreeLog) (loaded : Loading) (left : Option Left) (names : List PathName) → MayCover tree loaded left [] → MayCover tree loaded left names
-may_cover_any tree loaded None names covers = tt
-may_cover_any tree loaded (Some left) names covers = covers_any tree loaded (keys_of left.groups.entries) names covers
+pub may_cover_any : (tree : TreeLog) (loaded : Loading) (left : Left) (names : List PathName) → MayCover tree loaded left [] → MayCover tree loaded left names
+may_cover_any tree loaded left names covers = λ whole. covers_any tree loaded (keys_of left.groups.entries) names (covers whole)
 
-pub may_cover_more : (tree : TreeLog) (loaded : Loading) (left : Option Left) (names more now : List PathName) → now ≡ with_paths names more → MayCover tree loaded left names → MayCover tree loaded left now
-may_cover_more tree loaded None names more now is covers = tt
-may_cover_more tree loaded (Some left) names more now is covers = covers_more tree loaded (keys_of left.groups.entries) names more now is covers
+pub may_cover_more : (tree : TreeLog) (loaded : Loading) (left : Left) (names more now : List PathName) → now ≡ with_paths names more → MayCover tree loaded left names → MayCover tree loaded left now
+may_cover_more tree loaded left names more now is covers = λ whole. covers_more tree loaded (keys_of left.groups.entries) names more now is (covers whole)
 
 -- nothing is left
 pub covers_none : (tree : TreeLog) (loaded : Loading) (es : List (PathName × (Unit {0}))) (names : List PathName) → es ≡ [] → CoversNeeds tree loaded (keys_of es) names → CoversNeeds tree loaded [] names
@@ -409,3 +416,17 @@ read_end owner loaded i paths none told name = λ items text.
       | inl low ↦ told at.0 name low at.1 items text
       | inr high ↦ absurd (omega (arith, high, slice_get_within (keys_of loaded) at.0 name at.1, short i (keys_of loaded) none))
     ]
+
+-- one loaded text
+pub text_read : {E : Type 0} (owner : List ℕ) (loaded : Loading) (name : PathName) (result : Result (Unit {0}) E) (items text : List Item) (paths : List PathName) → Some text ≡ loaded_text loaded name → items ≡ text →
+    OnOk result (HasTested (is_unanswered owner loaded) paths (groups_in items)) → OnOk result (HasReadOnes owner loaded name paths)
+text_read owner loaded name (Ok done) items text paths is same added = λ all at. subst (λ xs. HasTested (is_unanswered owner loaded) paths (groups_in xs)) (same ∙ some_same text all (is ∙ at)) added
+text_read owner loaded name (Err fault) items text paths is same added = tt
+
+pub text_none : (owner : List ℕ) (loaded : Loading) (name : PathName) (paths : List PathName) → None ≡ loaded_text loaded name → HasReadOnes owner loaded name paths
+text_none owner loaded name paths none = λ items at. absurd (some_none items (sym at ∙ sym none))
+
+-- what was tested before
+pub tested_ok : {E : Type 0} (result : Result (Unit {0}) E) (test : PathName → Bool) (old new groups : List PathName) → KeepsPaths old new → HasTested test old groups → OnOk result (HasTested test new groups)
+tested_ok (Ok done) test old new groups kept told = tested_still test old new groups kept told
+tested_ok (Err fault) test old new groups kept told = tt

@@ -1,5 +1,5 @@
 -- Which groups can be needed at all. (That no others are is proved; nothing outside rests on these definitions.)
-use Rattle.std.specs.Prelude.{◌≡◌, ℕ, Bool, true, not, ◌&&◌, ◌⊎◌, List, [], Contains, Option, Some, IfSome, is_none}
+use Rattle.std.specs.Prelude.{◌≡◌, ℕ, Bool, true, not, ◌&&◌, ◌⊎◌, List, [], Contains, Some, is_none}
 use Rattle.std.specs.Map.{keys_of}
 use Rattle.std.specs.Str.{bytes_eq}
 use Rattle.up_names.specs.Texts.{UserName}
@@ -32,6 +32,6 @@ pub record CoversNeeds (tree : TreeLog) (loaded : Loading) (left names : List Pa
   pub each : (n : ℕ) (path group : PathName) → Contains (needed_in tree.owner loaded (tree_at tree.log n, path)) group
       → (has_path left group ≡ true) ⊎ Contains names group
 
--- where what is left was gathered, this is so
-abbrev pub MayCover : TreeLog → Loading → Option Left → List PathName → Type 0
-MayCover tree loaded left names = IfSome left (λ (some : Left). CoversNeeds tree loaded (keys_of some.groups.entries) names)
+-- where all that is left was gathered, this is so
+abbrev pub MayCover : TreeLog → Loading → Left → List PathName → Type 0
+MayCover tree loaded left names = left.whole ≡ true → CoversNeeds tree loaded (keys_of left.groups.entries) names

@@ -1,5 +1,5 @@
 //! What can still be needed: a search ends once all of it was found.
-ghost use Rattle.std.specs.Prelude.{◌≡◌, ◌∷◌, [], true, IfOk, OnOk, is_ok, if◌then◌else◌};
+ghost use Rattle.std.specs.Prelude.{◌≡◌, ◌∷◌, [], true, IfOk, OnOk, is_ok, if◌then◌else◌, length, nat_lt};
 ghost use Rattle.std.specs.Map.{keys_of};
 ghost use Rattle.up_foreign.specs.Reaching.{CoversNeeds, HasReadOnes, MayCover, is_unanswered};
 ghost use Rattle.up_log_tree.specs.Orders.{with_path};
@@ -15,11 +15,12 @@ use up_mem_tree::MemTree;
 use up_names::{Item, Path, User};
 use up_policy::{Loaded, Names};
 
-/// The groups that can be needed and are not among the names yet, and how many of the names were looked at.
+/// The groups that can be needed and are not among the names yet, how many of the names were looked at, and whether all were gathered.
 #[derive(Drop)]
 pub(crate) struct Left {
     pub(crate) groups: OrderedMap<Path, ()>,
     pub(crate) seen: u64,
+    pub(crate) whole: bool,
 }
 
 /// Whether a group has to be loaded once it is reached: it is another owner's, and has no answer yet.
@@ -42,6 +43,7 @@ fn add_path(groups: &mut OrderedMap<Path, ()>, path: Path) -> Result<(), AllocEr
 }
 
 /// Adds a group, where it would have to be loaded.
+#[tactic(auto, using(up_mem_tree::proofs::Othered::kept_all, up_mem_tree::proofs::Othered::kept_with, crate::proofs::ReachLemmas::one_fewer, up_mem_tree::proofs::Othered::now_there_ok))]
 fn add_group(
     owner: &User,
     loaded: &Loaded,
@@ -60,6 +62,7 @@ fn add_group(
 }
 
 /// Adds the group that an item is, where it is one.
+#[tactic(auto, using(up_mem_tree::proofs::Othered::kept_all, up_mem_tree::proofs::Othered::none_tested))]
 fn add_item(
     owner: &User,
     loaded: &Loaded,
@@ -115,6 +118,7 @@ fn add_others(
 }
 
 /// Adds those that a loaded text names.
+#[tactic(auto, using(up_mem_tree::proofs::Othered::kept_all))]
 fn add_text(
     owner: &User,
     loaded: &Loaded,
@@ -167,15 +171,37 @@ fn add_all(
     add_loaded(owner, loaded, groups)
 }
 
+/// Whether there are fewer groups than places.
+fn are_fewer(groups: &OrderedMap<Path, ()>, places: usize) -> bool
+    ensures { result ≡ nat_lt (length groups.now.entries) places }
+{
+    groups.len() < places as u64
+}
+
 impl Left {
-    /// All that can be needed in a tree.
-    fn new(alloc: Global, tree: &MemTree, loaded: &Loaded) -> Result<Left, AllocError>
-        ensures { IfOk result (λ left.
-            CoversNeeds tree.now loaded.now (keys_of left.groups.entries) []) }
+    /// All that can be needed in a tree. Where that is no less than there are places to look at, nothing is gathered.
+    pub(crate) fn new(
+        alloc: Global,
+        tree: &MemTree,
+        loaded: &Loaded,
+        places: usize,
+    ) -> Result<Left, AllocError>
+        ensures { IfOk result (λ left. MayCover tree.now loaded.now left []) }
     {
         let mut groups = OrderedMap::new(alloc);
+        if !are_fewer(tree.others(), places) {
+            return Ok(Left {
+                groups,
+                seen: 0,
+                whole: false,
+            });
+        }
         match add_all(tree.owner(), loaded, tree.others(), &mut groups) {
-            Ok(()) => Ok(Left { groups, seen: 0 }),
+            Ok(()) => Ok(Left {
+                groups,
+                seen: 0,
+                whole: true,
+            }),
             Err(fault) => {
                 drop(groups);
                 Err(fault)
@@ -185,9 +211,10 @@ impl Left {
 
     /// Takes a name out.
     fn take_out(&mut self, names: &Names, i: u64)
-        ensures { (tree : TreeLog) (loaded : Loading)
+        ensures covered { (tree : TreeLog) (loaded : Loading)
             → CoversNeeds tree loaded (keys_of self.old.groups.entries) names.now
             → CoversNeeds tree loaded (keys_of self.new.groups.entries) names.now }
+        ensures whole { self.new.whole ≡ self.old.whole }
     {
         if let Some(name) = names.get(i) {
             let _was = self.groups.remove(name);
@@ -196,42 +223,29 @@ impl Left {
 
     /// Takes out the names that were found since.
     fn pass(&mut self, names: &Names)
-        ensures { (tree : TreeLog) (loaded : Loading)
+        ensures covered { (tree : TreeLog) (loaded : Loading)
             → CoversNeeds tree loaded (keys_of self.old.groups.entries) names.now
             → CoversNeeds tree loaded (keys_of self.new.groups.entries) names.now }
+        ensures whole { self.new.whole ≡ self.old.whole }
     {
         for i in self.seen..names.len() {
             self.take_out(names, i);
         }
         self.seen = names.len();
     }
-}
 
-/// All that can be needed in a tree, but nothing where that is more than there are places to look at.
-pub(crate) fn left_for(
-    alloc: Global,
-    tree: &MemTree,
-    loaded: &Loaded,
-    places: usize,
-) -> Result<Option<Left>, AllocError>
-    ensures { IfOk result (λ left. MayCover tree.now loaded.now left []) }
-{
-    if tree.others().len() >= places as u64 {
-        return Ok(None);
+    /// Whether all that can be needed is among the names. Each name is looked at once, however often this is asked.
+    pub(crate) fn is_done(&mut self, names: &Names) -> bool
+        ensures kept { (tree : TreeLog) (loaded : Loading)
+            → MayCover tree loaded self.old names.now → MayCover tree loaded self.new names.now }
+        ensures found { result ≡ true → (tree : TreeLog) (loaded : Loading)
+            → MayCover tree loaded self.old names.now → CoversNeeds tree loaded [] names.now }
+    {
+        let whole = self.whole;
+        if whole {
+            self.pass(names);
+            return self.groups.len() == 0;
+        }
+        false
     }
-    Ok(Some(Left::new(alloc, tree, loaded)?))
-}
-
-/// Whether all that can be needed is among the names. It looks at each name once, whenever it is asked.
-pub(crate) fn is_all_found(left: &mut Option<Left>, names: &Names) -> bool
-    ensures kept { (tree : TreeLog) (loaded : Loading) → MayCover tree loaded left.old names.now
-        → MayCover tree loaded left.new names.now }
-    ensures found { result ≡ true → (tree : TreeLog) (loaded : Loading)
-        → MayCover tree loaded left.old names.now → CoversNeeds tree loaded [] names.now }
-{
-    let Some(left) = left else {
-        return false;
-    };
-    left.pass(names);
-    left.groups.len() == 0
 }

@@ -20,7 +20,7 @@ ghost use Rattle.up_foreign.specs.Trees.{log_over};
 ghost use Rattle.up_tree.specs.States.{log_of};
 
 use crate::items::{items_matching, items_under};
-use crate::left::{is_all_found, left_for};
+use crate::left::Left;
 use crate::noted::{Noted, Times};
 use std::alloc::{AllocError, Global};
 use up_disk::Disk;
@@ -133,10 +133,11 @@ fn note_asked(
 fn needs_nothing(tree: &MemTree, loaded: &Loaded) -> bool
     ensures { result ≡ true → NeedsNothing tree.now loaded.now }
 {
-    if loaded.len() != 0 {
-        return false;
+    let given = loaded.len();
+    if given == 0 {
+        return tree.others().len() == 0;
     }
-    tree.others().len() == 0
+    false
 }
 
 /// Adds what is needed at the places of a request: none where its path is not of the tree.
@@ -448,9 +449,9 @@ fn note_positions(
         (flat_map (places_at tree.now.log) positions.now))) }
 {
     let mut times = Times::new(alloc);
-    let mut left = left_for(alloc, tree, loaded, positions.len())?;
+    let mut left = Left::new(alloc, tree, loaded, positions.len())?;
     for position in positions {
-        if is_all_found(&mut left, names) {
+        if left.is_done(names) {
             return Ok(());
         }
         note_record(alloc, tree, user, *position, loaded, &mut times, names)?;

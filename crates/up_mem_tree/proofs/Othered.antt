@@ -1,6 +1,6 @@
 -- The groups of other owners that texts name, as they are kept.
-use Rattle.std.proofs.Common.{◌≡◌, ℕ, zero, suc, ◌+◌, ◌<◌, ◌≤◌, Bool, true, false, not, cond, ◌&&◌, ◌||◌, List, [], ◌∷◌, ◌++◌, length, take, get_or, refl, sym, ap, subst, ◌∙◌, inl, inr, arith, Option, Some, None, is_some, is_none, append-nil}
-use Rattle.std.specs.Prelude.{Contains, IfSome, MatchOption, slice_get, if◌then◌else◌}
+use Rattle.std.proofs.Common.{◌≡◌, ℕ, zero, suc, ◌+◌, ◌<◌, ◌≤◌, Bool, true, false, not, cond, ◌&&◌, ◌||◌, List, [], ◌∷◌, ◌++◌, length, take, get_or, refl, sym, ap, subst, ◌∙◌, inl, inr, arith, Option, Some, None, Result, Ok, Err, is_some, is_none, append-nil}
+use Rattle.std.specs.Prelude.{Contains, IfSome, MatchOption, OnOk, is_ok, slice_get, if◌then◌else◌}
 use Rattle.std.specs.FinMap.Entries as entries
 use Rattle.std.specs.List.{filter_map, flat_map}
 use Rattle.std.specs.Map.{keys_of}
@@ -15,7 +15,7 @@ use Rattle.up_names.specs.PathNames.{PathName, control_of, parent_of}
 use Rattle.up_names.specs.PathOrder.{path_cmp, path_eq}
 use Rattle.up_names.specs.declared.items.Item.{Item}
 use Rattle.up_names.specs.declared.paths.Control.{Control}
-use Rattle.up_names.specs.declared.paths.Control.TheVariants as control
+use Rattle.up_names.specs.declared.paths.Control.TheVariants.{Access, Group, Ordinary}
 use Rattle.up_access.specs.declared.Rule.{Rule}
 use Rattle.up_entry.specs.declared.records.Rec.{Rec}
 use Rattle.up_entry.specs.declared.records.Rec.TheVariants.{Put, Delete, Snap}
@@ -36,9 +36,9 @@ use Rattle.up_mem_tree.specs.declared.kept.Kept.{Kept}
 use Rattle.up_mem_tree.specs.declared.steps.ParentStep.{ParentStep}
 use Rattle.up_mem_tree.specs.declared.steps.Step.{Step}
 use Rattle.up_mem_tree.specs.Kept.{IsStepFor, paths_of, slots_of}
-use Rattle.up_mem_tree.specs.Others.{HasAccessOthers, HasAllOthers, HasGroupOthers, HasOthers, HasParentOthers, HasStepOthers, HasTested, KeepsPaths, is_foreign}
+use Rattle.up_mem_tree.specs.Others.{HasAccessOthers, HasAllOthers, HasGroupOthers, HasOthers, HasParentOthers, HasStepOthers, HasTested, HasTextsOthers, KeepsPaths, is_foreign}
 use Rattle.up_mem_tree.specs.Slots.{Known}
-use Rattle.up_mem_tree.specs.Steps.{IsAboveOf, IsStepOf, access_change, group_change, group_file, own_id}
+use Rattle.up_mem_tree.specs.Steps.{IsAboveOf, access_change, group_change, group_file, own_id}
 use Rattle.up_mem_tree.proofs.RecordChanges.{access_control, access_here, access_other, group_here, group_never, group_other}
 use Rattle.up_mem_tree.proofs.Texts.{access-is, group-is}
 use Rattle.up_mem_tree.proofs.Within.{step_at}
@@ -54,13 +54,13 @@ kept_all paths = record { each = λ path there. there }
 pub kept_then : (one two three : List PathName) → KeepsPaths one two → KeepsPaths two three → KeepsPaths one three
 kept_then one two three first last = record { each = λ path there. last.each path (first.each path there) }
 
+or_right : (a b : Bool) → b ≡ true → (a || b) ≡ true
+or_right true b h = refl
+or_right false b h = h
+
 -- with a path, where the call went well
 pub kept_with : (b : Bool) (path : PathName) (old new : List PathName) → new ≡ (if b then with_path path old else old) → KeepsPaths old new
-kept_with true path old new is = record { each = λ q there. subst (λ ps. has ps q ≡ true) (sym is) (has-with path old q ∙ by (path_eq q path) (has old q) there) }
-  where
-    by : (a b : Bool) → b ≡ true → (a || b) ≡ true
-    by true b h = refl
-    by false b h = h
+kept_with true path old new is = record { each = λ q there. subst (λ ps. has ps q ≡ true) (sym is) (has-with path old q ∙ or_right (path_eq q path) (has old q) there) }
 kept_with false path old new is = subst (KeepsPaths old) (sym is) (kept_all old)
 
 -- ---- what these groups have
@@ -89,6 +89,10 @@ module _ (test : PathName → Bool) where
   -- it was added
   pub now_there : (path : PathName) (old new : List PathName) → new ≡ with_path path old → HasTested test new (path ∷ [])
   now_there path old new is = one_tested new path (λ passes. ap (λ ps. has ps path) is ∙ (has-with path old path ∙ ap (λ b. b || has old path) (path_eq_itself path)))
+
+  pub now_there_ok : {E : Type 0} (result : Result (Unit {0}) E) (group path : PathName) (old new : List PathName) → path ≡ group → new ≡ (if is_ok result then with_path path old else old) → OnOk result (HasTested test new (group ∷ []))
+  now_there_ok (Ok done) group path old new same is = subst (λ p. HasTested test new (p ∷ [])) same (now_there path old new is)
+  now_there_ok (Err fault) group path old new same is = tt
 
   -- ---- one more of a list
 
@@ -141,6 +145,11 @@ module _ (owner : List ℕ) where
   pub parent_still : (parent : Option ParentStep) (old new : List PathName) → KeepsPaths old new → HasParentOthers owner old parent → HasParentOthers owner new parent
   parent_still None old new kept told = tt
   parent_still (Some step) old new kept told = access_still step.access old new kept told
+
+  pub texts_told : {E : Type 0} (result : Result (Unit {0}) E) (step : Step) (old new : List PathName) → KeepsPaths old new → HasParentOthers owner old step.parent → OnOk result (HasGroupOthers owner new step.group) →
+      OnOk result (HasTextsOthers owner new step)
+  texts_told (Ok done) step old new kept parent group = record { parent = parent_still step.parent old new kept parent; group = group }
+  texts_told (Err fault) step old new kept parent group = tt
 
 -- ---- an empty log
 
@@ -203,7 +212,7 @@ module _ (owner : List ℕ) (records : List Rec) (rec : Rec) (paths : List PathN
   -- a record that changes a path
   module _ (path : PathName) (after : Option Node) (names : path_of_change rec ≡ Some path)
       (stands : (tree : Tree) (q : PathName) → node_at (after_record tree rec) q ≡ cond (path_eq q path) after (node_at tree q)) where
-    others_changed : ((rules : List Rule) → control_of path ≡ control.Access → (dir : PathName) → parent_of path ≡ Some dir → option_map (rules_of owner) after ≡ Some rules → HasOthers owner paths (groups_named rules)) →
+    others_changed : ((rules : List Rule) → control_of path ≡ Access → (dir : PathName) → parent_of path ≡ Some dir → option_map (rules_of owner) after ≡ Some rules → HasOthers owner paths (groups_named rules)) →
         ((items : List Item) → option_map (items_of owner) (group_file path after) ≡ Some items → is_group path ≡ true → HasOthers owner paths (groups_in items)) → HasAllOthers owner more paths
     others_changed access_told group_told = by_last
         (λ dir rules. access_by dir rules (path_eq (access_path dir) path) refl)
@@ -237,16 +246,16 @@ module _ (owner : List ℕ) (records : List Rec) (rec : Rec) (paths : List PathN
       group_by_step items some one = go (control_of path) refl
         where
           go : (k : Control) → control_of path ≡ k → HasOthers owner paths (groups_in items)
-          go control.Group is =
+          go Group is =
               subst (λ text. IfSome text (λ items. HasOthers owner paths (groups_in items))) some
               (subst (HasGroupOthers owner paths)
-              (group ∙ ap (λ k. elim k as (λ _. Option (Change (List Item))) [ control.Group ↦ Some (record { position = length records + 1; text = option_map (items_of owner) (group_file path after) }) | control.Access ↦ None | control.Ordinary ↦ None ]) is)
-              told.1)
-          go control.Access is = absurd (false≢true (sym (ap (λ k. elim k as (λ _. Bool) [ control.Group ↦ true | control.Access ↦ false | control.Ordinary ↦ false ]) is) ∙ one))
-          go control.Ordinary is = absurd (false≢true (sym (ap (λ k. elim k as (λ _. Bool) [ control.Group ↦ true | control.Access ↦ false | control.Ordinary ↦ false ]) is) ∙ one))
+              (group ∙ ap (λ k. elim k as (λ _. Option (Change (List Item))) [ Group ↦ Some (record { position = length records + 1; text = option_map (items_of owner) (group_file path after) }) | Access ↦ None | Ordinary ↦ None ]) is)
+              told.group)
+          go Access is = absurd (false≢true (sym (ap (λ k. elim k as (λ _. Bool) [ Group ↦ true | Access ↦ false | Ordinary ↦ false ]) is) ∙ one))
+          go Ordinary is = absurd (false≢true (sym (ap (λ k. elim k as (λ _. Bool) [ Group ↦ true | Access ↦ false | Ordinary ↦ false ]) is) ∙ one))
 
 -- the text that a directory gets is told by its step
-access_by_step : (owner : List ℕ) (paths : List PathName) (path : PathName) (after : Option Node) (at : ℕ) (d : Option PathName) (dir : PathName) → d ≡ Some dir → control_of path ≡ control.Access → (parent : Option ParentStep) →
+access_by_step : (owner : List ℕ) (paths : List PathName) (path : PathName) (after : Option Node) (at : ℕ) (d : Option PathName) (dir : PathName) → d ≡ Some dir → control_of path ≡ Access → (parent : Option ParentStep) →
     MatchOption d (parent ≡ None) (λ dir. MatchOption parent ⊥ (λ (p : ParentStep). p.access ≡ access_change owner path after at)) → HasParentOthers owner paths parent → (rules : List Rule) → option_map (rules_of owner) after ≡ Some rules →
     HasOthers owner paths (groups_named rules)
 access_by_step owner paths path after at None dir up named parent is told rules some = absurd (some_none dir (sym up))
@@ -254,7 +263,7 @@ access_by_step owner paths path after at (Some d) dir up named None is told rule
 access_by_step owner paths path after at (Some d) dir up named (Some parent) is told rules some =
     subst (λ text. IfSome text (λ rules. HasOthers owner paths (groups_named rules))) some
     (subst (HasAccessOthers owner paths)
-    (is ∙ ap (λ k. elim k as (λ _. Option (Change (List Rule))) [ control.Access ↦ Some (record { position = at; text = option_map (rules_of owner) after }) | control.Group ↦ None | control.Ordinary ↦ None ]) named)
+    (is ∙ ap (λ k. elim k as (λ _. Option (Change (List Rule))) [ Access ↦ Some (record { position = at; text = option_map (rules_of owner) after }) | Group ↦ None | Ordinary ↦ None ]) named)
     told)
 
 -- a directory's texts, of all that its step says
@@ -271,7 +280,7 @@ changed_more kept rec step paths is old told =
     let of = at.step_in.0 in
     others_changed kept.owner kept.log.items rec paths old at.path at.after at.names at.stands
     (λ rules named dir up some. access_by_step kept.owner paths at.path at.after (length kept.log.items + 1) (parent_of at.path) dir up named step.parent
-    (texts_of_step kept.owner kept.log.items rec at.path at.after (paths_of kept) (slots_of kept) (own_id (slots_of kept) step.own) (parent_of at.path) step.parent of.above) told.0 rules some)
+    (texts_of_step kept.owner kept.log.items rec at.path at.after (paths_of kept) (slots_of kept) (own_id (slots_of kept) step.own) (parent_of at.path) step.parent of.above) told.parent rules some)
     (group_by_step kept.owner kept.log.items rec paths old at.path at.after at.names at.stands step told of.group)
 
 snap_same : (time : ℕ) (tree : Tree) → after_record tree (Snap time) ≡ tree

@@ -55,6 +55,11 @@ abbrev pub HasParentOthers : UserName → List PathName → Option ParentStep �
 HasParentOthers owner paths parent = IfSome parent (λ (step : ParentStep). HasAccessOthers owner paths step.access)
 
 -- those that the texts of a step name are
+pub record HasTextsOthers (owner : UserName) (paths : List PathName) (step : Step) : Type 0 where
+  pub parent : HasParentOthers owner paths step.parent
+  pub group : HasGroupOthers owner paths step.group
+
+-- the same of the step of a record; that of a Snap is none
 abbrev pub HasStepOthers : UserName → List PathName → Option Step → Type 0
 HasStepOthers owner paths None = ⊤
-HasStepOthers owner paths (Some step) = HasParentOthers owner paths step.parent × HasGroupOthers owner paths step.group
+HasStepOthers owner paths (Some step) = HasTextsOthers owner paths step

@@ -105,6 +105,7 @@ fn made_ready(
 }
 
 /// Makes a record ready, and adds the groups of other owners that its text names.
+#[tactic(auto, using(crate::proofs::Othered::kept_all))]
 fn made_known(
     kept: &mut Kept,
     changes_below: &mut Vec<Under>,

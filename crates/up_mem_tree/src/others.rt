@@ -7,7 +7,7 @@ ghost use Rattle.up_names.specs.PathOrder.{path_cmp};
 ghost use Rattle.up_policy.specs.Members.{groups_in};
 ghost use Rattle.up_policy.specs.Reached.{groups_named};
 ghost use Rattle.up_log_tree.specs.Orders.{with_path};
-ghost use Rattle.up_mem_tree.specs.Others.{HasAccessOthers, HasGroupOthers, HasOthers, HasParentOthers, HasStepOthers, KeepsPaths};
+ghost use Rattle.up_mem_tree.specs.Others.{HasAccessOthers, HasGroupOthers, HasOthers, HasParentOthers, HasStepOthers, HasTextsOthers, KeepsPaths};
 
 use crate::history::Change;
 use crate::steps::{ParentStep, Step};
@@ -38,6 +38,7 @@ fn add_path(others: &mut OrderedMap<Path, ()>, path: Path) -> Result<(), AllocEr
 }
 
 /// Adds a group, where it is another owner's and not there yet.
+#[tactic(auto, using(crate::proofs::Othered::kept_all, crate::proofs::Othered::kept_with, crate::proofs::Othered::not_new, crate::proofs::Othered::now_there_ok))]
 fn add_group(
     owner: &User,
     others: &mut OrderedMap<Path, ()>,
@@ -55,6 +56,7 @@ fn add_group(
 }
 
 /// Adds the group that an item is, where it is one.
+#[tactic(auto, using(crate::proofs::Othered::kept_all, crate::proofs::Othered::none_tested))]
 fn add_item(owner: &User, others: &mut OrderedMap<Path, ()>, item: &Item) -> Result<(), AllocError>
     ensures kept { KeepsPaths (keys_of others.old.entries) (keys_of others.new.entries) }
     ensures added { OnOk result
@@ -99,6 +101,7 @@ fn add_rules(
 }
 
 /// Adds those that the new text of an Access file names.
+#[tactic(auto, using(crate::proofs::Othered::kept_all))]
 fn add_access(
     owner: &User,
     others: &mut OrderedMap<Path, ()>,
@@ -118,6 +121,7 @@ fn add_access(
 }
 
 /// Adds those that the new text of a Group file names.
+#[tactic(auto, using(crate::proofs::Othered::kept_all))]
 fn add_group_text(
     owner: &User,
     others: &mut OrderedMap<Path, ()>,
@@ -137,6 +141,7 @@ fn add_group_text(
 }
 
 /// Adds those of the directory above, where it gets a text.
+#[tactic(auto, using(crate::proofs::Othered::kept_all))]
 fn add_parent(
     owner: &User,
     others: &mut OrderedMap<Path, ()>,
@@ -152,7 +157,18 @@ fn add_parent(
     }
 }
 
-/// Adds the groups of other owners that the texts of a step name.
+/// Adds those that the texts of a step name.
+#[tactic(auto, using(crate::proofs::Othered::kept_then))]
+fn add_texts(owner: &User, others: &mut OrderedMap<Path, ()>, step: &Step) -> Result<(), AllocError>
+    ensures kept { KeepsPaths (keys_of others.old.entries) (keys_of others.new.entries) }
+    ensures added { OnOk result (HasTextsOthers owner.now (keys_of others.new.entries) step.now) }
+{
+    add_parent(owner, others, &step.parent)?;
+    add_group_text(owner, others, &step.group)
+}
+
+/// Adds the groups of other owners that the texts of a record's step name.
+#[tactic(auto, using(crate::proofs::Othered::kept_all))]
 pub(crate) fn add_step(
     owner: &User,
     others: &mut OrderedMap<Path, ()>,
@@ -161,9 +177,8 @@ pub(crate) fn add_step(
     ensures kept { KeepsPaths (keys_of others.old.entries) (keys_of others.new.entries) }
     ensures added { OnOk result (HasStepOthers owner.now (keys_of others.new.entries) step.now) }
 {
-    let Some(step) = step else {
-        return Ok(());
-    };
-    add_parent(owner, others, &step.parent)?;
-    add_group_text(owner, others, &step.group)
+    match step {
+        Some(step) => add_texts(owner, others, step),
+        None => Ok(()),
+    }
 }

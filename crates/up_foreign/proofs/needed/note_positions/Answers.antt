@@ -18,10 +18,10 @@ loop-position-init c = (
 )
 
 -- all that can be needed was found
-pub returns-then-is_all_found : goal.returns-then-is_all_found
-returns-then-is_all_found c =
+pub returns-then-is_done : goal.returns-then-is_done
+returns-then-is_done c =
     rest_found c.args.tree.now c.args.loaded.now c.args.positions.now c.loop-position.position-index c.args.names.now c.loop-position.names
-    (c.is_all_found.ensures.found c.if-is_all_found.true c.args.tree.now c.args.loaded.now c.loop-position.invariant.2) c.loop-position.invariant.1
+    (c.is_done.ensures.found c.if-is_done.true c.args.tree.now c.args.loaded.now c.loop-position.invariant.2) c.loop-position.invariant.1
 
 pub note_record-requires-clause-change : goal.note_record-requires-clause-change
 note_record-requires-clause-change c = own_at c.args.tree.now c.args.positions.now c.loop-position.position-index 0 c.requires c.loop-position-test.true
@@ -32,9 +32,9 @@ loop-position-preserved c = (
   c.in_ok-note_record.ensures.noted,
   position_next (needed_in c.args.tree.now.owner c.args.loaded.now) c.args.tree.now.log c.args.positions.now c.loop-position.position-index (get_or c.args.positions.now c.loop-position.position-index 0)
       c.args.names.now c.loop-position.names c.note_record.new.names (slice_get-get_or c.args.positions.now c.loop-position.position-index 0 c.loop-position-test.true) c.loop-position.invariant.1 c.in_ok-note_record.ensures.added,
-  may_cover_more c.args.tree.now c.args.loaded.now c.is_all_found.new.left c.loop-position.names
+  may_cover_more c.args.tree.now c.args.loaded.now c.is_done.new.left c.loop-position.names
       (flat_map (needed_in c.args.tree.now.owner c.args.loaded.now) (places_at c.args.tree.now.log (get_or c.args.positions.now c.loop-position.position-index 0))) c.note_record.new.names c.in_ok-note_record.ensures.added
-      (c.is_all_found.ensures.kept c.args.tree.now c.args.loaded.now c.loop-position.invariant.2),
+      (c.is_done.ensures.kept c.args.tree.now c.args.loaded.now c.loop-position.invariant.2),
 )
 
 -- all of them

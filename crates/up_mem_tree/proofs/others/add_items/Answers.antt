@@ -14,3 +14,10 @@ loop-item-preserved c = (
   items_next (is_foreign c.args.owner.now) c.args.items.now c.loop-item.item-index c.item-item.result c.loop-item-test.true c.item-item.is (keys_of c.loop-item.others.entries) (keys_of c.add_item.new.others.entries) c.add_item.ensures.kept
       c.loop-item.invariant.1 c.in_ok-add_item.ensures.added,
 )
+
+pub returns-in_err-add_item-clause-kept : goal.returns-in_err-add_item-clause-kept
+returns-in_err-add_item-clause-kept c = kept_then (keys_of c.args.others.now.entries) (keys_of c.loop-item.others.entries) (keys_of c.add_item.new.others.entries) c.loop-item.invariant.0 c.add_item.ensures.kept
+
+-- all of them
+pub returns-clause-added : goal.returns-clause-added
+returns-clause-added c = items_all (is_foreign c.args.owner.now) c.args.items.now c.loop-item.item-index (keys_of c.loop-item.others.entries) (omega (arith, c.loop-item-test.false)) c.loop-item.invariant.1

@@ -14,3 +14,10 @@ loop-rule-preserved c = (
   rules_next (is_foreign c.args.owner.now) c.args.rules.now c.loop-rule.rule-index c.rule-item.result c.loop-rule-test.true c.rule-item.is (keys_of c.loop-rule.others.entries) (keys_of c.add_items.new.others.entries) c.add_items.ensures.kept
       c.loop-rule.invariant.1 c.in_ok-add_items.ensures.added,
 )
+
+pub returns-in_err-add_items-clause-kept : goal.returns-in_err-add_items-clause-kept
+returns-in_err-add_items-clause-kept c = kept_then (keys_of c.args.others.now.entries) (keys_of c.loop-rule.others.entries) (keys_of c.add_items.new.others.entries) c.loop-rule.invariant.0 c.add_items.ensures.kept
+
+-- all of them
+pub returns-clause-added : goal.returns-clause-added
+returns-clause-added c = rules_all (is_foreign c.args.owner.now) c.args.rules.now c.loop-rule.rule-index (keys_of c.loop-rule.others.entries) (omega (arith, c.loop-rule-test.false)) c.loop-rule.invariant.1
