@@ -35,3 +35,4 @@ pub mod Quiet
 pub mod Nameds
 pub mod Standings
 pub mod Othered
+pub mod Started

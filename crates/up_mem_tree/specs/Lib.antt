@@ -3,6 +3,7 @@ pub mod Slots
 pub mod Edits
 pub mod Steps
 pub mod Kept
+pub mod Starts
 pub mod ChangesBelow
 pub mod Groups
 pub mod Others

@@ -28,6 +28,7 @@ mod reading;
 mod rooms;
 mod slots;
 mod standing;
+mod starts;
 mod steps;
 mod walk;
 

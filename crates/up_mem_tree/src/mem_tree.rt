@@ -20,6 +20,7 @@ use crate::changes_below::{Under, changes_above, make_room, note, reserve_one};
 use crate::groups::{group_change_at, note_group};
 use crate::kept::Kept;
 use crate::others::add_step;
+use crate::starts::start_of;
 use crate::steps::Step;
 use std::alloc::{AllocError, Global};
 use std::marker::Model;
@@ -89,7 +90,7 @@ fn made_ready(
     ensures notes { OnOk result (CanNoteRecord changes_below.new.items (slots_of kept.new) rec) }
 {
     match kept.make_ready(&rec) {
-        Ok(step) => match make_room(changes_below, kept, &rec) {
+        Ok(step) => match make_room(changes_below, kept, &rec, start_of(&rec, &step)) {
             Ok(()) => Ok(Ready { rec, step }),
             Err(fault) => {
                 drop(rec);
@@ -347,7 +348,8 @@ impl MemTree {
         ensures log { IfSome self.old.ready (λ rec. self.new.log ≡ self.old.log ++ rec ∷ []) }
     {
         if let Some(made) = self.ready.take() {
-            note(&mut self.changes_below, &self.kept, &made.rec);
+            let start = start_of(&made.rec, &made.step);
+            note(&mut self.changes_below, &self.kept, &made.rec, start);
             note_group(&mut self.groups, &self.kept, &made.rec);
             self.kept.enter(made.rec, made.step);
         }

@@ -9,11 +9,18 @@ use Rattle.up_mem_tree.proofs.Noted.{noted_after}
 use Rattle.up_mem_tree.proofs.Othered.{others_more}
 use Rattle.up_mem_tree.proofs.Readied.{can_note, can_step, has_room, not_made, step_others}
 use Rattle.up_mem_tree.specs.Others.{HasAllOthers}
+use Rattle.up_mem_tree.proofs.Started.{started}
 use Rattle.up_mem_tree.proofs.mem_tree.MemTree.enter.Goals as goal
 
 pub note_group-requires-clause-room : goal.note_group-requires-clause-room
 note_group-requires-clause-room c =
     has_room c.self.inside.kept c.self.inside.changes_below.items c.self.inside.groups (keys_of c.self.inside.others.entries) c.self.inside.ready c.in-Some.made c.self.invariant (sym c.take.ensures.value ∙ c.in-Some.is)
+
+pub note-requires-clause-start : goal.note-requires-clause-start
+note-requires-clause-start c =
+    let some = sym c.take.ensures.value ∙ c.in-Some.is in
+    started c.self.inside.kept c.in-Some.made.rec c.in-Some.made.step c.start_of-start.result
+    (can_step c.self.inside.kept c.self.inside.changes_below.items c.self.inside.groups (keys_of c.self.inside.others.entries) c.self.inside.ready c.in-Some.made c.self.invariant some) c.start_of-start.ensures
 
 pub invariant_of-self : goal.invariant_of-self
 invariant_of-self c =
