@@ -37,7 +37,7 @@ use Rattle.up_log_tree.proofs.Trees.{has_key}
 use Rattle.up_list.specs.declared.asking.ReadRequest.{ReadRequest}
 use Rattle.up_list.specs.declared.asking.ReadRequest.TheVariants.{Lookup, WhichAccess, GroupText, Delete, Put, Glob, Watch}
 use Rattle.up_list.specs.Asking.{owner_asked}
-use Rattle.up_list.specs.Globs.{is_candidate}
+use Rattle.up_list.specs.Globs.{is_candidate, literal_path}
 use Rattle.up_answers.specs.Events.{Change, change_at}
 use Rattle.up_answers.specs.Needs.{Place, event_places, event_places_to, items_where, owner_places, places, places_for, watch_places, where_ordinary}
 use Rattle.up_mem_tree.specs.MemTrees.{TreeLog}
@@ -225,7 +225,7 @@ module _ (limits : Limits) (tree : TreeLog) where
   of_others (WhichAccess path) = (of_now tree.log path, tt)
   of_others (Delete path) = (of_now tree.log path, tt)
   of_others (Put put) = (of_now tree.log put.entry.name, tt)
-  of_others (Glob pattern) = (of_now tree.log _, of_items tree.log (filter (is_candidate pattern) (keys_of (tree_of tree.log))))
+  of_others (Glob pattern) = (of_now tree.log (literal_path pattern), of_items tree.log (filter (is_candidate pattern) (keys_of (tree_of tree.log))))
   of_others (Watch path sequence) = (of_now tree.log path, of_watch path sequence)
 
   of_ordinary : (path : PathName) → AllByRecursion (IsOfLog tree.log) (where_ordinary log path)

@@ -32,7 +32,7 @@ loop-position-preserved c = (
   c.in_ok-note_record.ensures.noted,
   position_next (needed_in c.args.tree.now.owner c.args.loaded.now) c.args.tree.now.log c.args.positions.now c.loop-position.position-index (get_or c.args.positions.now c.loop-position.position-index 0)
       c.args.names.now c.loop-position.names c.note_record.new.names (slice_get-get_or c.args.positions.now c.loop-position.position-index 0 c.loop-position-test.true) c.loop-position.invariant.1 c.in_ok-note_record.ensures.added,
-  may_cover_more c.args.tree.now c.args.loaded.now c.is_done.new.left c.loop-position.names
+  may_cover_more c.args.tree.now c.args.loaded.now c.is_done.new.self c.loop-position.names
       (flat_map (needed_in c.args.tree.now.owner c.args.loaded.now) (places_at c.args.tree.now.log (get_or c.args.positions.now c.loop-position.position-index 0))) c.note_record.new.names c.in_ok-note_record.ensures.added
       (c.is_done.ensures.kept c.args.tree.now c.args.loaded.now c.loop-position.invariant.2),
 )
