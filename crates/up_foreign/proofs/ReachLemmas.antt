@@ -391,12 +391,12 @@ read_none owner loaded paths = λ j name less at. absurd (omega (arith, less))
 
 pub read_next : (owner : List ℕ) (loaded : Loading) (i : ℕ) (name : PathName) → Some name ≡ slice_get (keys_of loaded) i → (old new : List PathName) → KeepsPaths old new → HaveReadOnes owner loaded old i → HasReadOnes owner loaded name new →
     HaveReadOnes owner loaded new (i + 1)
-read_next owner loaded i name is old new kept before one = λ j other less at. elim (cases_lt j i) [
-  | inl low ↦ λ items text. tested_still (is_unanswered owner loaded) old new (groups_in items) kept (before j other low at items text)
+read_next owner loaded i name is old new kept before one = λ j other less at items text. elim (cases_lt j i) [
+  | inl low ↦ tested_still (is_unanswered owner loaded) old new (groups_in items) kept (before j other low at items text)
   | inr high ↦
       let here : j ≡ i = omega (arith, less, high) in
       let same : name ≡ other = some_same name other (is ∙ (ap (slice_get (keys_of loaded)) (sym here) ∙ at)) in
-      subst (λ p. HasReadOnes owner loaded p new) same one
+      (subst (λ p. HasReadOnes owner loaded p new) same one) items text
 ]
 
 -- a text that was loaded has a name among them

@@ -178,13 +178,13 @@ module _ (owner : List ℕ) (records : List Rec) (rec : Rec) (paths : List PathN
   by_last : ((dir : PathName) (rules : List Rule) → (facts_of owner last).access dir ≡ Some rules → HasOthers owner paths (groups_named rules)) →
       ((path : PathName) (items : List Item) → (facts_of owner last).group path ≡ Some items → HasOthers owner paths (groups_in items)) → HasAllOthers owner more paths
   by_last access groups = record {
-    access = λ n dir rules. elim (cases_lt (length records) n) [
-      | inl late ↦ λ some. access dir rules (sym (ap (λ t. (facts_of owner t).access dir) (behind n late)) ∙ some)
-      | inr early ↦ λ some. old.access n dir rules (sym (ap (λ t. (facts_of owner t).access dir) (before n early)) ∙ some)
+    access = λ n dir rules some. elim (cases_lt (length records) n) [
+      | inl late ↦ access dir rules (sym (ap (λ t. (facts_of owner t).access dir) (behind n late)) ∙ some)
+      | inr early ↦ old.access n dir rules (sym (ap (λ t. (facts_of owner t).access dir) (before n early)) ∙ some)
     ];
-    groups = λ n path items. elim (cases_lt (length records) n) [
-      | inl late ↦ λ some. groups path items (sym (ap (λ t. (facts_of owner t).group path) (behind n late)) ∙ some)
-      | inr early ↦ λ some. old.groups n path items (sym (ap (λ t. (facts_of owner t).group path) (before n early)) ∙ some)
+    groups = λ n path items some. elim (cases_lt (length records) n) [
+      | inl late ↦ groups path items (sym (ap (λ t. (facts_of owner t).group path) (behind n late)) ∙ some)
+      | inr early ↦ old.groups n path items (sym (ap (λ t. (facts_of owner t).group path) (before n early)) ∙ some)
     ];
   }
     where
