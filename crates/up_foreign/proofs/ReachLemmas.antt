@@ -63,8 +63,8 @@ in_filter p (x ∷ xs) q h = go (p x) refl h (in_filter p xs q)
 
 -- a list of no length
 pub empty_when : {X : Type 0} (xs : List X) (n : ℕ) → n ≡ length xs → (n == 0) ≡ true → xs ≡ []
-empty_when [] n long zero = refl
-empty_when (x ∷ xs) n long zero = let none : n ≡ 0 = eqb-true n 0 zero in absurd (omega (arith, long, none))
+empty_when [] n long is = refl
+empty_when (x ∷ xs) n long is = let none : n ≡ 0 = eqb-true n 0 is in absurd (omega (arith, long, none))
 
 pub empty_of : {X : Type 0} (xs : List X) (n : ℕ) → n ≡ length xs → n ≡ 0 → xs ≡ []
 empty_of [] n long none = refl
@@ -192,7 +192,7 @@ module _ (records : List Rec) where
 
   of_place : (n : ℕ) (o : Option PathName) → AllByRecursion (IsOfLog records) (elim o as (λ _. List Place) [ None ↦ [] | Some path ↦ (tree_of records, path) ∷ (tree_at records n, path) ∷ [] ])
   of_place n None = tt
-  of_place n (Some path) = (of_now path, of_then n path, tt)
+  of_place n (Some path) = (of_now path, (of_then n path, tt))
 
 module _ (limits : Limits) (tree : TreeLog) where
   abbrev log : Log
@@ -206,7 +206,7 @@ module _ (limits : Limits) (tree : TreeLog) where
   of_event sequence path n (Some change) = go (nat_lt sequence (suc n) && is_under change.entry.name path)
     where
       go : (b : Bool) → AllByRecursion (IsOfLog tree.log) (if b then (tree_of tree.log, change.entry.name) ∷ (tree_at tree.log (suc n), change.entry.name) ∷ [] else [])
-      go true = (of_now tree.log change.entry.name, of_then tree.log (suc n) change.entry.name, tt)
+      go true = (of_now tree.log change.entry.name, (of_then tree.log (suc n) change.entry.name, tt))
       go false = tt
 
   of_events : (sequence : ℕ) (path : PathName) (n : ℕ) → AllByRecursion (IsOfLog tree.log) (event_places_to log sequence path n)

@@ -72,7 +72,7 @@ module _ (test : PathName → Bool) where
   pub tested_still : (old new groups : List PathName) → KeepsPaths old new → HasTested test old groups → HasTested test new groups
   tested_still old new groups kept has_them group there passes = kept.each group (has_them group there passes)
 
-  both_tested : (paths xs ys : List PathName) → HasTested test paths xs → HasTested test paths ys → HasTested test paths (xs ++ ys)
+  pub both_tested : (paths xs ys : List PathName) → HasTested test paths xs → HasTested test paths ys → HasTested test paths (xs ++ ys)
   both_tested paths xs ys one two group there passes = elim (Contains-append_cases xs ys group there) [ inl h ↦ one group h passes | inr h ↦ two group h passes ]
 
   -- one group, by what was tested
