@@ -45,12 +45,12 @@ HasReadyOthers owner others (Some made) = HasStepOthers owner others made.step
 
 -- all that is kept stands for the log, and what was made ready can be entered and noted
 pub record IsMemTree {A : Type 0} (kept : Kept) (changes_below : List Under) (groups : Vec ℕ A)
-    (others : List PathName) (ready : Option Ready) : Type 0 where
+    (paths : List PathName) (ready : Option Ready) : Type 0 where
   pub stands : Stands kept
   pub noted : AreNoted kept.log.items (slots_of kept) (noted_all changes_below)
   pub grouped : AreGroupChanges kept.log.items groups.items
   pub can : CanEnter kept ready
   pub note : CanBeNoted kept changes_below ready
   pub room : HasRoomFor groups ready
-  pub others : HasAllOthers kept.owner kept.log.items others
-  pub others_ready : HasReadyOthers kept.owner others ready
+  pub others : HasAllOthers kept.owner kept.log.items paths
+  pub others_ready : HasReadyOthers kept.owner paths ready
