@@ -151,6 +151,14 @@ module _ (owner : List ℕ) where
   texts_told (Ok done) step old new kept parent group = record { parent = parent_still step.parent old new kept parent; group = group }
   texts_told (Err fault) step old new kept parent group = tt
 
+  -- of the new text of an Access file
+  pub access_told : {E : Type 0} (result : Result (Unit {0}) E) (paths : List PathName) (access : Option (Change (List Rule))) (change : Change (List Rule)) (text rules : List Rule) → access ≡ Some change → change.text ≡ Some text → rules ≡ text →
+      OnOk result (HasOthers owner paths (groups_named rules)) → OnOk result (HasAccessOthers owner paths access)
+  access_told (Ok done) paths access change text rules some told same added =
+      subst (HasAccessOthers owner paths) (sym some)
+      (subst (λ t. IfSome t (λ rules. HasOthers owner paths (groups_named rules))) (sym told) (subst (λ rs. HasOthers owner paths (groups_named rs)) same added))
+  access_told (Err fault) paths access change text rules some told same added = tt
+
 -- ---- an empty log
 
 empty_node : (n : ℕ) (q : PathName) → node_at (tree_at [] n) q ≡ None
