@@ -5,3 +5,5 @@ pub mod Walks
 pub mod Watched
 pub mod Times
 pub mod Trees
+pub mod Kept
+pub mod Laws

@@ -7,6 +7,7 @@ ghost use Rattle.std.specs.Option.{option_and_then, option_copied};
 ghost use Rattle.up_list.specs.Globs.{is_candidate, literal_path};
 ghost use Rattle.up_names.specs.PathNames.{extended, is_under};
 ghost use Rattle.up_foreign.specs.Items.{AreOwned};
+ghost use Rattle.up_foreign.specs.Kept.{Keeps};
 ghost use Rattle.up_foreign.specs.Watched.{watched_by};
 ghost use Rattle.up_log_tree.specs.Changes.{path_of_change};
 ghost use Rattle.up_log_tree.specs.Logs.{Limits};
@@ -19,6 +20,7 @@ ghost use Rattle.up_foreign.specs.Trees.{log_over};
 ghost use Rattle.up_tree.specs.States.{log_of};
 
 use crate::items::{items_matching, items_under};
+use crate::kept::KeptSearch;
 use crate::noted::{Noted, Times};
 use std::alloc::{AllocError, Global};
 use up_disk::Disk;
@@ -47,18 +49,22 @@ pub fn foreign<D: Disk>(
     foreign_in(alloc, state.memory(), user, request, loaded)
 }
 
-/// The same for a request whose texts were read.
+/// The same for a request whose texts were read. It goes on from what was kept of the call before with less loaded, where the tree still
+/// has as many records, and keeps as much for the next. After an `Err` nothing is known of what is kept.
 pub fn foreign_asked<D: Disk>(
     alloc: Global,
     state: &TreeState<D>,
     user: &User,
     asked: &ReadRequest,
     loaded: &Loaded,
+    kept: &mut KeptSearch,
 ) -> Result<Names, AllocError>
-    ensures { IfOk result (λ names. names
+    requires { Keeps state.now.owner state.now.log loaded.now kept.old }
+    ensures needed { IfOk result (λ names. names
         ≡ needs_asked (log_of state.now) loaded.now user.now asked.now) }
+    ensures kept { OnOk result (Keeps state.now.owner state.now.log loaded.now kept.new) }
 {
-    names_for(alloc, state.memory(), user, asked, loaded)
+    names_for(alloc, state.memory(), user, asked, loaded, kept)
 }
 
 /// The groups that have to be loaded for a user's request over a tree in memory: those of other owners that are reached from the texts
@@ -76,7 +82,7 @@ pub fn foreign_in(
 {
     match asked_of(alloc, user, request) {
         Ok(asked) => {
-            let names = names_for(alloc, tree, user, &asked, loaded);
+            let names = names_once(alloc, tree, user, &asked, loaded);
             drop(asked);
             names
         }
@@ -86,8 +92,7 @@ pub fn foreign_in(
 }
 
 /// The same over a tree in memory, for a request whose texts were read.
-#[tactic(auto, unfolding(up_answers::specs::Needs::needs_asked))]
-fn names_for(
+fn names_once(
     alloc: Global,
     tree: &MemTree,
     user: &User,
@@ -97,8 +102,29 @@ fn names_for(
     ensures { (limits : Limits) → IfOk result (λ names. names
         ≡ needs_asked (log_over limits tree.now) loaded.now user.now asked.now) }
 {
+    let mut kept = KeptSearch::new(alloc, loaded.random());
+    let names = names_for(alloc, tree, user, asked, loaded, &mut kept);
+    drop(kept);
+    names
+}
+
+/// The same, which goes on from what was kept.
+#[tactic(auto, unfolding(up_answers::specs::Needs::needs_asked))]
+fn names_for(
+    alloc: Global,
+    tree: &MemTree,
+    user: &User,
+    asked: &ReadRequest,
+    loaded: &Loaded,
+    kept: &mut KeptSearch,
+) -> Result<Names, AllocError>
+    requires { Keeps tree.now.owner tree.now.log loaded.now kept.old }
+    ensures needed { (limits : Limits) → IfOk result (λ names. names
+        ≡ needs_asked (log_over limits tree.now) loaded.now user.now asked.now) }
+    ensures kept { OnOk result (Keeps tree.now.owner tree.now.log loaded.now kept.new) }
+{
     let mut names = Names::new(alloc, loaded.random());
-    match note_asked(alloc, tree, user, asked, loaded, &mut names) {
+    match note_asked(alloc, tree, user, asked, loaded, kept, &mut names) {
         Ok(()) => Ok(names),
         Err(fault) => {
             drop(names);
@@ -114,40 +140,43 @@ fn note_asked(
     user: &User,
     asked: &ReadRequest,
     loaded: &Loaded,
+    kept: &mut KeptSearch,
     names: &mut Names,
 ) -> Result<(), AllocError>
-    ensures { (limits : Limits) → OnOk result (names.new
+    requires { Keeps tree.now.owner tree.now.log loaded.now kept.old }
+    ensures added { (limits : Limits) → OnOk result (names.new
         ≡ with_paths names.old (flat_map (needed_in tree.now.owner loaded.now)
         (places_for (log_over limits tree.now) user.now asked.now))) }
+    ensures kept { OnOk result (Keeps tree.now.owner tree.now.log loaded.now kept.new) }
 {
     if asked.owner() != tree.owner() {
         return Ok(());
     }
     if user == tree.owner() {
-        note_for_owner(alloc, tree, user, asked, loaded, names)
+        note_for_owner(tree, asked, loaded, kept, names)
     } else {
-        note_for_others(alloc, tree, user, asked, loaded, names)
+        note_for_others(alloc, tree, user, asked, loaded, kept, names)
     }
 }
 
 /// Adds what the tree's owner needs: at the ordinary path of a Put or a Delete.
 #[tactic(auto, unfolding(up_answers::specs::Needs::owner_places))]
 fn note_for_owner(
-    alloc: Global,
     tree: &MemTree,
-    user: &User,
     asked: &ReadRequest,
     loaded: &Loaded,
+    kept: &mut KeptSearch,
     names: &mut Names,
 ) -> Result<(), AllocError>
-    requires { owner_asked asked.now ≡ tree.now.owner }
-    ensures { (limits : Limits) → OnOk result (names.new
+    requires { Keeps tree.now.owner tree.now.log loaded.now kept.old }
+    ensures added { (limits : Limits) → OnOk result (names.new
         ≡ with_paths names.old (flat_map (needed_in tree.now.owner loaded.now)
         (owner_places (log_over limits tree.now) asked.now))) }
+    ensures kept { OnOk result (Keeps tree.now.owner tree.now.log loaded.now kept.new) }
 {
     match asked {
-        ReadRequest::Delete(path) => note_ordinary(alloc, tree, user, path, loaded, names),
-        ReadRequest::Put(put) => note_ordinary(alloc, tree, user, &put.entry.name, loaded, names),
+        ReadRequest::Delete(path) => note_ordinary(tree, path, loaded, kept, names),
+        ReadRequest::Put(put) => note_ordinary(tree, &put.entry.name, loaded, kept, names),
         ReadRequest::Lookup(_)
         | ReadRequest::WhichAccess(_)
         | ReadRequest::GroupText(_)
@@ -164,43 +193,28 @@ fn note_for_others(
     user: &User,
     asked: &ReadRequest,
     loaded: &Loaded,
+    kept: &mut KeptSearch,
     names: &mut Names,
 ) -> Result<(), AllocError>
-    requires { owner_asked asked.now ≡ tree.now.owner }
-    ensures { (limits : Limits) → OnOk result (names.new
+    requires owned { owner_asked asked.now ≡ tree.now.owner }
+    requires kept { Keeps tree.now.owner tree.now.log loaded.now kept.old }
+    ensures added { (limits : Limits) → OnOk result (names.new
         ≡ with_paths names.old (flat_map (needed_in tree.now.owner loaded.now)
         (places (log_over limits tree.now) asked.now))) }
+    ensures kept { OnOk result (Keeps tree.now.owner tree.now.log loaded.now kept.new) }
 {
     match asked {
         ReadRequest::GroupText(_) => Ok(()),
         ReadRequest::Lookup(path) | ReadRequest::WhichAccess(path) | ReadRequest::Delete(path) => {
-            note_now(alloc, tree, user, path, loaded, names)
+            kept.note(tree, path, loaded, names)
         }
-        ReadRequest::Put(put) => note_now(alloc, tree, user, &put.entry.name, loaded, names),
-        ReadRequest::Glob(pattern) => note_glob(alloc, tree, user, pattern, loaded, names),
+        ReadRequest::Put(put) => kept.note(tree, &put.entry.name, loaded, names),
+        ReadRequest::Glob(pattern) => note_glob(alloc, tree, user, pattern, loaded, kept, names),
         ReadRequest::Watch(path, sequence) => {
-            note_now(alloc, tree, user, path, loaded, names)?;
+            kept.note(tree, path, loaded, names)?;
             note_watched(alloc, tree, user, path, *sequence, loaded, names)
         }
     }
-}
-
-/// Adds what is needed at a path, as the tree is now.
-#[tactic(auto, unfolding(up_log_tree::specs::Rights::facts_of))]
-fn note_now(
-    alloc: Global,
-    tree: &MemTree,
-    user: &User,
-    path: &Path,
-    loaded: &Loaded,
-    names: &mut Names,
-) -> Result<(), AllocError>
-    requires { path.now.owner ≡ tree.now.owner }
-    ensures { OnOk result (names.new
-        ≡ with_paths names.old (needed_in tree.now.owner loaded.now
-        (tree_of tree.now.log, path.now))) }
-{
-    needs(alloc, &MemView::new(tree), loaded, user, path, names)
 }
 
 /// Adds what was needed at a path, as the tree was after its first `n` records.
@@ -225,20 +239,20 @@ pub(crate) fn note_then(
 
 /// Adds what is needed at a path that is ordinary; at any other nothing is.
 fn note_ordinary(
-    alloc: Global,
     tree: &MemTree,
-    user: &User,
     path: &Path,
     loaded: &Loaded,
+    kept: &mut KeptSearch,
     names: &mut Names,
 ) -> Result<(), AllocError>
-    requires { path.now.owner ≡ tree.now.owner }
-    ensures { (limits : Limits) → OnOk result (names.new
+    requires { Keeps tree.now.owner tree.now.log loaded.now kept.old }
+    ensures added { (limits : Limits) → OnOk result (names.new
         ≡ with_paths names.old (flat_map (needed_in tree.now.owner loaded.now)
         (where_ordinary (log_over limits tree.now) path.now))) }
+    ensures kept { OnOk result (Keeps tree.now.owner tree.now.log loaded.now kept.new) }
 {
     match path.control_kind() {
-        Control::Ordinary => note_now(alloc, tree, user, path, loaded, names),
+        Control::Ordinary => kept.note(tree, path, loaded, names),
         Control::Access | Control::Group => Ok(()),
     }
 }
@@ -277,16 +291,19 @@ fn note_glob(
     user: &User,
     pattern: &Pattern,
     loaded: &Loaded,
+    kept: &mut KeptSearch,
     names: &mut Names,
 ) -> Result<(), AllocError>
-    requires { pattern.now.owner ≡ tree.now.owner }
-    ensures { OnOk result (names.new
+    requires owned { pattern.now.owner ≡ tree.now.owner }
+    requires kept { Keeps tree.now.owner tree.now.log loaded.now kept.old }
+    ensures added { OnOk result (names.new
         ≡ with_paths names.old (flat_map (needed_in tree.now.owner loaded.now)
         ((tree_of tree.now.log, literal_path pattern.now)
         ∷ items_where (is_candidate pattern.now) (tree_of tree.now.log)))) }
+    ensures kept { OnOk result (Keeps tree.now.owner tree.now.log loaded.now kept.new) }
 {
     let front = literal_path(alloc, pattern)?;
-    note_now(alloc, tree, user, &front, loaded, names)?;
+    kept.note(tree, &front, loaded, names)?;
     let items = items_matching(alloc, tree, pattern, &front)?;
     note_each(alloc, tree, user, &items, loaded, names)
 }
