@@ -1,6 +1,6 @@
 -- A search that is kept goes on where more is loaded, and where the log has grown.
-use Rattle.std.proofs.Common.{◌≡◌, ℕ, zero, suc, ◌+◌, ◌<◌, ◌≤◌, Bool, true, false, not, cond, ◌&&◌, List, [], ◌∷◌, ◌++◌, length, take, drop, refl, sym, ap, subst, ◌∙◌, inl, inr, arith, Option, Some, None, slice_get, append-nil, append_assoc, unwrap_or}
-use Rattle.std.specs.Prelude.{filter, if◌then◌else◌, is_none}
+use Rattle.std.proofs.Common.{◌≡◌, ℕ, zero, suc, ◌+◌, ◌<◌, ◌≤◌, Bool, true, false, not, cond, ◌&&◌, List, [], ◌∷◌, ◌++◌, length, take, drop, refl, sym, ap, subst, ◌∙◌, inl, inr, arith, Option, Some, None, Result, Ok, Err, slice_get, append-nil, append_assoc, unwrap_or}
+use Rattle.std.specs.Prelude.{OnOk, filter, if◌then◌else◌, is_none}
 use Rattle.std.specs.Map.{keys_of}
 use Rattle.std.specs.Option.{option_and_then}
 use Rattle.std.specs.Str.{bytes_eq}
@@ -32,6 +32,11 @@ use Rattle.up_policy.specs.Loadings.{Loading, answer_for, loaded_text, text_in}
 use Rattle.up_policy.specs.Members.{groups_in, items_in, names_in, text_of}
 use Rattle.up_policy.specs.Reached.{after_look, is_wanted, met_after, needed, needed_by, reached, with_path, with_paths}
 use Rattle.up_policy.specs.Trees.{GroupTexts, TreeFacts, owns_snapshots}
+
+-- what holds always holds after a success
+pub on_ok : {X E : Type 0} (result : Result X E) (P : Type 0) → P → OnOk result P
+on_ok (Ok value) P h = h
+on_ok (Err fault) P h = tt
 
 -- ---- more loaded
 

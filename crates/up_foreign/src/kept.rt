@@ -59,7 +59,7 @@ impl KeptSearch {
         loaded: &Loaded,
         names: &mut Names,
     ) -> Result<(), AllocError>
-        requires kept { Keeps tree.now.owner tree.now.log loaded.now self.old }
+        requires { Keeps tree.now.owner tree.now.log loaded.now self.old }
         ensures added { OnOk result (names.new
             ≡ with_paths names.old (needed_in tree.now.owner loaded.now
             (tree_of tree.now.log, path.now))) }
@@ -78,7 +78,7 @@ impl KeptSearch {
             → OnOk result (IsOver tree.now.owner tree.now.log loaded path.now self.new) }
     {
         let records = tree.position();
-        if self.is_at(path) && self.records == records {
+        if self.is_over(path, records) {
             return Ok(());
         }
         let view = MemView::new(tree);
@@ -86,13 +86,14 @@ impl KeptSearch {
         Ok(())
     }
 
-    /// Whether it is at this path.
+    /// Whether it is from this path, over so many records.
     #[tactic(auto, using(up_log_tree::proofs::Paths::path_same))]
-    fn is_at(&self, path: &Path) -> bool
-        ensures { result ≡ true → self.now.path ≡ Some path.now }
+    fn is_over(&self, path: &Path, records: u64) -> bool
+        ensures { result ≡ true
+            → (self.now.records ≡ records) × (self.now.path ≡ Some path.now) }
     {
         match &self.path {
-            Some(at) => at == path,
+            Some(from) => self.records == records && from == path,
             None => false,
         }
     }
