@@ -1,7 +1,8 @@
 use Rattle.std.proofs.Common.{◌≡◌, Some, ap, position, subst, sym, ◌∙◌}
 use Rattle.std.proofs.lemmas.Bool.{false≢true}
 use Rattle.std.specs.Prelude.{is_some}
-use Rattle.up_calls.specs.Kept.{KeepsSeen}
+use Rattle.up_calls.specs.Kept.{KeepsSeen, where_missing}
+use Rattle.up_foreign.specs.declared.kept.KeptSearch.{KeptSearch}
 use Rattle.up_shared.specs.Sharing.{is_cell_of, is_seat_of, views_of}
 use Rattle.up_shared.proofs.Places.{has_same, position_same}
 use Rattle.up_shared.proofs.Telling.{kept_there, tied_own, tree_kept, tree_looked, tree_told}
@@ -62,5 +63,6 @@ returns-clause-kept g c =
     let at : position (is_seat_of owner) seats ≡ Some c.in-Some.place =
     sym (position_same owner cells seats c.requires.ready.trees) ∙ sym (ap (position (is_cell_of owner)) c.deref.ensures.value) ∙ sym c.place_among.ensures ∙ c.in-Some.is in
     let t = c.lend_tree.ensures in
-    tree_kept g.D.Disk _ c.in-Some.place _ c.lend_tree.new.job c.args.self.now.shared.now c.args.self.now.seats.now c.lend_tree.new.seats c.requires.ready t owner at
-    c.args.loaded.now c.lend_tree.new.job.came c.lend_tree.new.job.kept t.turn.did_it.1
+    subst (λ (k : KeptSearch). where_missing c.lend_tree.new.job.came (KeepsSeen ((views_of c.lend_tree.new.seats).tree owner) c.args.loaded.now k)) (sym c.swap.ensures.x_after)
+    (tree_kept g.D.Disk _ c.in-Some.place _ c.lend_tree.new.job c.args.self.now.shared.now c.args.self.now.seats.now c.lend_tree.new.seats c.requires.ready t owner at
+    c.args.loaded.now c.lend_tree.new.job.came c.lend_tree.new.job.kept t.turn.did_it.1)
