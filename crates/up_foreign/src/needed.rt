@@ -15,6 +15,7 @@ ghost use Rattle.up_list.specs.Asking.{owner_asked};
 ghost use Rattle.up_policy.specs.Reached.{with_paths};
 ghost use Rattle.up_log_tree.specs.Trees.{tree_at, tree_of};
 ghost use Rattle.up_foreign.specs.Foreign.{IsOwnChange, in_tree, needed_in, places_at};
+ghost use Rattle.up_foreign.specs.Noted.{AreNoted};
 ghost use Rattle.up_foreign.specs.Times.{AreBothNoted};
 ghost use Rattle.up_foreign.specs.Trees.{log_over};
 ghost use Rattle.up_tree.specs.States.{log_of};
@@ -211,8 +212,7 @@ fn note_for_others(
         ReadRequest::Put(put) => kept.note(tree, &put.entry.name, loaded, names),
         ReadRequest::Glob(pattern) => note_glob(alloc, tree, user, pattern, loaded, kept, names),
         ReadRequest::Watch(path, sequence) => {
-            kept.note(tree, path, loaded, names)?;
-            note_watched(alloc, tree, user, path, *sequence, loaded, names)
+            note_watch(alloc, tree, user, path, *sequence, loaded, kept, names)
         }
     }
 }
@@ -257,7 +257,8 @@ fn note_ordinary(
     }
 }
 
-/// Adds what is needed at each of these paths, in order. A text that governs several of them is looked at once.
+/// Adds what is needed at each of these paths, in order. A text that governs several of them is looked at once, and one that was looked at
+/// before not at all.
 #[tactic(auto, using(crate::proofs::PlaceLemmas::key_owned, crate::proofs::PlaceLemmas::each_next, crate::proofs::PlaceLemmas::each_end))]
 fn note_each(
     alloc: Global,
@@ -265,14 +266,16 @@ fn note_each(
     user: &User,
     paths: &OrderedMap<Path, ()>,
     loaded: &Loaded,
+    known: Noted,
     names: &mut Names,
 ) -> Result<(), AllocError>
-    requires { AreOwned tree.now.owner (keys_of paths.now.entries) }
+    requires owned { AreOwned tree.now.owner (keys_of paths.now.entries) }
+    requires noted { AreNoted tree.now loaded.now known names.old }
     ensures { OnOk result (names.new
         ≡ with_paths names.old (flat_map (needed_in tree.now.owner loaded.now)
         (map (in_tree (tree_of tree.now.log)) (keys_of paths.now.entries)))) }
 {
-    let mut noted = Noted::new(alloc);
+    let mut noted = known;
     for i in 0..u64::MAX {
         let Some(path) = paths.key_at(i) else {
             return Ok(());
@@ -303,9 +306,33 @@ fn note_glob(
     ensures kept { OnOk result (Keeps tree.now.owner tree.now.log loaded.now kept.new) }
 {
     let front = literal_path(alloc, pattern)?;
-    kept.note(tree, &front, loaded, names)?;
     let items = items_matching(alloc, tree, pattern, &front)?;
-    note_each(alloc, tree, user, &items, loaded, names)
+    note_front(alloc, tree, user, &front, &items, loaded, kept, names)
+}
+
+/// Adds what is needed at a path and then at others, by the search that is kept for the first.
+fn note_front(
+    alloc: Global,
+    tree: &MemTree,
+    user: &User,
+    front: &Path,
+    items: &OrderedMap<Path, ()>,
+    loaded: &Loaded,
+    kept: &mut KeptSearch,
+    names: &mut Names,
+) -> Result<(), AllocError>
+    requires owned { AreOwned tree.now.owner (keys_of items.now.entries) }
+    requires kept { Keeps tree.now.owner tree.now.log loaded.now kept.old }
+    ensures added { OnOk result (names.new
+        ≡ with_paths names.old (flat_map (needed_in tree.now.owner loaded.now)
+        (in_tree (tree_of tree.now.log) front.now
+        ∷ map (in_tree (tree_of tree.now.log)) (keys_of items.now.entries)))) }
+    ensures kept { OnOk result (Keeps tree.now.owner tree.now.log loaded.now kept.new) }
+{
+    let mut noted = Noted::new(alloc);
+    noted.note_kept(tree, front, loaded, kept, names)?;
+    note_each(alloc, tree, user, items, loaded, noted, names)?;
+    Ok(())
 }
 
 /// The path of the literal elements in front of a pattern.
@@ -335,6 +362,31 @@ fn within(dir: &Path, name: &str) -> Result<Path, AllocError>
     }
 }
 
+/// Adds what a Watch needs: at its path, by the search that is kept, and behind it.
+fn note_watch(
+    alloc: Global,
+    tree: &MemTree,
+    user: &User,
+    path: &Path,
+    sequence: i64,
+    loaded: &Loaded,
+    kept: &mut KeptSearch,
+    names: &mut Names,
+) -> Result<(), AllocError>
+    requires owned { path.now.owner ≡ tree.now.owner }
+    requires kept { Keeps tree.now.owner tree.now.log loaded.now kept.old }
+    ensures added { (limits : Limits) → OnOk result (names.new
+        ≡ with_paths names.old (flat_map (needed_in tree.now.owner loaded.now)
+        ((tree_of tree.now.log, path.now)
+        ∷ watch_places (log_over limits tree.now) path.now sequence))) }
+    ensures kept { OnOk result (Keeps tree.now.owner tree.now.log loaded.now kept.new) }
+{
+    let mut noted = Noted::new(alloc);
+    noted.note_kept(tree, path, loaded, kept, names)?;
+    note_watched(alloc, tree, user, path, sequence, loaded, noted, names)?;
+    Ok(())
+}
+
 /// Adds what a Watch needs behind its path: at the paths of its events, each now and directly after its record; or at the items that
 /// there are.
 fn note_watched(
@@ -344,17 +396,22 @@ fn note_watched(
     path: &Path,
     sequence: i64,
     loaded: &Loaded,
+    noted: Noted,
     names: &mut Names,
 ) -> Result<(), AllocError>
-    requires { path.now.owner ≡ tree.now.owner }
+    requires owned { path.now.owner ≡ tree.now.owner }
+    requires noted { AreNoted tree.now loaded.now noted names.old }
     ensures { (limits : Limits) → OnOk result (names.new
         ≡ with_paths names.old (flat_map (needed_in tree.now.owner loaded.now)
         (watch_places (log_over limits tree.now) path.now sequence))) }
 {
     match looked_at(sequence) {
-        Watched::Above(above) => note_events(alloc, tree, user, path, above, loaded, names),
-        Watched::Items => note_under(alloc, tree, user, path, loaded, names),
-        Watched::Nothing => Ok(()),
+        Watched::Above(above) => note_events(alloc, tree, user, path, above, loaded, noted, names),
+        Watched::Items => note_under(alloc, tree, user, path, loaded, noted, names),
+        Watched::Nothing => {
+            drop(noted);
+            Ok(())
+        }
     }
 }
 
@@ -386,15 +443,17 @@ fn note_under(
     user: &User,
     path: &Path,
     loaded: &Loaded,
+    noted: Noted,
     names: &mut Names,
 ) -> Result<(), AllocError>
-    requires { path.now.owner ≡ tree.now.owner }
+    requires owned { path.now.owner ≡ tree.now.owner }
+    requires noted { AreNoted tree.now loaded.now noted names.old }
     ensures { OnOk result (names.new
         ≡ with_paths names.old (flat_map (needed_in tree.now.owner loaded.now)
         (items_where (λ name. is_under name path.now) (tree_of tree.now.log)))) }
 {
     let items = items_under(alloc, tree, path)?;
-    note_each(alloc, tree, user, &items, loaded, names)
+    note_each(alloc, tree, user, &items, loaded, noted, names)
 }
 
 /// Adds what is needed at the paths of the records above a sequence that are under a path. It goes through these records alone.
@@ -405,16 +464,18 @@ fn note_events(
     path: &Path,
     above: u64,
     loaded: &Loaded,
+    noted: Noted,
     names: &mut Names,
 ) -> Result<(), AllocError>
-    requires { path.now.owner ≡ tree.now.owner }
+    requires owned { path.now.owner ≡ tree.now.owner }
+    requires noted { AreNoted tree.now loaded.now noted names.old }
     ensures { (limits : Limits) → OnOk result (names.new
         ≡ with_paths names.old (flat_map (needed_in tree.now.owner loaded.now)
         (event_places_to (log_over limits tree.now) above path.now (length tree.now.log)))) }
 {
     let _records = tree.position();
     let positions = tree.positions_under(path, above);
-    note_positions(alloc, tree, user, positions, loaded, names)
+    note_positions(alloc, tree, user, positions, loaded, noted, names)
 }
 
 /// Adds what is needed at the paths that the records at these positions change. A text is looked at once, and again where it or a Group
@@ -425,14 +486,16 @@ fn note_positions(
     user: &User,
     positions: &[u64],
     loaded: &Loaded,
+    noted: Noted,
     names: &mut Names,
 ) -> Result<(), AllocError>
-    requires { AllByRecursion (IsOwnChange tree.now) positions.now }
+    requires owned { AllByRecursion (IsOwnChange tree.now) positions.now }
+    requires noted { AreNoted tree.now loaded.now noted names.old }
     ensures { OnOk result (names.new
         ≡ with_paths names.old (flat_map (needed_in tree.now.owner loaded.now)
         (flat_map (places_at tree.now.log) positions.now))) }
 {
-    let mut times = Times::new(alloc);
+    let mut times = Times::new(alloc, noted);
     for position in positions {
         note_record(alloc, tree, user, *position, loaded, &mut times, names)?;
     }
