@@ -108,7 +108,7 @@ impl KeptSearch {
         ensures records { OnOk result (self.new.records ≡ records) }
         ensures path { OnOk result (self.new.path ≡ Some path.now) }
         ensures met { OnOk result
-            (self.new.met ≡ with_paths [] (named_by (option_copied text))) }
+            (self.new.met ≡ with_paths [] (named_by (option_copied text.entry))) }
         ensures next { OnOk result (self.new.next ≡ 0) }
     {
         self.path = Some(path.clone()?);
