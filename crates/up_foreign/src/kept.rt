@@ -87,7 +87,6 @@ impl KeptSearch {
     }
 
     /// Whether it is from this path, over so many records.
-    #[tactic(auto, using(up_log_tree::proofs::Paths::path_same))]
     fn is_over(&self, path: &Path, records: u64) -> bool
         ensures { result ≡ true
             → (self.now.records ≡ records) × (self.now.path ≡ Some path.now) }
