@@ -80,8 +80,8 @@ module _ {D : Type 0} (disks : Ghosts D) where
     tree_left now_is is = subst (λ (h : HostState D). answered_at came (λ n. ends_at (Some (LogName.OfTree owner)) (views disks h) ≡ Some n)) is (at_end came tried)
 
     -- what the turn kept is of the tree as the caller has seen it then
-    pub tree_kept : (kept : KeptSearch) → where_missing came (Keeps state.owner state.log loaded kept) → where_missing came (KeepsSeen ((views disks after).tree owner) loaded kept)
-    tree_kept kept h =
+    pub tree_kept : (now_is : HostState D) → host ≡ now_is → (kept : KeptSearch) → where_missing came (Keeps state.owner state.log loaded kept) → where_missing came (KeepsSeen ((views disks after).tree owner) loaded kept)
+    tree_kept now_is is kept h =
         missing_then came (Keeps state.owner state.log loaded kept) (KeepsSeen ((views disks after).tree owner) loaded kept)
         (seen_whole ((views disks after).tree owner) (tree_view disks (record { state = state; base = before.base })) loaded kept (view_after disks host owner place before state at there grows fits)) h
 

@@ -71,4 +71,4 @@ returns-clause-kept g c =
     let there : slice_get c.self.inside.trees.items c.in-Some.place ≡ Some c.index_mut-held.result.now =
     slice_get-get_or c.self.inside.trees.items c.in-Some.place c.index_mut-held.result.now (position-place (is_of c.args.owner.now) c.self.inside.trees.items c.in-Some.place at).1 ∙ ap Some (sym c.index_mut-held.ensures.value) in
     let fits : c.index_mut-held.result.now.base ≤ length c.index_mut-held.result.now.state.log = base_at c.self.inside.trees.items c.in-Some.place c.index_mut-held.result.now c.self.invariant.trees_base there in
-    tree_kept g.D.Disk _ c.args.owner.now c.in-Some.place c.index_mut-held.result.now c.try_tree.new.state at there c.try_tree.ensures.grows fits (record { user = c.args.user.now; request = c.args.request.now }) c.args.loaded.now c.args.fetched.now c.args.now c.try_tree.result c.try_tree.ensures.tried c.try_tree.new.kept c.try_tree.ensures.kept
+    tree_kept g.D.Disk _ c.args.owner.now c.in-Some.place c.index_mut-held.result.now c.try_tree.new.state at there c.try_tree.ensures.grows fits (record { user = c.args.user.now; request = c.args.request.now }) c.args.loaded.now c.args.fetched.now c.args.now c.try_tree.result c.try_tree.ensures.tried c.args.self.now c.self.view_is c.try_tree.new.kept c.try_tree.ensures.kept
