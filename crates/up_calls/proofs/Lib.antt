@@ -17,3 +17,4 @@ pub mod SettledLemmas
 pub mod StepLemmas
 pub mod GroupTextLemmas
 pub mod StateLemmas
+pub mod ShownLemmas

@@ -9,6 +9,7 @@ pub mod Calls
 pub mod Rounds
 pub mod Gathered
 pub mod Told
+pub mod Shown
 pub mod Answered
 pub mod Alike
 pub mod Done
