@@ -1,9 +1,12 @@
-use Rattle.std.proofs.Common.{◌≡◌, Some, ap, position, sym, ◌∙◌}
+use Rattle.std.proofs.Common.{◌≡◌, Some, ap, position, sym, true, ◌∙◌}
 use Rattle.std.proofs.lemmas.Bool.{false≢true}
 use Rattle.std.specs.Prelude.{is_some}
+use Rattle.up_calls.proofs.ShownLemmas.{tried_quiet}
+use Rattle.up_calls.specs.Told.{tells_io}
 use Rattle.up_shared.specs.Sharing.{is_cell_of, is_seat_of}
 use Rattle.up_shared.proofs.Places.{has_same, position_same}
 use Rattle.up_shared.proofs.Telling.{tied_own, tree_looked, tree_told}
+use Rattle.up_shared.proofs.Turning.{turned_calm}
 use Rattle.up_shared.proofs.caller.CallerLogs.ask_tree.Goals as goal
 
 pub unreachable-requires : goal.unreachable-requires
@@ -43,3 +46,14 @@ returns-clause-tie g c =
     sym (position_same owner cells seats c.requires.ready.trees) ∙ sym (ap (position (is_cell_of owner)) c.deref.ensures.value) ∙ sym c.place_among.ensures ∙ c.in-Some.is in
     tied_own g.D.Disk _ c.in-Some.place _ c.lend_tree.new.job c.args.self.now.shared.now c.args.self.now.seats.now c.lend_tree.new.seats c.requires.ready c.lend_tree.ensures owner at
     c.args.self.now.seats.ghost_name
+
+pub returns-clause-quiet : goal.returns-clause-quiet
+returns-clause-quiet g c =
+    let cells = c.args.self.now.shared.now.trees.items in
+    let seats = c.args.self.now.seats.now.trees.items in
+    let owner = c.args.owner.now in
+    let at : position (is_seat_of owner) seats ≡ Some c.in-Some.place =
+    sym (position_same owner cells seats c.requires.ready.trees) ∙ sym (ap (position (is_cell_of owner)) c.deref.ensures.value) ∙ sym c.place_among.ensures ∙ c.in-Some.is in
+    let t = c.lend_tree.ensures in
+    turned_calm g.D.Disk _ c.in-Some.place _ c.lend_tree.new.job c.args.self.now.seats.now c.lend_tree.new.seats t owner at (tells_io c.lend_tree.new.job.came ≡ true)
+    (tried_quiet g.D.Disk (record { user = c.args.user.now; request = c.args.request.now }) c.args.loaded.now c.args.fetched.now c.args.now t.turn.before t.turn.after c.lend_tree.new.job.came t.turn.did_it)
