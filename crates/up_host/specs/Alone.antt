@@ -9,6 +9,7 @@ use Rattle.up_disk.specs.declared.disk.Disk.{Ghosts}
 use Rattle.up_answers.specs.Needs.{needs}
 use Rattle.up_calls.specs.Rounds.{InRounds}
 use Rattle.up_calls.specs.Routes.{LogName, Question, log_asked, refusal}
+use Rattle.up_calls.specs.Shown.{FailsAsShown, failures}
 use Rattle.up_calls.specs.Views.{Seen, SeenKeys, SeenStore, SeenTree, Views, log_seen}
 use Rattle.up_calls.specs.declared.event.Event.{Event}
 use Rattle.up_host.specs.declared.held.Held.{Held}
@@ -125,6 +126,11 @@ pub record Counts (disks_before disks_after loader_before loader_after : ℕ) (e
   pub disks : disks_before ≤ disks_after
   pub loader : loader_before ≤ loader_after
   pub io : disks_after + loader_after < 2 ^ 64 - 1 → disks_before + loader_before + io_of e.reply ≤ disks_after + loader_after
+
+-- The count of each log's disk is as before, unless the event shows that this disk failed: so none that failed was passed over and
+-- asked again.
+abbrev pub RisesAsShown : Views → Views → Question → Event → Type 0
+RisesAsShown a b q e = FailsAsShown (λ log. failures b log ≡ failures a log) q e
 
 -- a record was put to the keys, and nothing else of the host changed
 pub record Enrols {D : Type 0} (disks : Ghosts D) (card : KeyRecord)
