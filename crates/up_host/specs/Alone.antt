@@ -16,6 +16,8 @@ use Rattle.up_host.specs.declared.held.Held.{Held}
 use Rattle.up_ends.specs.Growing.{OnlyGrows}
 use Rattle.up_journal.specs.Logs.{LogState}
 use Rattle.up_journal.specs.declared.fault.AppendWhy.{AppendWhy}
+use Rattle.up_journal.specs.declared.fault.AppendWhy.TheVariants as append
+use Rattle.up_lists.specs.Counts.{StaysUnless}
 use Rattle.up_keys.specs.Keys.{PutsRecord, limits_of, log_of}
 use Rattle.up_names.specs.Texts.{UserName}
 use Rattle.up_tree.specs.States.{State, fixed_of}
@@ -132,10 +134,11 @@ pub record Counts (disks_before disks_after loader_before loader_after : ℕ) (e
 abbrev pub RisesAsShown : Views → Views → Question → Event → Type 0
 RisesAsShown a b q e = FailsAsShown (λ log. failures b log ≡ failures a log) q e
 
--- a record was put to the keys, and nothing else of the host changed
+-- A record was put to the keys, and nothing else of the host changed; their disk's count is as before, but for a fault.
 pub record Enrols {D : Type 0} (disks : Ghosts D) (card : KeyRecord)
     (host after : HostState D) (result : std.Result ℕ AppendWhy) : Type 0 where
   pub state : LogState D KeyRecord
   pub whole : after ≡ record host { keys = record { state = state; base = host.keys.base } }
   pub puts : PutsRecord disks card host.keys.state state result
   pub grows : OnlyGrows log_of (λ (k : LogState D KeyRecord). disks.faults k.disk) limits_of host.keys.state state
+  pub quiet : StaysUnless (disks.faults host.keys.state.disk) (disks.faults state.disk) (result ≡ std.Err append.Fault)
