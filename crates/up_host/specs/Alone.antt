@@ -1,5 +1,5 @@
 -- A host that is not shared: all that comes to its logs comes by its one caller. This project's own.
-use Rattle.std.specs.Prelude.{◌≡◌, ◌≢◌, ◌≤◌, ◌<◌, ◌+◌, ◌-◌, ◌^◌, ℕ, zero, suc, nat_le, if◌then◌else◌, List, [], ◌∷◌, ◌++◌, length, Option, Some, None}
+use Rattle.std.specs.Prelude.{◌≡◌, ◌≢◌, ◌≤◌, ◌<◌, ◌+◌, ◌-◌, ◌^◌, ℕ, zero, suc, nat_le, if◌then◌else◌, List, [], ◌∷◌, ◌++◌, length, Option, Some, None, Err}
 use Rattle.std.specs.Prelude as std
 use Rattle.std.specs.List.{AllByRecursion, find, sum_by}
 use Rattle.std.specs.Option.{option_map}
@@ -141,4 +141,4 @@ pub record Enrols {D : Type 0} (disks : Ghosts D) (card : KeyRecord)
   pub whole : after ≡ record host { keys = record { state = state; base = host.keys.base } }
   pub puts : PutsRecord disks card host.keys.state state result
   pub grows : OnlyGrows log_of (λ (k : LogState D KeyRecord). disks.faults k.disk) limits_of host.keys.state state
-  pub quiet : StaysUnless (disks.faults host.keys.state.disk) (disks.faults state.disk) (result ≡ std.Err append.Fault)
+  pub quiet : StaysUnless (disks.faults host.keys.state.disk) (disks.faults state.disk) (result ≡ Err append.Fault)
