@@ -160,7 +160,7 @@ module _ {D : Type 0} (disks : Ghosts D) where
     }
 
     -- no disk failed but the tree's, and that one only where its count did not stay
-    pub quiet_tree : (fault : Type 0) → StaysUnless (disks.faults before.state.disk) (disks.faults state.disk) fault → QuietBut (λ log. failures (views disks after) log ≡ failures (views disks host) log) (LogName.OfTree owner) fault
+    quiet_tree : (fault : Type 0) → StaysUnless (disks.faults before.state.disk) (disks.faults state.disk) fault → QuietBut (λ log. failures (views disks after) log ≡ failures (views disks host) log) (LogName.OfTree owner) fault
     quiet_tree fault stays = record { stays = by }
       where
         mine : (fault → ⊥) → failures (views disks after) (LogName.OfTree owner) ≡ failures (views disks host) (LogName.OfTree owner)
@@ -178,6 +178,12 @@ module _ {D : Type 0} (disks : Ghosts D) where
         by (LogName.OfTree o) none = at_tree o (bytes_eq o owner) refl none
         by LogName.OfStore none = refl
         by LogName.OfKeys none = refl
+
+    -- of the host as its caller has it
+    pub quiet_tree_now : (now_is : HostState D) → host ≡ now_is → (fault : Type 0) → StaysUnless (disks.faults before.state.disk) (disks.faults state.disk) fault
+        → QuietBut (λ log. failures (views disks after) log ≡ failures (views disks now_is) log) (LogName.OfTree owner) fault
+    quiet_tree_now now_is is fault stays =
+        subst (λ (h : HostState D). QuietBut (λ log. failures (views disks after) log ≡ failures (views disks h) log) (LogName.OfTree owner) fault) is (quiet_tree fault stays)
 
     pub tied_tree : KeepsSettled disks (over_journal before.state) (over_journal state) → IsTied disks (Some (LogName.OfTree owner)) host after
     tied_tree keeps = record {
@@ -208,13 +214,19 @@ module _ {D : Type 0} (disks : Ghosts D) where
     store_rose rose = record { later = store_counts; rose = middle_rose (sum_by (λ (h : Held (State D)). disks.faults h.state.disk) host.trees) (disks.faults host.store.state.disk) (disks.faults state.disk) (disks.faults host.keys.state.disk) rose }
 
     -- no disk failed but the store's, and that one only where its count did not stay
-    pub quiet_store : (fault : Type 0) → StaysUnless (disks.faults host.store.state.disk) (disks.faults state.disk) fault → QuietBut (λ log. failures (views disks stored) log ≡ failures (views disks host) log) LogName.OfStore fault
+    quiet_store : (fault : Type 0) → StaysUnless (disks.faults host.store.state.disk) (disks.faults state.disk) fault → QuietBut (λ log. failures (views disks stored) log ≡ failures (views disks host) log) LogName.OfStore fault
     quiet_store fault stays = record { stays = by }
       where
         by : (log : LogName) → (log ≡ LogName.OfStore → fault → ⊥) → failures (views disks stored) log ≡ failures (views disks host) log
         by (LogName.OfTree o) none = refl
         by LogName.OfStore none = ap (λ (n : ℕ). Some n) (stays.stays (none refl))
         by LogName.OfKeys none = refl
+
+    -- of the host as its caller has it
+    pub quiet_store_now : (now_is : HostState D) → host ≡ now_is → (fault : Type 0) → StaysUnless (disks.faults host.store.state.disk) (disks.faults state.disk) fault
+        → QuietBut (λ log. failures (views disks stored) log ≡ failures (views disks now_is) log) LogName.OfStore fault
+    quiet_store_now now_is is fault stays =
+        subst (λ (h : HostState D). QuietBut (λ log. failures (views disks stored) log ≡ failures (views disks h) log) LogName.OfStore fault) is (quiet_store fault stays)
 
     pub tied_store : (but : Option LogName) → (but ≢ Some LogName.OfStore → state.log ≡ host.store.state.log) → KeepsSettled disks host.store.state state → IsTied disks but host stored
     tied_store but same keeps = record {
@@ -247,13 +259,19 @@ module _ {D : Type 0} (disks : Ghosts D) where
     keys_rose rose = record { later = keys_counts; rose = last_rose (sum_by (λ (h : Held (State D)). disks.faults h.state.disk) host.trees) (disks.faults host.store.state.disk) (disks.faults host.keys.state.disk) (disks.faults state.disk) rose }
 
     -- no disk failed but that of the keys, and that one only where its count did not stay
-    pub quiet_keys : (fault : Type 0) → StaysUnless (disks.faults host.keys.state.disk) (disks.faults state.disk) fault → QuietBut (λ log. failures (views disks keyed) log ≡ failures (views disks host) log) LogName.OfKeys fault
+    quiet_keys : (fault : Type 0) → StaysUnless (disks.faults host.keys.state.disk) (disks.faults state.disk) fault → QuietBut (λ log. failures (views disks keyed) log ≡ failures (views disks host) log) LogName.OfKeys fault
     quiet_keys fault stays = record { stays = by }
       where
         by : (log : LogName) → (log ≡ LogName.OfKeys → fault → ⊥) → failures (views disks keyed) log ≡ failures (views disks host) log
         by (LogName.OfTree o) none = refl
         by LogName.OfStore none = refl
         by LogName.OfKeys none = ap (λ (n : ℕ). Some n) (stays.stays (none refl))
+
+    -- of the host as its caller has it
+    pub quiet_keys_now : (now_is : HostState D) → host ≡ now_is → (fault : Type 0) → StaysUnless (disks.faults host.keys.state.disk) (disks.faults state.disk) fault
+        → QuietBut (λ log. failures (views disks keyed) log ≡ failures (views disks now_is) log) LogName.OfKeys fault
+    quiet_keys_now now_is is fault stays =
+        subst (λ (h : HostState D). QuietBut (λ log. failures (views disks keyed) log ≡ failures (views disks h) log) LogName.OfKeys fault) is (quiet_keys fault stays)
 
     pub tied_keys : KeepsSettled disks host.keys.state state → IsTied disks (Some LogName.OfKeys) host keyed
     tied_keys keeps = record {

@@ -1,6 +1,6 @@
 use Rattle.std.proofs.Common.{◌≡◌, ◌≤◌, Some, ap, arith, length, sym}
 use Rattle.up_calls.specs.Routes.{Question}
-use Rattle.up_host.proofs.TiedLemmas.{quiet_keys}
+use Rattle.up_host.proofs.TiedLemmas.{quiet_keys_now}
 use Rattle.up_host.proofs.TurnedLemmas.{asked_keys, keys_tied}
 use Rattle.up_lists.proofs.BeginsLemmas.{length-Begins}
 use Rattle.up_wire.specs.declared.replies.Reply.TheVariants as reply
@@ -32,4 +32,4 @@ invariant_of-self g c =
 
 pub returns-clause-quiet : goal.returns-clause-quiet
 returns-clause-quiet g c =
-    rw (← c.self.view_is) (quiet_keys g.D.Disk _ c.try_keys.new.state c.try_keys.ensures.grows c.self.invariant.keys_base (c.try_keys.result.0 ≡ reply.Io) c.try_keys.ensures.tried.quiet)
+    quiet_keys_now g.D.Disk _ c.try_keys.new.state c.try_keys.ensures.grows c.self.invariant.keys_base c.args.self.now c.self.view_is (c.try_keys.result.0 ≡ reply.Io) c.try_keys.ensures.tried.quiet
