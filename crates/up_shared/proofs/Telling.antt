@@ -1,5 +1,5 @@
 -- What one turn of a seat tells whoever has the logs.
-use Rattle.std.proofs.Common.{◌≡◌, ◌<◌, ◌+◌, ◌⊎◌, ℕ, List, length, refl, sym, ap, subst, ◌∙◌, inl, inr, arith, option_map, Some, None, Result, Ok, Err, position}
+use Rattle.std.proofs.Common.{◌≡◌, ◌<◌, ◌+◌, ℕ, List, length, refl, sym, ap, subst, ◌∙◌, inl, inr, arith, option_map, Some, None, Result, Ok, Err, position}
 use Rattle.std.specs.Prelude.{IfOk}
 use Rattle.up_answers.specs.Fetching.{Fetched}
 use Rattle.up_blocks.specs.Blocks as blocks
@@ -174,12 +174,12 @@ module _ {D J : Type 0} (disks : disk.Ghosts D) (did : J → LogState D BlockRec
   store_calm fault stays = record { stays = by }
     where
       by : (log : LogName) → (log ≡ LogName.OfStore → fault → ⊥) → IsQuiet disks log a b
-      by (LogName.OfTree owner) none = inl (ap (λ (xs : List (TreeSeat D)). option_map (λ (v : SeenTree). v.failed) (option_map tree_seen (seat_for xs owner))) t.trees)
+      by (LogName.OfTree owner) none = IsQuiet.Stays (ap (λ (xs : List (TreeSeat D)). option_map (λ (v : SeenTree). v.failed) (option_map tree_seen (seat_for xs owner))) t.trees)
       by LogName.OfStore none = elim (turn_stays blocks.log_of store_faults blocks.limits_of did job after looked_store t.seat t.turn (stays.stays (none refl))) [
-        | inl same ↦ inl (ap (λ (n : ℕ). Some n) (ap (λ (k : Known BlockRecord Limits). k.failed) t.store ∙ same))
-        | inr end ↦ inr (record { stood = t.turn.before.disk; stands = end })
+        | inl same ↦ IsQuiet.Stays (ap (λ (n : ℕ). Some n) (ap (λ (k : Known BlockRecord Limits). k.failed) t.store ∙ same))
+        | inr end ↦ IsQuiet.AtEnd t.turn.before.disk end
       ]
-      by LogName.OfKeys none = inl (ap (λ (k : Known _ _). Some k.failed) t.keys)
+      by LogName.OfKeys none = IsQuiet.Stays (ap (λ (k : Known _ _). Some k.failed) t.keys)
 
   store_fixed : b.store_limits ≡ t.turn.before.limits
   store_fixed =
@@ -254,11 +254,11 @@ module _ {D J : Type 0} (disks : disk.Ghosts D) (did : J → LogState D KeyRecor
   keys_calm fault stays = record { stays = by }
     where
       by : (log : LogName) → (log ≡ LogName.OfKeys → fault → ⊥) → IsQuiet disks log a b
-      by (LogName.OfTree owner) none = inl (ap (λ (xs : List (TreeSeat D)). option_map (λ (v : SeenTree). v.failed) (option_map tree_seen (seat_for xs owner))) t.trees)
-      by LogName.OfStore none = inl (ap (λ (k : Known _ _). Some k.failed) t.store)
+      by (LogName.OfTree owner) none = IsQuiet.Stays (ap (λ (xs : List (TreeSeat D)). option_map (λ (v : SeenTree). v.failed) (option_map tree_seen (seat_for xs owner))) t.trees)
+      by LogName.OfStore none = IsQuiet.Stays (ap (λ (k : Known _ _). Some k.failed) t.store)
       by LogName.OfKeys none = elim (turn_stays keys.log_of keys_faults keys.limits_of did job after looked_keys t.seat t.turn (stays.stays (none refl))) [
-        | inl same ↦ inl (ap (λ (n : ℕ). Some n) (ap (λ (k : Known KeyRecord Limits). k.failed) t.keys ∙ same))
-        | inr end ↦ inr (record { stood = t.turn.before.disk; stands = end })
+        | inl same ↦ IsQuiet.Stays (ap (λ (n : ℕ). Some n) (ap (λ (k : Known KeyRecord Limits). k.failed) t.keys ∙ same))
+        | inr end ↦ IsQuiet.AtEnd t.turn.before.disk end
       ]
 
   keys_fixed : b.keys_limits ≡ t.turn.before.limits

@@ -111,8 +111,8 @@ module _ {D J : Type 0} (disks : disk.Ghosts D) (did : J → State D → J → S
     where
       mine_calm : (fault → ⊥) → IsQuiet disks (LogName.OfTree owner) a b
       mine_calm none = elim (turn_stays entries_of faults_of fixed_of did job after looked_seat t.seat t.turn (stays.stays none)) [
-        | inl same ↦ inl (ap (option_map (λ (v : SeenTree). v.failed)) turned_after ∙ ap (λ (n : ℕ). Some n) same ∙ sym (ap (option_map (λ (v : SeenTree). v.failed)) turned_before))
-        | inr end ↦ inr (record { stood = t.turn.before.disk; stands = end })
+        | inl same ↦ IsQuiet.Stays (ap (option_map (λ (v : SeenTree). v.failed)) turned_after ∙ ap (λ (n : ℕ). Some n) same ∙ sym (ap (option_map (λ (v : SeenTree). v.failed)) turned_before))
+        | inr end ↦ IsQuiet.AtEnd t.turn.before.disk end
       ]
 
       at_tree : (other : UserName) (c : Bool) → bytes_eq other owner ≡ c → (LogName.OfTree other ≡ LogName.OfTree owner → fault → ⊥) → IsQuiet disks (LogName.OfTree other) a b
@@ -120,12 +120,12 @@ module _ {D J : Type 0} (disks : disk.Ghosts D) (did : J → State D → J → S
           let is : other ≡ owner = (bytes_eq-Decides other owner).0 e in
           subst (λ (o : UserName). IsQuiet disks (LogName.OfTree o) a b) (sym is) (mine_calm (none (ap (λ (o : UserName). LogName.OfTree o) is)))
       at_tree other false e none =
-          inl (ap (λ (o : Option (TreeSeat D)). option_map (λ (v : SeenTree). v.failed) (option_map tree_seen o)) (found_elsewhere other (λ is. false≢true (sym e ∙ (bytes_eq-Decides other owner).1 is))))
+          IsQuiet.Stays (ap (λ (o : Option (TreeSeat D)). option_map (λ (v : SeenTree). v.failed) (option_map tree_seen o)) (found_elsewhere other (λ is. false≢true (sym e ∙ (bytes_eq-Decides other owner).1 is))))
 
       by : (log : LogName) → (log ≡ LogName.OfTree owner → fault → ⊥) → IsQuiet disks log a b
       by (LogName.OfTree other) none = at_tree other (bytes_eq other owner) refl none
-      by LogName.OfStore none = inl (ap (λ (k : Known _ _). Some k.failed) t.store)
-      by LogName.OfKeys none = inl (ap (λ (k : Known _ _). Some k.failed) t.keys)
+      by LogName.OfStore none = IsQuiet.Stays (ap (λ (k : Known _ _). Some k.failed) t.store)
+      by LogName.OfKeys none = IsQuiet.Stays (ap (λ (k : Known _ _). Some k.failed) t.keys)
 
   -- no log but that of the tree got own records
   pub turned_own : OwnStays (Some (LogName.OfTree owner)) (views_of a) (views_of b)

@@ -3,7 +3,7 @@ use Rattle.std.specs.Prelude.{◌≡◌, ℕ, Bool, true, false, List, [], ◌�
 use Rattle.std.specs.List.{find}
 use Rattle.std.specs.Option.{option_map}
 use Rattle.std.specs.Str.{bytes_eq}
-use Rattle.std.proofs.Common.{◌∙◌, refl, sym, ap, subst, cond, arith, inl, inr}
+use Rattle.std.proofs.Common.{◌∙◌, refl, sym, ap, subst, cond, arith}
 use Rattle.up_blocks.specs.Blocks as blocks
 use Rattle.up_blocks.specs.declared.record.BlockRecord.{BlockRecord}
 use Rattle.up_calls.specs.Routes.{LogName, OwnStays}
@@ -309,6 +309,6 @@ module _ {D : Type 0} where
   -- a disk that failed in neither of two calls failed in none of both
   pub quiet_trans : (disks : disk.Ghosts D) (log : LogName) (a b c : Seats D)
       → IsQuiet disks log a b → IsQuiet disks log b c → IsQuiet disks log a c
-  quiet_trans disks log a b c (inl one) (inl two) = inl (two ∙ one)
-  quiet_trans disks log a b c (inl one) (inr end) = inr end
-  quiet_trans disks log a b c (inr end) two = inr end
+  quiet_trans disks log a b c (IsQuiet.Stays one) (IsQuiet.Stays two) = IsQuiet.Stays (two ∙ one)
+  quiet_trans disks log a b c (IsQuiet.Stays one) (IsQuiet.AtEnd stood end) = IsQuiet.AtEnd stood end
+  quiet_trans disks log a b c (IsQuiet.AtEnd stood end) two = IsQuiet.AtEnd stood end

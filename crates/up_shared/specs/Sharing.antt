@@ -1,5 +1,5 @@
 -- A host that is shared, and what one caller has of it. This project's own.
-use Rattle.std.specs.Prelude.{◌≡◌, ◌≤◌, ◌<◌, ◌-◌, ◌^◌, ◌⊎◌, ℕ, Bool, List, [], ◌∷◌, Option, Some}
+use Rattle.std.specs.Prelude.{◌≡◌, ◌≤◌, ◌<◌, ◌-◌, ◌^◌, ℕ, Bool, List, [], ◌∷◌, Option, Some}
 use Rattle.std.specs.List.{find}
 use Rattle.std.specs.Option.{option_map}
 use Rattle.std.specs.Str.{bytes_eq}
@@ -116,11 +116,8 @@ module _ {D : Type 0} where
   HasFailed LogName.OfStore a b = a.store.failed < b.store.failed
   HasFailed LogName.OfKeys a b = a.keys.failed < b.keys.failed
 
-  -- a disk's count of faults stands at its end: from then on a seat counts a failure in each turn of its log
-  pub record StandsAtEnd (disks : disk.Ghosts D) : Type 0 where
-    pub stood : D
-    pub stands : 2 ^ 64 - 1 ≤ disks.faults stood
-
-  -- this log's disk failed in no turn of this call: the seat's count of failures is as before, unless that of a disk stands at its end
-  abbrev pub IsQuiet : disk.Ghosts D → LogName → Seats D → Seats D → Type 0
-  IsQuiet disks log a b = (failures (views_of b) log ≡ failures (views_of a) log) ⊎ StandsAtEnd disks
+  -- This log's disk failed in no turn of this call: the seat's count of failures is as before. But where the count of a disk stands at its
+  -- end, a seat counts a failure in each of its turns.
+  pub data IsQuiet (disks : disk.Ghosts D) (log : LogName) (a b : Seats D) : Type 0 where
+    Stays : failures (views_of b) log ≡ failures (views_of a) log → IsQuiet disks log a b
+    AtEnd : (stood : D) → 2 ^ 64 - 1 ≤ disks.faults stood → IsQuiet disks log a b

@@ -1,5 +1,5 @@
 //! One caller of a host that many share, as who has its logs.
-ghost use Rattle.std.proofs.Common.{ap, inl, refl};
+ghost use Rattle.std.proofs.Common.{ap, refl};
 ghost use Rattle.std.specs.Prelude.{◌≡◌};
 ghost use Rattle.up_shared.specs.Callers.{IsTied, failed_within, looked_since, quiet_trans, seats_later, tied_same, tied_still, tied_trans, tied_wider};
 ghost use Rattle.up_shared.specs.Jobs.{there};
@@ -154,7 +154,7 @@ impl<'a, D: Disk + Drop, R: Wait> Logs for Caller<'a, D, R> {
     ghost rises_within = { λ log but a b c d p h q.
         failed_within log a.seats.now b.seats.now c.seats.now d.seats.now p.later h q.later };
 
-    ghost quiet_same = { λ log a. inl refl };
+    ghost quiet_same = { λ log a. IsQuiet.Stays refl };
 
     ghost quiet_joined = { λ log a b c p q.
         quiet_trans D.Disk log a.seats.now b.seats.now c.seats.now p q };

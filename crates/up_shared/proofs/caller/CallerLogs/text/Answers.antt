@@ -1,4 +1,4 @@
-use Rattle.std.proofs.Common.{◌≡◌, Some, ap, inl, option_map, position, refl, subst, sym, ◌∙◌}
+use Rattle.std.proofs.Common.{◌≡◌, Some, ap, option_map, position, refl, subst, sym, ◌∙◌}
 use Rattle.std.specs.Prelude.{IfOk}
 use Rattle.up_calls.proofs.ShownLemmas.{but_none}
 use Rattle.up_calls.specs.Gathered.{OwnText}
@@ -58,7 +58,7 @@ returns-clause-tie g c =
     c.args.self.now.seats.ghost_name (ap (λ s. s.log) t.turn.did_it.stays)
 
 pub returns-in_default-clause-quiet : goal.returns-in_default-clause-quiet
-returns-in_default-clause-quiet g c = record { all = λ log. inl refl }
+returns-in_default-clause-quiet g c = record { all = λ log. IsQuiet.Stays refl }
 
 pub returns-clause-quiet : goal.returns-clause-quiet
 returns-clause-quiet g c =
