@@ -1,4 +1,5 @@
 use Rattle.std.proofs.Common.{◌≡◌, Ok}
+use Rattle.up_calls.proofs.AsksLemmas.{Tries-none, Tries-one}
 use Rattle.up_calls.proofs.ShownLemmas.{but_apart, elsewhere_quiet, local_quiet}
 use Rattle.up_calls.specs.Routes.{LogName}
 use Rattle.up_entry.specs.declared.fetch.Fetch.TheVariants as fetch
@@ -17,3 +18,10 @@ returns-in-Address-clause-quiet g c =
 
 pub returns-in-Address-clause-apart : goal.returns-in-Address-clause-apart
 returns-in-Address-clause-apart g c = record { others = λ log other. g.met.B.Logs.quiet_same log c.args.logs.now }
+
+pub returns-in-Local-clause-tried : goal.returns-in-Local-clause-tried
+returns-in-Local-clause-tried g c = Tries-none g.L.Loader.fetches g.L.Loader.faults g.L.Loader.tied g.met.L.Loader.same c.args.loader.now
+
+pub returns-in-Address-clause-tried : goal.returns-in-Address-clause-tried
+returns-in-Address-clause-tried g c =
+    Tries-one g.L.Loader.fetches g.L.Loader.faults g.L.Loader.tied c.args.loader.now c.fetch.new.self _ _ _ c.fetch.ensures.given c.fetch.ensures.counts c.fetch.ensures.tie
