@@ -307,8 +307,8 @@ module _ {D : Type 0} where
   failed_within LogName.OfKeys a b c d one h two = let up = one.keys.failed in let on = two.keys.failed in omega (arith, up, h, on)
 
   -- a disk that failed in neither of two calls failed in none of both
-  pub quiet_trans : (disks : disk.Ghosts D) (log : LogName) (a b c : Seats D)
+  pub quiet_trans : {disks : disk.Ghosts D} (log : LogName) (a b c : Seats D)
       → IsQuiet disks log a b → IsQuiet disks log b c → IsQuiet disks log a c
-  quiet_trans disks log a b c (IsQuiet.Stays one) (IsQuiet.Stays two) = IsQuiet.Stays (two ∙ one)
-  quiet_trans disks log a b c (IsQuiet.Stays one) (IsQuiet.AtEnd stood end) = IsQuiet.AtEnd stood end
-  quiet_trans disks log a b c (IsQuiet.AtEnd stood end) two = IsQuiet.AtEnd stood end
+  quiet_trans log a b c (IsQuiet.Stays one) (IsQuiet.Stays two) = IsQuiet.Stays (two ∙ one)
+  quiet_trans log a b c (IsQuiet.Stays one) (IsQuiet.AtEnd stood end) = IsQuiet.AtEnd stood end
+  quiet_trans log a b c (IsQuiet.AtEnd stood end) two = IsQuiet.AtEnd stood end

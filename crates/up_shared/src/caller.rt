@@ -157,7 +157,7 @@ impl<'a, D: Disk + Drop, R: Wait> Logs for Caller<'a, D, R> {
     ghost quiet_same = { λ log a. IsQuiet.Stays refl };
 
     ghost quiet_joined = { λ log a b c p q.
-        quiet_trans D.Disk log a.seats.now b.seats.now c.seats.now p q };
+        quiet_trans log a.seats.now b.seats.now c.seats.now p q };
 }
 
 // What was loaded is there, unless memory was wanting.
