@@ -7,6 +7,7 @@ pub mod LaterLemmas
 pub mod ApartLemmas
 pub mod RoundLemmas
 pub mod GatherLemmas
+pub mod KeptLemmas
 pub mod TurnLemmas
 pub mod BlockLemmas
 pub mod CameLemmas
@@ -17,3 +18,4 @@ pub mod SettledLemmas
 pub mod StepLemmas
 pub mod GroupTextLemmas
 pub mod StateLemmas
+pub mod ShownLemmas

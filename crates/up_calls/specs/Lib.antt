@@ -8,7 +8,9 @@ pub mod Routes
 pub mod Calls
 pub mod Rounds
 pub mod Gathered
+pub mod Kept
 pub mod Told
+pub mod Shown
 pub mod Answered
 pub mod Alike
 pub mod Done

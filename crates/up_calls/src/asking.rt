@@ -1,10 +1,12 @@
 //! One request, whoever has the logs.
-ghost use Rattle.std.specs.Prelude.{◌≡◌, ◌<◌};
+ghost use Rattle.std.specs.Prelude.{◌≡◌};
 ghost use Rattle.up_calls.specs.Alike.{TellsNoMore};
 ghost use Rattle.up_calls.specs.Answered.{Came, Leaves, LoadsInRounds, Risen};
 ghost use Rattle.up_calls.specs.Calls.{Asked};
 ghost use Rattle.up_calls.specs.Routes.{log_asked, service_of};
+ghost use Rattle.up_calls.specs.Shown.{FailsAsShown};
 ghost use Rattle.up_calls.specs.declared.service.Service.TheVariants as service;
+ghost use Rattle.up_ends.specs.Moments.{IsMoment};
 
 use crate::asked::ask_directory;
 use crate::event::Event;
@@ -29,7 +31,7 @@ pub fn ask<B: Logs, L: Loader>(
     now: u64,
 ) -> Event
     requires ready { B.ready logs.old }
-    requires moment { now < 253402207200 }
+    requires moment { IsMoment now }
     ensures asked { Asked L.Loader (B.operator_of logs.old) (B.views logs.old) loader.old
         (record { user = user.now; request = request.now }) result
         (B.views logs.new) loader.new }
@@ -37,6 +39,8 @@ pub fn ask<B: Logs, L: Loader>(
         (record { user = user.now; request = request.now }) result }
     ensures risen { Risen (λ log. B.rises log logs.old logs.new)
         (L.faults loader.old) (L.faults loader.new)
+        (record { user = user.now; request = request.now }) result }
+    ensures quiet { FailsAsShown (λ log. B.quiet log logs.old logs.new)
         (record { user = user.now; request = request.now }) result }
     ensures rounds { LoadsInRounds (B.views logs.old) (B.views logs.new)
         (record { user = user.now; request = request.now }) result }
@@ -60,11 +64,13 @@ fn ask_by<B: Logs, L: Loader>(
     now: u64,
 ) -> Event
     requires ready { B.ready logs.old }
-    requires moment { now < 253402207200 }
+    requires moment { IsMoment now }
     ensures came { Came L.Loader (B.operator_of logs.old)
         (λ log n. B.left log n logs.old logs.new) (λ log. B.rises log logs.old logs.new)
         (B.views logs.old) (B.views logs.new)
         (record { user = user.now; request = request.now }) loader.old loader.new result }
+    ensures quiet { FailsAsShown (λ log. B.quiet log logs.old logs.new)
+        (record { user = user.now; request = request.now }) result }
     ensures tie { B.tied (log_asked (record { user = user.now; request = request.now }))
         logs.old logs.new }
     ensures moment { result.moment ≡ now }
@@ -91,6 +97,8 @@ fn ask_store<B: Logs, L: Loader>(
         (λ log n. B.left log n logs.old logs.new) (λ log. B.rises log logs.old logs.new)
         (B.views logs.old) (B.views logs.new)
         (record { user = user.now; request = request.now }) loader.now loader.now result }
+    ensures quiet { FailsAsShown (λ log. B.quiet log logs.old logs.new)
+        (record { user = user.now; request = request.now }) result }
     ensures tie { B.tied (log_asked (record { user = user.now; request = request.now }))
         logs.old logs.new }
     ensures moment { result.moment ≡ now }
@@ -118,6 +126,8 @@ fn ask_keys<B: Logs, L: Loader>(
         (λ log n. B.left log n logs.old logs.new) (λ log. B.rises log logs.old logs.new)
         (B.views logs.old) (B.views logs.new)
         (record { user = user.now; request = request.now }) loader.now loader.now result }
+    ensures quiet { FailsAsShown (λ log. B.quiet log logs.old logs.new)
+        (record { user = user.now; request = request.now }) result }
     ensures tie { B.tied (log_asked (record { user = user.now; request = request.now }))
         logs.old logs.new }
     ensures moment { result.moment ≡ now }

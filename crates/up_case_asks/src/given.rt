@@ -1,5 +1,6 @@
 //! What the next request comes with, and what it asks by the words of a script.
 ghost use Rattle.std.specs.Prelude.{◌≡◌, ◌<◌, nat_lt, IfOk};
+ghost use Rattle.up_ends.specs.Moments.{IsMoment, is_moment};
 
 use std::alloc::{AllocError, Global};
 use std::hash::RandomState;
@@ -12,7 +13,7 @@ use up_lists::Items;
 use up_names::{Path, User};
 use up_policy::{LoadAnswer, Loaded};
 use up_refs::Reference;
-use up_text::{ClientLine, read_client_line, read_request};
+use up_text::{ClientLine, LineWords};
 use up_wire::Request;
 
 /// The first moment that is none of a request.
@@ -63,10 +64,10 @@ impl Given {
         user: &User,
         words: Words<'_>,
     ) -> Result<Request, Fault> {
-        let line = words_of(alloc, words.some()?)?;
-        match read_request(alloc, line.as_slice(), user)? {
+        let line = LineWords::new(words_of(alloc, words.some()?)?);
+        match line.request(alloc, user)? {
             Some(request) => Ok(request),
-            None => self.put_request(alloc, user, line.as_slice()),
+            None => self.put_request(alloc, user, &line),
         }
     }
 
@@ -74,9 +75,9 @@ impl Given {
         &mut self,
         alloc: Global,
         user: &User,
-        words: &[Bytes],
+        line: &LineWords,
     ) -> Result<Request, Fault> {
-        match read_client_line(alloc, words)? {
+        match line.client_line(alloc)? {
             Some(ClientLine::Put(path, time, sequence, bytes)) => {
                 let put = put_of(alloc, user, path, time, sequence, bytes.as_slice())?;
                 note(alloc, &mut self.fetched, bytes)?;
@@ -89,7 +90,7 @@ impl Given {
 
 /// A moment, where it is one of a request.
 pub fn moment(now: u64) -> Result<u64, Fault>
-    ensures { IfOk result (λ now. now < 253402207200) }
+    ensures { IfOk result (λ now. IsMoment now) }
 {
     if is_in_calendar(now) {
         return Ok(now);
@@ -99,14 +100,14 @@ pub fn moment(now: u64) -> Result<u64, Fault>
 
 /// Whether a moment is one of a request.
 pub fn is_in_calendar(now: u64) -> bool
-    ensures { result ≡ nat_lt now 253402207200 }
+    ensures { result ≡ is_moment now }
 {
     now < END_OF_TIME
 }
 
 // The words of a line, each as it stands.
-fn words_of(alloc: Global, rest: &str) -> Result<Vec<Bytes>, AllocError> {
-    let mut words = Vec::new(alloc);
+fn words_of(alloc: Global, rest: &str) -> Result<Items<Bytes>, AllocError> {
+    let mut words = Items::new(alloc);
     for word in rest.split(' ') {
         words.push(copy_of(alloc, word.as_bytes())?)?;
     }

@@ -1,7 +1,9 @@
 pub mod EventLemmas
 pub mod FrontLemmas
+pub mod KeptLemmas
 pub mod NotedLemmas
 pub mod PlaceLemmas
+pub mod ReachLemmas
 pub mod StartLemmas
 pub mod TimesLemmas
 pub mod WalkLemmas

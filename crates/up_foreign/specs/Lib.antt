@@ -5,3 +5,6 @@ pub mod Walks
 pub mod Watched
 pub mod Times
 pub mod Trees
+pub mod Reaching
+pub mod Kept
+pub mod Laws

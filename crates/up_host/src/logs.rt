@@ -7,6 +7,7 @@ use up_calls::{Logs, Turn, read_block, read_text, try_keys, try_store, try_tree}
 use up_dir::Fetched;
 use up_disk::Disk;
 use up_entry::Fetch;
+use up_foreign::KeptSearch;
 use up_list::ReadRequest;
 use up_names::{Path, User};
 use up_policy::{LoadAnswer, Loaded};
@@ -15,7 +16,9 @@ use up_wire::{Reply, Request};
 
 /// Its caller has all of each log, and each call that answers of a log answers at the end of it.
 impl<D: Disk> Logs for Host<D> {
-    ghost use Rattle.std.specs.Prelude.{◌≡◌, Some};
+    ghost use Rattle.std.proofs.Common.{◌∙◌};
+    ghost use Rattle.std.specs.Prelude.{◌≡◌, Some, refl};
+    ghost use Rattle.up_calls.specs.Shown.{failures};
     ghost use Rattle.up_host.specs.Alone.{ends_at, views};
     ghost use Rattle.up_host.specs.Tied.{DiskRose, IsTied};
     ghost use Rattle.up_host.specs.TiedLaws.{left_since, rises_within, tied_joined, tied_same, tied_wider};
@@ -31,6 +34,9 @@ impl<D: Disk> Logs for Host<D> {
     ghost left = { λ log n host after. ends_at (Some log) (views D.Disk host) ≡ Some n };
 
     ghost rises = { λ log host after. DiskRose D.Disk host after };
+
+    ghost quiet = { λ log host after.
+        failures (views D.Disk after) log ≡ failures (views D.Disk host) log };
 
     fn operator(&self) -> &User {
         &self.operator
@@ -64,6 +70,7 @@ impl<D: Disk> Logs for Host<D> {
         request: &Request,
         asked: &ReadRequest,
         loaded: &Loaded,
+        kept: &mut KeptSearch,
         fetched: &Fetched,
         now: u64,
     ) -> Turn {
@@ -78,6 +85,7 @@ impl<D: Disk> Logs for Host<D> {
             request,
             asked,
             loaded,
+            kept,
             fetched,
             now,
         )
@@ -108,4 +116,8 @@ impl<D: Disk> Logs for Host<D> {
     ghost left_since = { λ log n a b c. left_since log n a b };
 
     ghost rises_within = { λ log but a b c d. rises_within but a b c d };
+
+    ghost quiet_same = { λ log a. refl };
+
+    ghost quiet_joined = { λ log a b c p q. q ∙ p };
 }

@@ -5,8 +5,8 @@
 //! `access_at` and `group_at` the texts of control files after any number of records, `nearest_at` the one that governs a path; `fits`
 //! tells exactly whether a record fits the log. `make_ready` takes all memory that a record needs, so that `enter` takes none. Each
 //! call costs what it looks at, times a logarithm: so do `positions_under`, of the changes at and below a path, and `texts_stay`, by
-//! which what a text decided at one position is known to hold at another, whatever the records between them change. `laws.rt` says what
-//! holds of every log.
+//! which what a text decided at one position is known to hold at another, whatever the records between them change. `others` has each
+//! group of another owner that a text names, or has named. `laws.rt` says what holds of every log.
 #![tactic(auto)]
 
 mod changes;
@@ -22,14 +22,18 @@ mod laws;
 mod making;
 mod mem_tree;
 mod nearest;
+mod others;
 mod positions;
 mod reading;
 mod rooms;
 mod slots;
 mod standing;
+mod starts;
 mod steps;
 mod walk;
 
+pub use fitting::has_snapshots;
+pub use groups::is_group;
 pub use laws::{
     fits_is_told_by_rules, fronts_are_logs, items_stand_below_directories,
     items_stand_in_directories, sequences_are_positions,

@@ -25,9 +25,10 @@ mod needed_groups;
 mod verdicts;
 
 pub use facts::Facts;
+pub use governors::owns_snapshots;
 pub use load_answer::LoadAnswer;
 pub use loaded::Loaded;
 pub use map_facts::MapFacts;
 pub use names::Names;
 pub use needed_groups::needs;
-pub use verdicts::{can, rights_of};
+pub use verdicts::{can, is_control, rights_of};

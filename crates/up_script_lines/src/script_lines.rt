@@ -16,10 +16,9 @@ use up_bytes::Bytes;
 use up_command::{is, key_named, user_named, words_of};
 use up_lists::Items;
 use up_names::User;
+use up_policy::owns_snapshots;
 use up_sign::HostName;
-use up_text::{
-    ClientLine, cut_word, is_request, is_silent, read_client_line, read_num, read_word, three_words,
-};
+use up_text::{ClientLine, LineWords, cut_word, is_silent, read_num, read_word, three_words};
 
 /// How many trees a host may have.
 const MOST_TREES: u64 = 8;
@@ -39,7 +38,7 @@ pub enum ScriptLine {
     /// `open N NAME USER PROOF` signs a user on.
     Open(NewSession),
     /// `N` and the words of a request, in that session.
-    Request(u64, Items<Bytes>),
+    Request(u64, LineWords),
     /// `N put ..` or `N get ..`: what the client does in that session.
     Client(u64, ClientLine),
 }
@@ -226,11 +225,11 @@ fn session_line(
     let Some(number) = session_named(word) else {
         return Ok(None);
     };
-    let words = words_of(alloc, words)?;
-    if let Some(call) = read_client_line(alloc, words.as_slice())? {
+    let words = LineWords::new(words_of(alloc, words)?);
+    if let Some(call) = words.client_line(alloc)? {
         return Ok(Some(ScriptLine::Client(number, call)));
     }
-    if !is_request(words.as_slice()) {
+    if !words.is_request() {
         return Ok(None);
     }
     Ok(Some(ScriptLine::Request(number, words)))
@@ -312,16 +311,6 @@ fn are_plain(owners: &[User]) -> bool
     ensures { result ≡ list_all (λ owner. not (owns_snapshots owner)) owners.now }
 {
     owners.iter().all(|owner| !owns_snapshots(owner))
-}
-
-/// Whether a user is a snapshot user.
-pub fn owns_snapshots(owner: &User) -> bool
-    ensures { result ≡ owns_snapshots owner.now }
-{
-    match owner.suffix() {
-        Some(suffix) => suffix == "snapshot",
-        None => false,
-    }
 }
 
 /// Whether no user stands twice; it compares each with all behind it, so the list has to be short.

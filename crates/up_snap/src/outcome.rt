@@ -9,7 +9,7 @@ ghost use Rattle.up_log_tree.specs.Fits.{Fits, root_of, snapshot_user};
 ghost use Rattle.up_log_tree.specs.Logs.{Log};
 ghost use Rattle.up_log_tree.specs.Snapshots.{snap_at};
 ghost use Rattle.up_log_tree.specs.Trees.{node_at, tree_of};
-ghost use Rattle.up_snap.specs.Firsts.{IsMoment};
+ghost use Rattle.up_ends.specs.Moments.{IsMoment};
 ghost use Rattle.up_snap.specs.Looked.{IsSnapUser, look_at};
 ghost use Rattle.up_snap.specs.Outcomes.{log_with};
 
@@ -132,7 +132,7 @@ fn snapshot_record(tree: &MemTree, snap_user: &User, now: u64) -> Result<Led, Al
     ensures fits { IfOk result (λ led. IfOk led (Fits tree.now.owner tree.now.log)) }
 {
     let _text = snap_user.text();
-    let _records = tree.position();
+    tree.recall();
     if has_no_root(tree)? {
         return Ok(Err(Reply::NotExist));
     }

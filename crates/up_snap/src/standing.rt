@@ -1,5 +1,5 @@
 //! What stands at a path of a snapshot tree.
-ghost use Rattle.std.specs.Prelude.{◌≡◌, ◌<◌, ◌≤◌, ◌||◌, Some, length, option_map, IfOk, IfSome};
+ghost use Rattle.std.specs.Prelude.{◌≡◌, ◌≤◌, ◌||◌, Some, length, option_map, IfOk, IfSome};
 ghost use Rattle.up_list.specs.Entries.{entry_at, entry_of};
 ghost use Rattle.up_list.specs.Founds.{entry_found};
 ghost use Rattle.up_list.specs.Reads.{file_text};
@@ -8,7 +8,8 @@ ghost use Rattle.up_log_tree.specs.Trees.{node_at, tree_at};
 ghost use Rattle.up_answers.specs.SnapshotTrees.{made_up, snapshots_to};
 ghost use Rattle.up_names.specs.Texts.{UserName};
 ghost use Rattle.up_names.specs.PathNames.{PathName, is_under};
-ghost use Rattle.up_snap.specs.Firsts.{IsMoment, IsTimed, bearing_at, sooner};
+ghost use Rattle.up_snap.specs.Firsts.{IsTimed, bearing_at, sooner};
+ghost use Rattle.up_ends.specs.Moments.{IsMoment};
 ghost use Rattle.up_snap.specs.Shown.{first_to, old_path, shown_node, shown_root};
 ghost use Rattle.up_snap.specs.Standing.{node_of, standing_node};
 
@@ -69,7 +70,7 @@ fn first_above(
     ensures { IfOk result (λ first. first
         ≡ first_to snap_user.now tree.now.log path.now (length tree.now.log)) }
 {
-    let _records = tree.position();
+    tree.recall();
     let mut first = None;
     for i in 0..u64::MAX {
         let Some(time) = tree.snap_time(i) else {
@@ -92,7 +93,7 @@ fn first_below(
     ensures { IfOk result (λ first. first
         ≡ first_to snap_user.now tree.now.log path.now (length tree.now.log)) }
 {
-    let _records = tree.position();
+    tree.recall();
     match moment_of(path) {
         Some(time) => sooner_to(alloc, tree, snap_user, path, time, None),
         None => Ok(None),
@@ -187,7 +188,7 @@ pub(crate) fn standing_at<'a>(
         ≡ node_at (snapshots_to tree.now.owner tree.now.log (length tree.now.log)) path.now) }
     ensures timed { IfOk result (λ found. IfSome found IsTimed) }
 {
-    let _records = tree.position();
+    tree.recall();
     match first_to(alloc, tree, snap_user, path)? {
         Some(shown) => standing_by(alloc, tree, path, shown),
         None => Ok(None),

@@ -45,15 +45,15 @@ returns-in-Open g c =
     (λ came h. subst (λ what. SaysCame who c.args.limits a what came b) (sym c.in-Open.is) (h, refl, refl)) c.sign_on.ensures
 
 pub ask-requires : goal.ask-requires
-ask-requires g c = rw c.as_slice.ensures (record { words = subst IsGood c.in-Request.is c.requires.good })
+ask-requires g c = record { words = subst IsGood c.in-Request.is c.requires.good }
 
 pub returns-in-Request : goal.returns-in-Request
 returns-in-Request g c =
     let who = parties g.D.Disk g.P.Loader g.V.Verifier g.C.Clock g.N.Nonces in
     let a = world c.args.sessions.now c.args.peers.now c.args.verifier.now c.args.clock.now c.args.nonces.now in
     let b = world c.ask.new.sessions c.ask.new.peers c.args.verifier.now c.ask.new.clock c.args.nonces.now in
-    weaker (λ came. AskCame g.D.Disk g.P.Loader g.C.Clock c.in-Request.number c.as_slice.result.now c.args.sessions.now c.args.peers.now c.args.clock.now came c.ask.new.sessions c.ask.new.peers c.ask.new.clock) (λ came. SaysCame who c.args.limits a c.args.says came b) c.args.out.now.items c.ask.new.out.items c.ask.result
-    (λ came h. subst (λ what. SaysCame who c.args.limits a what came b) (sym c.in-Request.is) (subst (λ words. AskCame g.D.Disk g.P.Loader g.C.Clock c.in-Request.number words c.args.sessions.now c.args.peers.now c.args.clock.now came c.ask.new.sessions c.ask.new.peers c.ask.new.clock) c.as_slice.ensures h, refl, refl)) c.ask.ensures
+    weaker (λ came. AskCame g.D.Disk g.P.Loader g.C.Clock c.in-Request.number c.in-Request.words c.args.sessions.now c.args.peers.now c.args.clock.now came c.ask.new.sessions c.ask.new.peers c.ask.new.clock) (λ came. SaysCame who c.args.limits a c.args.says came b) c.args.out.now.items c.ask.new.out.items c.ask.result
+    (λ came h. subst (λ what. SaysCame who c.args.limits a what came b) (sym c.in-Request.is) (h, refl, refl)) c.ask.ensures
 
 pub returns-in-Client : goal.returns-in-Client
 returns-in-Client g c =
