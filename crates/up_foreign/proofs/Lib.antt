@@ -2,6 +2,7 @@ pub mod EventLemmas
 pub mod FrontLemmas
 pub mod NotedLemmas
 pub mod PlaceLemmas
+pub mod ReachLemmas
 pub mod StartLemmas
 pub mod TimesLemmas
 pub mod WalkLemmas

@@ -5,3 +5,4 @@ pub mod Walks
 pub mod Watched
 pub mod Times
 pub mod Trees
+pub mod Reaching

@@ -7,10 +7,13 @@
 //! A Glob looks at each item that its pattern can match, a Watch at the path of each record above its sequence that is under the watched
 //! path: in the tree as it is, and in the tree directly after the record. These records are found by their positions. A text that governs
 //! many of these places is searched once in the tree as it is, and in the trees before once, and again only where it or a Group file has
-//! changed since (`noted.rt`); each further place costs a look at the path.
+//! changed since (`noted.rt`); each further place costs a look at the path. Where no text of the tree names a group of another owner, or has
+//! named one, nothing is looked at; and a Watch ends its search once all groups were found that the tree's texts and the loaded ones name
+//! (`left.rt`).
 #![tactic(auto)]
 
 mod items;
+mod left;
 mod needed;
 mod noted;
 

@@ -1,5 +1,5 @@
 //! Which groups have to be loaded for a request.
-ghost use Rattle.std.specs.Prelude.{◌≡◌, ◌≤◌, ◌∷◌, IfOk, OnOk, length, map};
+ghost use Rattle.std.specs.Prelude.{◌≡◌, ◌≤◌, ◌∷◌, true, IfOk, OnOk, length, map};
 ghost use Rattle.std.specs.List.{AllByRecursion, flat_map};
 ghost use Rattle.std.specs.Map.{keys_of};
 ghost use Rattle.up_answers.specs.Needs.{event_places_to, items_where, needs, needs_asked, owner_places, places, places_for, watch_places, where_ordinary};
@@ -14,11 +14,13 @@ ghost use Rattle.up_list.specs.Asking.{owner_asked};
 ghost use Rattle.up_policy.specs.Reached.{with_paths};
 ghost use Rattle.up_log_tree.specs.Trees.{tree_at, tree_of};
 ghost use Rattle.up_foreign.specs.Foreign.{IsOwnChange, in_tree, needed_in, places_at};
+ghost use Rattle.up_foreign.specs.Reaching.{NeedsNothing};
 ghost use Rattle.up_foreign.specs.Times.{AreBothNoted};
 ghost use Rattle.up_foreign.specs.Trees.{log_over};
 ghost use Rattle.up_tree.specs.States.{log_of};
 
 use crate::items::{items_matching, items_under};
+use crate::left::Left;
 use crate::noted::{Noted, Times};
 use std::alloc::{AllocError, Global};
 use up_disk::Disk;
@@ -107,8 +109,39 @@ fn names_for(
     }
 }
 
-/// Adds what is needed at the places of a request: none where its path is not of the tree.
+/// Adds what is needed at the places of a request: nothing, where no text names a group of another owner.
 fn note_asked(
+    alloc: Global,
+    tree: &MemTree,
+    user: &User,
+    asked: &ReadRequest,
+    loaded: &Loaded,
+    names: &mut Names,
+) -> Result<(), AllocError>
+    ensures { (limits : Limits) → OnOk result (names.new
+        ≡ with_paths names.old (flat_map (needed_in tree.now.owner loaded.now)
+        (places_for (log_over limits tree.now) user.now asked.now))) }
+{
+    if needs_nothing(tree, loaded) {
+        return Ok(());
+    }
+    note_places(alloc, tree, user, asked, loaded, names)
+}
+
+/// Whether no text of the tree names a group of another owner, or has named one once, and no group was loaded: then nothing is needed,
+/// whatever is looked at. It looks at no text.
+fn needs_nothing(tree: &MemTree, loaded: &Loaded) -> bool
+    ensures { result ≡ true → NeedsNothing tree.now loaded.now }
+{
+    let given = loaded.len();
+    if given == 0 {
+        return tree.others().len() == 0;
+    }
+    false
+}
+
+/// Adds what is needed at the places of a request: none where its path is not of the tree.
+fn note_places(
     alloc: Global,
     tree: &MemTree,
     user: &User,
@@ -401,7 +434,7 @@ fn note_events(
 }
 
 /// Adds what is needed at the paths that the records at these positions change. A text is looked at once, and again where it or a Group
-/// file has changed since.
+/// file has changed since; once all that can be needed was found, the positions behind are not looked at.
 fn note_positions(
     alloc: Global,
     tree: &MemTree,
@@ -416,7 +449,11 @@ fn note_positions(
         (flat_map (places_at tree.now.log) positions.now))) }
 {
     let mut times = Times::new(alloc);
+    let mut left = Left::new(alloc, tree, loaded, positions.len())?;
     for position in positions {
+        if left.is_done(names) {
+            return Ok(());
+        }
         note_record(alloc, tree, user, *position, loaded, &mut times, names)?;
     }
     Ok(())

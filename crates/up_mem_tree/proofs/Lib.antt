@@ -34,3 +34,5 @@ pub mod Grouped
 pub mod Quiet
 pub mod Nameds
 pub mod Standings
+pub mod Othered
+pub mod Started

@@ -3,6 +3,8 @@ pub mod Slots
 pub mod Edits
 pub mod Steps
 pub mod Kept
+pub mod Starts
 pub mod ChangesBelow
 pub mod Groups
+pub mod Others
 pub mod MemTrees

@@ -4,6 +4,8 @@ ghost use Rattle.std.specs.List.{AllByRecursion};
 ghost use Rattle.std.specs.Option.{option_copied};
 ghost use Rattle.std.specs.Vec.{vec_capacity, vec_len};
 ghost use Rattle.up_mem_tree.specs.Kept.{Stands, paths_of, slots_of};
+ghost use Rattle.up_mem_tree.specs.Slots.{IsDeepest};
+ghost use Rattle.up_mem_tree.specs.Starts.{IsStartOf};
 ghost use Rattle.up_mem_tree.specs.ChangesBelow.{AreNoted, CanNote, CanNoteRecord, HasRoomAt, HasRoomFrom, Notes, NotesWay, noted_all, noted_in};
 ghost use Rattle.up_log_tree.specs.Changes.{changes_under, path_of_change};
 ghost use Rattle.up_log_tree.specs.Orders.{has_path};
@@ -51,14 +53,20 @@ fn reserve_at(changes_below: &mut Vec<Under>, id: usize) -> Result<(), AllocErro
     reserve_one(&mut changes_below[id].positions)
 }
 
-/// Makes room at the slots of the first elements of a path.
-fn reserve_way(changes_below: &mut Vec<Under>, kept: &Kept, path: &Path) -> Result<(), AllocError>
+/// Makes room at the slots of the first elements of a path. The way up begins at the slot of the longest prefix that has one.
+fn reserve_way(
+    changes_below: &mut Vec<Under>,
+    kept: &Kept,
+    path: &Path,
+    start: Option<(u64, usize)>,
+) -> Result<(), AllocError>
     requires stands { Stands kept.now }
+    requires deepest { IsDeepest (paths_of kept.now) (slots_of kept.now) path.now start }
     requires enough { length (slots_of kept.now) ≤ length changes_below.old.items }
     ensures same { noted_all changes_below.new.items ≡ noted_all changes_below.old.items }
     ensures room { OnOk result (HasRoomFrom changes_below.new.items (slots_of kept.now) path.now 0) }
 {
-    let Some((depth, deepest)) = kept.deepest(path) else {
+    let Some((depth, deepest)) = start else {
         return Ok(());
     };
     let mut id = deepest;
@@ -118,8 +126,10 @@ pub(crate) fn make_room(
     changes_below: &mut Vec<Under>,
     kept: &Kept,
     rec: &Rec,
+    start: Option<(u64, usize)>,
 ) -> Result<(), AllocError>
     requires stands { Stands kept.now }
+    requires start { IsStartOf kept.now rec.now start }
     requires noted { AreNoted kept.now.log.items (slots_of kept.now)
         (noted_all changes_below.old.items) }
     ensures noted { AreNoted kept.now.log.items (slots_of kept.now)
@@ -127,21 +137,27 @@ pub(crate) fn make_room(
     ensures room { OnOk result (CanNoteRecord changes_below.new.items (slots_of kept.now) rec.now) }
 {
     match path_of_change(rec) {
-        Some(path) => make_room_for(changes_below, kept, path),
+        Some(path) => make_room_for(changes_below, kept, path, start),
         None => Ok(()),
     }
 }
 
 /// Makes room to note a record that changes a path.
-fn make_room_for(changes_below: &mut Vec<Under>, kept: &Kept, path: &Path) -> Result<(), AllocError>
+fn make_room_for(
+    changes_below: &mut Vec<Under>,
+    kept: &Kept,
+    path: &Path,
+    start: Option<(u64, usize)>,
+) -> Result<(), AllocError>
     requires stands { Stands kept.now }
+    requires deepest { IsDeepest (paths_of kept.now) (slots_of kept.now) path.now start }
     requires enough { length (slots_of kept.now) ≤ length changes_below.old.items }
     ensures noted { (i : ℕ) → noted_in (noted_all changes_below.new.items) i
         ≡ noted_in (noted_all changes_below.old.items) i }
     ensures size { length changes_below.old.items ≤ length changes_below.new.items }
     ensures room { OnOk result (CanNote changes_below.new.items (slots_of kept.now) path.now) }
 {
-    match reserve_way(changes_below, kept, path) {
+    match reserve_way(changes_below, kept, path, start) {
         Ok(()) => reserve_spare(changes_below, kept.slots.len()),
         Err(fault) => Err(fault),
     }
@@ -162,14 +178,21 @@ fn note_at(changes_below: &mut Vec<Under>, id: usize, position: u64)
 }
 
 /// Notes a position at the slots of the first elements of a path, and answers whether the path has a slot.
-fn note_way(changes_below: &mut Vec<Under>, kept: &Kept, path: &Path, position: u64) -> bool
+fn note_way(
+    changes_below: &mut Vec<Under>,
+    kept: &Kept,
+    path: &Path,
+    start: Option<(u64, usize)>,
+    position: u64,
+) -> bool
     requires stands { Stands kept.now }
+    requires deepest { IsDeepest (paths_of kept.now) (slots_of kept.now) path.now start }
     requires room { HasRoomFrom changes_below.old.items (slots_of kept.now) path.now 0 }
     ensures notes { NotesWay (slots_of kept.now) path.now 0 position
         changes_below.old.items changes_below.new.items }
     ensures named { result ≡ has_path (paths_of kept.now) path.now }
 {
-    let Some((depth, deepest)) = kept.deepest(path) else {
+    let Some((depth, deepest)) = start else {
         return false;
     };
     let mut id = deepest;
@@ -185,20 +208,33 @@ fn note_way(changes_below: &mut Vec<Under>, kept: &Kept, path: &Path, position: 
 }
 
 /// Notes the position of a record that changes a path. It takes no memory.
-fn note_for(changes_below: &mut Vec<Under>, kept: &Kept, path: &Path, position: u64)
+fn note_for(
+    changes_below: &mut Vec<Under>,
+    kept: &Kept,
+    path: &Path,
+    start: Option<(u64, usize)>,
+    position: u64,
+)
     requires stands { Stands kept.now }
+    requires deepest { IsDeepest (paths_of kept.now) (slots_of kept.now) path.now start }
     requires room { CanNote changes_below.old.items (slots_of kept.now) path.now }
     ensures { Notes (slots_of kept.now) (paths_of kept.now) path.now position
         changes_below.old.items changes_below.new.items }
 {
-    if !note_way(changes_below, kept, path, position) {
+    if !note_way(changes_below, kept, path, start, position) {
         note_at(changes_below, kept.slots.len(), position);
     }
 }
 
 /// Notes a record that is to be entered next. It takes no memory.
-pub(crate) fn note(changes_below: &mut Vec<Under>, kept: &Kept, rec: &Rec)
+pub(crate) fn note(
+    changes_below: &mut Vec<Under>,
+    kept: &Kept,
+    rec: &Rec,
+    start: Option<(u64, usize)>,
+)
     requires stands { Stands kept.now }
+    requires start { IsStartOf kept.now rec.now start }
     requires room { CanNoteRecord changes_below.old.items (slots_of kept.now) rec.now }
     ensures path { IfSome (path_of_change rec.now) (λ path. Notes (slots_of kept.now)
         (paths_of kept.now) path (length kept.now.log.items + 1)
@@ -206,7 +242,7 @@ pub(crate) fn note(changes_below: &mut Vec<Under>, kept: &Kept, rec: &Rec)
     ensures none { path_of_change rec.now ≡ None → changes_below.new ≡ changes_below.old }
 {
     if let Some(path) = path_of_change(rec) {
-        note_for(changes_below, kept, path, kept.log.len() as u64 + 1);
+        note_for(changes_below, kept, path, start, kept.log.len() as u64 + 1);
     }
 }
 

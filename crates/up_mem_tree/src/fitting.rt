@@ -2,10 +2,11 @@
 ghost use Rattle.std.specs.Prelude.{◌≡◌, ◌==◌, ◌&&◌, IfOk, MatchOption, ⊤, is_ok, is_some, length};
 ghost use Rattle.std.specs.List.{list_any};
 ghost use Rattle.std.specs.Option.{option_copied};
-ghost use Rattle.up_names.specs.PathNames.{parent_of};
+ghost use Rattle.up_names.specs.PathNames.{PathName, parent_of};
 ghost use Rattle.up_access.specs.AccessTexts.{access_of};
 ghost use Rattle.up_group.specs.GroupTexts.{group_of};
-ghost use Rattle.up_mem_tree.specs.Kept.{IsOwnSlot, Stands};
+ghost use Rattle.up_mem_tree.specs.Kept.{IsOwnSlot, Stands, paths_of, slots_of};
+ghost use Rattle.up_mem_tree.specs.Slots.{IsIdOf, IsParentIdOf};
 ghost use Rattle.up_log_tree.specs.Fits.{control_for, delete_fits, fits, has_place, has_snapshots, is_directory_node, is_snap_at, may_replace, put_fits, root_of, snap_fits, text_fits};
 ghost use Rattle.up_log_tree.specs.Trees.{node_at, tree_of};
 
@@ -106,40 +107,55 @@ fn is_bare(slot: &Slot) -> bool
 }
 
 impl Kept {
-    /// The slot of the directory of a path, where it has one.
-    fn parent_slot(&self, path: &Path) -> Option<&Slot>
+    /// The slot of the directory of a path, by its number, where it has one.
+    fn parent_slot(&self, parent: Option<usize>) -> Option<&Slot>
         requires { Stands self.now }
-        ensures { MatchOption (parent_of path.now) ⊤
-            (λ dir. IsOwnSlot self.now dir (option_copied result)) }
+        ensures { (path : PathName)
+            → IsParentIdOf (paths_of self.now) (slots_of self.now) path parent
+            → MatchOption (parent_of path) ⊤ (λ dir. IsOwnSlot self.now dir (option_copied result)) }
     {
-        self.slot_with(self.ids_of(path).1)
+        self.slot_with(parent)
     }
 
-    /// Whether the path is the root, or stands in a directory.
-    fn has_place(&self, path: &Path) -> bool
-        requires { Stands self.now }
+    /// Whether the path is the root, or stands in a directory, whose slot has that number, where there is one.
+    fn has_place(&self, path: &Path, parent: Option<usize>) -> bool
+        requires stands { Stands self.now }
+        requires parent { IsParentIdOf (paths_of self.now) (slots_of self.now) path.now parent }
         ensures { result ≡ has_place self.now.owner (tree_of self.now.log.items) path.now }
     {
         if path.len() == 0 {
             return path.owner() == &self.owner;
         }
-        match self.parent_slot(path) {
+        match self.parent_slot(parent) {
             Some(slot) => is_directory_node(slot.node.as_ref()),
             None => false,
         }
     }
 
-    /// Whether a Put fits.
+    /// What stands at a path, whose slot has that number, where there is one.
+    fn node_with(&self, _path: &Path, own: Option<usize>) -> Option<&Node>
+        requires stands { Stands self.now }
+        requires own { IsIdOf (paths_of self.now) (slots_of self.now) _path.now own }
+        ensures { option_copied result ≡ node_at (tree_of self.now.log.items) _path.now }
+    {
+        match self.slot_with(own) {
+            Some(slot) => slot.node.as_ref(),
+            None => None,
+        }
+    }
+
+    /// Whether a Put fits. It walks to the path once.
     #[tactic(auto, unfolding(up_log_tree::specs::Fits::put_fits))]
     fn put_fits(&self, entry: &Entry, text: &Bytes) -> Result<bool, AllocError>
         requires { Stands self.now }
         ensures { IfOk result (λ fitting. fitting
             ≡ put_fits self.now.owner self.now.log.items entry.now text.now) }
     {
+        let (own, parent) = self.ids_of(&entry.name);
         let fits = has_fixed_form(entry)
             && entry.sequence == self.log.len() as u64 + 1
-            && self.has_place(&entry.name)
-            && may_replace(self.node(&entry.name), entry.attr.kind);
+            && self.has_place(&entry.name, parent)
+            && may_replace(self.node_with(&entry.name, own), entry.attr.kind);
         if !fits {
             return Ok(false);
         }

@@ -5,8 +5,8 @@
 //! `access_at` and `group_at` the texts of control files after any number of records, `nearest_at` the one that governs a path; `fits`
 //! tells exactly whether a record fits the log. `make_ready` takes all memory that a record needs, so that `enter` takes none. Each
 //! call costs what it looks at, times a logarithm: so do `positions_under`, of the changes at and below a path, and `texts_stay`, by
-//! which what a text decided at one position is known to hold at another, whatever the records between them change. `laws.rt` says what
-//! holds of every log.
+//! which what a text decided at one position is known to hold at another, whatever the records between them change. `others` has each
+//! group of another owner that a text names, or has named. `laws.rt` says what holds of every log.
 #![tactic(auto)]
 
 mod changes;
@@ -22,11 +22,13 @@ mod laws;
 mod making;
 mod mem_tree;
 mod nearest;
+mod others;
 mod positions;
 mod reading;
 mod rooms;
 mod slots;
 mod standing;
+mod starts;
 mod steps;
 mod walk;
 

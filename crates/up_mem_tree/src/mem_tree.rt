@@ -7,6 +7,7 @@ ghost use Rattle.up_names.specs.PathNames.{cut};
 ghost use Rattle.up_policy.specs.Governors.{first_text, prefixes};
 ghost use Rattle.up_mem_tree.specs.Groups.{StayTexts};
 ghost use Rattle.up_mem_tree.specs.Kept.{IsReadyFor, IsSameKept, Stands, slots_of};
+ghost use Rattle.up_mem_tree.specs.Others.{HasAllOthers, HasStepOthers, KeepsPaths};
 ghost use Rattle.up_mem_tree.specs.Slots.{named_paths};
 ghost use Rattle.up_mem_tree.specs.ChangesBelow.{AreNoted, CanNoteRecord, noted_all};
 ghost use Rattle.up_log_tree.specs.Changes.{change_before, changes_under, last_change, record_at};
@@ -18,6 +19,8 @@ ghost use Rattle.up_log_tree.specs.Trees.{children, is_parent, node_at, standing
 use crate::changes_below::{Under, changes_above, make_room, note, reserve_one};
 use crate::groups::{group_change_at, note_group};
 use crate::kept::Kept;
+use crate::others::add_step;
+use crate::starts::start_of;
 use crate::steps::Step;
 use std::alloc::{AllocError, Global};
 use std::marker::Model;
@@ -27,6 +30,7 @@ use up_entry::Rec;
 use up_group::GroupText;
 use up_lists::Items;
 use up_log_tree::Node;
+use up_maps::OrderedMap;
 use up_names::{Path, User};
 
 /// A record that was made ready, and its step.
@@ -45,17 +49,22 @@ pub struct MemTree {
     changes_below: Vec<Under>,
     /// For each record the position of the last one up to it that changes a Group path, or 0.
     groups: Vec<u64>,
+    /// The groups of other owners that Access and Group texts have named; perhaps also some of a record that was made ready and never
+    /// entered.
+    others: OrderedMap<Path, ()>,
     ready: Option<Ready>,
 }
 
 impl Model for MemTree {
+    ghost use Rattle.std.specs.Map.{keys_of};
     ghost use Rattle.up_mem_tree.specs.MemTrees.{IsMemTree, TreeLog, ready_record};
 
     ghost Value = { TreeLog };
 
     ghost view = { λ tree. record { owner = tree.kept.owner; log = tree.kept.log.items; ready = ready_record tree.ready } };
 
-    ghost invariant = { λ tree. IsMemTree tree.kept tree.changes_below.items tree.groups tree.ready };
+    ghost invariant = { λ tree. IsMemTree tree.kept tree.changes_below.items tree.groups
+        (keys_of tree.others.entries) tree.ready };
 }
 
 /// Puts what was made ready in the place of what is there.
@@ -81,7 +90,7 @@ fn made_ready(
     ensures notes { OnOk result (CanNoteRecord changes_below.new.items (slots_of kept.new) rec) }
 {
     match kept.make_ready(&rec) {
-        Ok(step) => match make_room(changes_below, kept, &rec) {
+        Ok(step) => match make_room(changes_below, kept, &rec, start_of(&rec, &step)) {
             Ok(()) => Ok(Ready { rec, step }),
             Err(fault) => {
                 drop(rec);
@@ -96,6 +105,38 @@ fn made_ready(
     }
 }
 
+/// Makes a record ready, and adds the groups of other owners that its text names.
+#[tactic(auto, using(crate::proofs::Othered::kept_all))]
+fn made_known(
+    kept: &mut Kept,
+    changes_below: &mut Vec<Under>,
+    others: &mut OrderedMap<Path, ()>,
+    rec: Rec,
+) -> Result<Ready, AllocError>
+    requires stands { Stands kept.old }
+    requires noted { AreNoted kept.old.log.items (slots_of kept.old) (noted_all changes_below.old.items) }
+    requires fits { Fits kept.old.owner kept.old.log.items rec }
+    ensures same { IsSameKept kept.old kept.new }
+    ensures noted { AreNoted kept.new.log.items (slots_of kept.new) (noted_all changes_below.new.items) }
+    ensures rec { IfOk result (λ ready. ready.rec ≡ rec) }
+    ensures enters { IfOk result (λ ready. IsReadyFor kept.new rec ready.step) }
+    ensures notes { OnOk result (CanNoteRecord changes_below.new.items (slots_of kept.new) rec) }
+    ensures kept { KeepsPaths (keys_of others.old.entries) (keys_of others.new.entries) }
+    ensures others { IfOk result (λ ready. HasStepOthers kept.new.owner
+        (keys_of others.new.entries) ready.step) }
+{
+    match made_ready(kept, changes_below, rec) {
+        Ok(ready) => match add_step(&kept.owner, others, &ready.step) {
+            Ok(()) => Ok(ready),
+            Err(fault) => {
+                drop(ready);
+                Err(fault)
+            }
+        },
+        Err(fault) => Err(fault),
+    }
+}
+
 impl MemTree {
     /// The tree of an empty log. It takes no memory.
     pub fn new(alloc: Global, owner: User) -> MemTree
@@ -107,6 +148,7 @@ impl MemTree {
             kept: Kept::new(alloc, owner),
             changes_below: Vec::new(alloc),
             groups: Vec::new(alloc),
+            others: OrderedMap::new(alloc),
             ready: None,
         }
     }
@@ -244,6 +286,14 @@ impl MemTree {
         Ok(Items::from_vec(Vec::from_slice(*self.groups.allocator(), positions)?))
     }
 
+    /// The groups of other owners that a text of an Access or Group file names, or has named once: each of them is among these. It
+    /// takes no memory.
+    pub fn others(&self) -> &OrderedMap<Path, ()>
+        ensures { HasAllOthers self.now.owner self.now.log (keys_of result.now.entries) }
+    {
+        &self.others
+    }
+
     /// The position of the snapshot of that time.
     pub fn snap_at(&self, time: u64) -> Option<u64>
         ensures { result ≡ snap_at self.now.log time }
@@ -277,7 +327,12 @@ impl MemTree {
             drop(rec);
             return Err(fault);
         }
-        match made_ready(&mut self.kept, &mut self.changes_below, rec) {
+        match made_known(
+            &mut self.kept,
+            &mut self.changes_below,
+            &mut self.others,
+            rec,
+        ) {
             Ok(ready) => {
                 hold(&mut self.ready, Some(ready));
                 Ok(())
@@ -293,7 +348,8 @@ impl MemTree {
         ensures log { IfSome self.old.ready (λ rec. self.new.log ≡ self.old.log ++ rec ∷ []) }
     {
         if let Some(made) = self.ready.take() {
-            note(&mut self.changes_below, &self.kept, &made.rec);
+            let start = start_of(&made.rec, &made.step);
+            note(&mut self.changes_below, &self.kept, &made.rec, start);
             note_group(&mut self.groups, &self.kept, &made.rec);
             self.kept.enter(made.rec, made.step);
         }

@@ -1,6 +1,7 @@
 use Rattle.std.proofs.Common.{◌≡◌, ◌-◌, ◌+◌, ◌<◌, ◌==◌, Some, refl, sym, subst, ap, ◌∙◌, arith}
 use Rattle.up_names.specs.PathNames.{cut}
 use Rattle.up_mem_tree.specs.Kept.{paths_of, slots_of}
+use Rattle.up_mem_tree.specs.Slots.{IsDeepest}
 use Rattle.up_mem_tree.specs.ChangesBelow.{NotesWay}
 use Rattle.up_mem_tree.proofs.Upward.{never, up_to}
 use Rattle.up_mem_tree.proofs.Walks.{never_deepest}
@@ -9,15 +10,15 @@ use Rattle.up_mem_tree.proofs.changes_below.note_way.Goals as goal
 
 pub returns-in_default : goal.returns-in_default
 returns-in_default c = record {
-  notes = notes_nowhere c.args.kept.now c.requires.stands c.args.path.now c.args.changes_below.now.items c.args.position (c.in_default.ensures);
-  named = sym (never_deepest c.args.kept.now.owner (paths_of c.args.kept.now) (slots_of c.args.kept.now) c.requires.stands.linked c.args.path.now (c.in_default.ensures));
+  notes = notes_nowhere c.args.kept.now c.requires.stands c.args.path.now c.args.changes_below.now.items c.args.position (subst (IsDeepest (paths_of c.args.kept.now) (slots_of c.args.kept.now) c.args.path.now) c.in_default.is c.requires.deepest);
+  named = sym (never_deepest c.args.kept.now.owner (paths_of c.args.kept.now) (slots_of c.args.kept.now) c.requires.stands.linked c.args.path.now (subst (IsDeepest (paths_of c.args.kept.now) (slots_of c.args.kept.now) c.args.path.now) c.in_default.is c.requires.deepest));
 }
 
 pub loop-up-init : goal.loop-up-init
 loop-up-init c =
     let kept = c.args.kept.now in
     let path = c.args.path.now in
-    let deep = c.in-Some.ensures in
+    let deep = subst (IsDeepest (paths_of c.args.kept.now) (slots_of c.args.kept.now) c.args.path.now) c.in-Some.is c.requires.deepest in
     let some = deep.some c.in-Some.depth c.in-Some.deepest refl in
     let whole : c.in-Some.depth - 0 ≡ c.in-Some.depth = omega arith in (
       omega arith,
@@ -71,4 +72,4 @@ returns-clause-notes c =
     (subst (λ m. NotesWay (slots_of kept) path (m + 1) c.args.position c.args.changes_below.now.items c.loop-up.changes_below.items) root i.3) done.more done.others done.size
 
 pub returns-clause-named : goal.returns-clause-named
-returns-clause-named c = named_at c.args.kept.now c.requires.stands c.args.path.now c.in-Some.depth c.in-Some.deepest _ (c.in-Some.ensures) (ap (λ n. c.in-Some.depth == n) c.len.ensures)
+returns-clause-named c = named_at c.args.kept.now c.requires.stands c.args.path.now c.in-Some.depth c.in-Some.deepest _ (subst (IsDeepest (paths_of c.args.kept.now) (slots_of c.args.kept.now) c.args.path.now) c.in-Some.is c.requires.deepest) (ap (λ n. c.in-Some.depth == n) c.len.ensures)

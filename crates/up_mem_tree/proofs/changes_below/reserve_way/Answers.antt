@@ -1,6 +1,7 @@
 use Rattle.std.proofs.Common.{◌≡◌, ◌-◌, ◌+◌, ◌<◌, Some, refl, sym, subst, ap, ◌∙◌, arith}
 use Rattle.up_names.specs.PathNames.{cut}
-use Rattle.up_mem_tree.specs.Kept.{slots_of}
+use Rattle.up_mem_tree.specs.Kept.{paths_of, slots_of}
+use Rattle.up_mem_tree.specs.Slots.{IsDeepest}
 use Rattle.up_mem_tree.specs.ChangesBelow.{HasRoomFrom}
 use Rattle.up_mem_tree.proofs.Reserved.{on_ok}
 use Rattle.up_mem_tree.proofs.Upward.{never, up_to}
@@ -11,14 +12,14 @@ use Rattle.up_mem_tree.proofs.changes_below.reserve_way.Goals as goal
 pub returns-in_default : goal.returns-in_default
 returns-in_default c = record {
   same = refl;
-  room = room_nowhere c.args.kept.now c.requires.stands c.args.path.now c.args.changes_below.now.items (c.in_default.ensures);
+  room = room_nowhere c.args.kept.now c.requires.stands c.args.path.now c.args.changes_below.now.items (subst (IsDeepest (paths_of c.args.kept.now) (slots_of c.args.kept.now) c.args.path.now) c.in_default.is c.requires.deepest);
 }
 
 pub loop-up-init : goal.loop-up-init
 loop-up-init c =
     let kept = c.args.kept.now in
     let path = c.args.path.now in
-    let deep = c.in-Some.ensures in
+    let deep = subst (IsDeepest (paths_of c.args.kept.now) (slots_of c.args.kept.now) c.args.path.now) c.in-Some.is c.requires.deepest in
     let some = deep.some c.in-Some.depth c.in-Some.deepest refl in
     let whole : c.in-Some.depth - 0 ≡ c.in-Some.depth = omega arith in (
       omega arith,

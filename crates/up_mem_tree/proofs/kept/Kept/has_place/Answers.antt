@@ -14,7 +14,7 @@ returns-then-len-eq0 c =
 pub returns-in-Some : goal.returns-in-Some
 returns-in-Some c =
     c.is_directory_node.ensures ∙ ap is_directory_node c.as_ref.ensures.value
-    ∙ in_directory c.args.self.now c.requires c.args.path.now c.in-Some.slot.now (λ none. c.if-len-eq0.false (c.len.ensures ∙ none)) c.in-Some.ensures
+    ∙ in_directory c.args.self.now c.requires.stands c.args.path.now c.in-Some.slot.now (λ none. c.if-len-eq0.false (c.len.ensures ∙ none)) (c.in-Some.ensures c.args.path.now c.requires.parent)
 
 pub returns-in-None : goal.returns-in-None
-returns-in-None c = in_none c.args.self.now c.requires c.args.path.now (λ none. c.if-len-eq0.false (c.len.ensures ∙ none)) c.in-None.ensures
+returns-in-None c = in_none c.args.self.now c.requires.stands c.args.path.now (λ none. c.if-len-eq0.false (c.len.ensures ∙ none)) (c.in-None.ensures c.args.path.now c.requires.parent)

@@ -1,8 +1,9 @@
 use Rattle.std.proofs.Common.{subst, sym}
+use Rattle.std.specs.Map.{keys_of}
 use Rattle.up_mem_tree.specs.Groups.{AreGroupChanges}
 use Rattle.up_mem_tree.specs.MemTrees.{IsMemTree, TreeLog}
 use Rattle.up_log_tree.specs.Fits.{Fits}
-use Rattle.up_mem_tree.proofs.Readied.{made, not_made}
+use Rattle.up_mem_tree.proofs.Readied.{made, more_others, not_made, same_others}
 use Rattle.up_mem_tree.proofs.Within.{same_stands}
 use Rattle.up_mem_tree.proofs.mem_tree.MemTree.make_ready.Goals as goal
 
@@ -10,19 +11,23 @@ pub invariant_of-self-in-Ok : goal.invariant_of-self-in-Ok
 invariant_of-self-in-Ok c =
     let e = c.in-Ok.ensures in
     let old = c.self.inside.kept in
-    let new = c.made_ready.new.kept in
+    let new = c.made_known.new.kept in
     let groups = c.reserve_one.new.positions in
     let fits : Fits old.owner old.log.items c.args.rec = subst (λ (v : TreeLog). Fits v.owner v.log c.args.rec) (sym c.self.view_is) c.requires in
     let grouped : AreGroupChanges old.log.items groups.items = subst (AreGroupChanges old.log.items) (sym c.reserve_one.ensures.items) c.self.invariant.grouped in
-    subst (IsMemTree new c.made_ready.new.changes_below.items groups) (sym c.hold-in-Ok.ensures)
-    (made old new c.made_ready.new.changes_below.items groups c.args.rec c.in-Ok.ready e.same c.self.invariant.stands e.noted grouped c.in_default.ensures.room fits e.rec e.enters e.notes)
+    let others = keys_of c.made_known.new.others.entries in
+    subst (IsMemTree new c.made_known.new.changes_below.items groups others) (sym c.hold-in-Ok.ensures)
+    (made old new c.made_known.new.changes_below.items groups others c.args.rec c.in-Ok.ready e.same c.self.invariant.stands e.noted grouped c.in_default.ensures.room fits e.rec e.enters e.notes
+    (more_others old.owner old.log.items (keys_of c.self.inside.others.entries) others e.kept c.self.invariant.others) e.others)
 
-pub invariant_of-self-in-Err-made_ready : goal.invariant_of-self-in-Err-made_ready
-invariant_of-self-in-Err-made_ready c =
-    let e = c.in-Err-made_ready.ensures in
+pub invariant_of-self-in-Err-made_known : goal.invariant_of-self-in-Err-made_known
+invariant_of-self-in-Err-made_known c =
+    let e = c.in-Err-made_known.ensures in
     let old = c.self.inside.kept in
-    let new = c.made_ready.new.kept in
+    let new = c.made_known.new.kept in
     let groups = c.reserve_one.new.positions in
     let grouped : AreGroupChanges old.log.items groups.items = subst (AreGroupChanges old.log.items) (sym c.reserve_one.ensures.items) c.self.invariant.grouped in
-    subst (IsMemTree new c.made_ready.new.changes_below.items groups) (sym c.hold.ensures)
-    (not_made new c.made_ready.new.changes_below.items groups (same_stands old new e.same c.self.invariant.stands) e.noted (subst (λ log. AreGroupChanges log groups.items) (sym e.same.log) grouped))
+    let others = keys_of c.made_known.new.others.entries in
+    subst (IsMemTree new c.made_known.new.changes_below.items groups others) (sym c.hold.ensures)
+    (not_made new c.made_known.new.changes_below.items groups others (same_stands old new e.same c.self.invariant.stands) e.noted (subst (λ log. AreGroupChanges log groups.items) (sym e.same.log) grouped)
+    (same_others old new others e.same (more_others old.owner old.log.items (keys_of c.self.inside.others.entries) others e.kept c.self.invariant.others)))
