@@ -7,6 +7,7 @@ pub mod LaterLemmas
 pub mod ApartLemmas
 pub mod RoundLemmas
 pub mod GatherLemmas
+pub mod KeptLemmas
 pub mod TurnLemmas
 pub mod BlockLemmas
 pub mod CameLemmas

@@ -8,6 +8,7 @@ pub mod Routes
 pub mod Calls
 pub mod Rounds
 pub mod Gathered
+pub mod Kept
 pub mod Told
 pub mod Answered
 pub mod Alike

@@ -1,8 +1,9 @@
 //! One request to a tree, whoever has the logs.
-ghost use Rattle.std.specs.Prelude.{◌≡◌, ◌<◌, None, Some, Ok, true, is_some, IfOk, OnErr};
+ghost use Rattle.std.specs.Prelude.{◌≡◌, ◌<◌, [], None, Some, Ok, true, is_some, IfOk, OnErr};
 ghost use Rattle.up_calls.specs.Answered.{Came, TreeAnswered, TreeServed};
 ghost use Rattle.up_calls.specs.Asks.{Tries};
 ghost use Rattle.up_calls.specs.Calls.{IsTried};
+ghost use Rattle.up_calls.specs.Kept.{KeepsSeen};
 ghost use Rattle.up_calls.specs.Routes.{LogName, OwnStays, log_asked, service_of};
 ghost use Rattle.up_calls.specs.declared.service.Service.TheVariants as service;
 ghost use Rattle.up_edits.specs.Routes.{route_of};
@@ -17,6 +18,7 @@ use crate::logs::{Logs, Turn};
 use std::alloc::{AllocError, Global};
 use up_dir::{Fetched, tree_asked};
 use up_entry::{EntryFault, Location};
+use up_foreign::KeptSearch;
 use up_list::{ReadRequest, asked_of};
 use up_lists::Items;
 use up_names::User;
@@ -150,12 +152,16 @@ fn ask_there<B: Logs, L: Loader>(
     ensures tried { IsTried L.Loader loader.old loader.new }
 {
     let fetched = gather_blocks(alloc, logs, loader, locations)?;
-    ask_loaded(
-        alloc, logs, loader, owner, user, request, asked, fetched, now,
-    )
+    let mut kept = KeptSearch::new(alloc, logs.random());
+    let event = ask_loaded(
+        alloc, logs, loader, owner, user, request, asked, &mut kept, fetched, now,
+    );
+    drop(kept);
+    event
 }
 
-// The same with what was fetched: a turn of the tree, and a round of loads for what it misses, until it answers.
+// The same with what was fetched: a turn of the tree, and a round of loads for what it misses, until it answers. From one turn to the next
+// the search for what is missing goes on from what was kept.
 fn ask_loaded<B: Logs, L: Loader>(
     alloc: Global,
     logs: &mut B,
@@ -164,12 +170,14 @@ fn ask_loaded<B: Logs, L: Loader>(
     user: &User,
     request: &Request,
     asked: &ReadRequest,
+    kept: &mut KeptSearch,
     fetched: Fetched,
     now: u64,
 ) -> Result<Event, AllocError>
     requires ready { B.ready logs.old }
     requires there { is_some ((B.views logs.old).tree owner.now) ≡ true }
     requires read { asked_of user.now request.now ≡ Ok asked.now }
+    requires kept { KeepsSeen ((B.views logs.old).tree owner.now) [] kept.old }
     requires moment { now < 253402207200 }
     ensures answered { IfOk result (TreeAnswered L.Loader (B.operator_of logs.old)
         (B.rises (LogName.OfTree owner.now) logs.old logs.new)
@@ -184,7 +192,9 @@ fn ask_loaded<B: Logs, L: Loader>(
 {
     let mut loaded = Loaded::new(alloc, logs.random());
     loop {
-        match logs.ask_tree(alloc, owner, user, request, asked, &loaded, &fetched, now) {
+        match logs.ask_tree(
+            alloc, owner, user, request, asked, &loaded, kept, &fetched, now,
+        ) {
             Turn::Said(reply, position) => {
                 let _names = loaded.len();
                 return Ok(Event {

@@ -3,6 +3,7 @@ ghost use Rattle.std.specs.Prelude.{◌≡◌, ◌<◌, ℕ, Option, None, Some,
 ghost use Rattle.up_calls.specs.Blocks.{IsFromStore};
 ghost use Rattle.up_calls.specs.Calls.{KeysTurn, StoreTurn};
 ghost use Rattle.up_calls.specs.Gathered.{OwnText};
+ghost use Rattle.up_calls.specs.Kept.{KeepsSeen, where_missing};
 ghost use Rattle.up_calls.specs.Routes.{LogName, OwnStays, service_of};
 ghost use Rattle.up_calls.specs.Services.{key_fault, store_fault};
 ghost use Rattle.up_calls.specs.Told.{LogTold, TreeTold, answered_at};
@@ -16,6 +17,7 @@ use std::alloc::{AllocError, Global};
 use std::hash::RandomState;
 use up_dir::Fetched;
 use up_entry::Fetch;
+use up_foreign::KeptSearch;
 use up_list::ReadRequest;
 use up_names::{Path, User};
 use up_policy::{LoadAnswer, Loaded, Names};
@@ -82,7 +84,7 @@ pub trait Logs {
         ensures tie { tied None self.old self.new };
 
     /// One turn of the tree of an owner: which groups are missing for a request, or else the reply to it. The request's texts were read
-    /// before, to `asked`.
+    /// before, to `asked`. The search for what is missing goes on from what was kept of the turn before with less loaded.
     fn ask_tree(
         &mut self,
         alloc: Global,
@@ -91,18 +93,22 @@ pub trait Logs {
         request: &Request,
         asked: &ReadRequest,
         loaded: &Loaded,
+        kept: &mut KeptSearch,
         fetched: &Fetched,
         now: u64,
     ) -> Turn
         requires ready { ready self.old }
         requires there { is_some ((views self.old).tree owner.now) ≡ true }
         requires read { asked_of user.now request.now ≡ Ok asked.now }
+        requires kept { KeepsSeen ((views self.old).tree owner.now) loaded.now kept.old }
         requires moment { now < 253402207200 }
         ensures told { TreeTold (rises (LogName.OfTree owner.now) self.old self.new)
             (views self.old) (views self.new) owner.now
             (record { user = user.now; request = request.now }) loaded.now fetched.now now result }
         ensures left { answered_at result
             (λ n. left (LogName.OfTree owner.now) n self.old self.new) }
+        ensures kept { where_missing result
+            (KeepsSeen ((views self.new).tree owner.now) loaded.now kept.new) }
         ensures tie { tied (Some (LogName.OfTree owner.now)) self.old self.new };
 
     /// One turn of the store: the reply to a request of which nothing is malformed, and the number of records over which it is the

@@ -2,6 +2,7 @@
 ghost use Rattle.std.specs.Prelude.{◌≡◌, ◌==◌, ◌||◌, ◌<◌, None, Ok, IfOk, length};
 ghost use Rattle.std.specs.Result.{result_ok};
 ghost use Rattle.up_blocks.specs.Blocks as of_blocks;
+ghost use Rattle.up_calls.specs.Kept.{where_missing};
 ghost use Rattle.up_calls.specs.Loads.{group_text_answer, load_of};
 ghost use Rattle.up_calls.specs.Routes.{service_of};
 ghost use Rattle.up_calls.specs.Rounds.{bound};
@@ -9,6 +10,7 @@ ghost use Rattle.up_calls.specs.Services.{key_fault, store_fault};
 ghost use Rattle.up_calls.specs.Steps.{BlockRead, FetchedAs, KeysTried, StoreReads, StoreTried, Tried, said_at};
 ghost use Rattle.up_calls.specs.declared.service.Service.TheVariants as service;
 ghost use Rattle.up_ends.specs.Growing.{OnlyGrows};
+ghost use Rattle.up_foreign.specs.Kept.{Keeps};
 ghost use Rattle.up_keys.specs.Keys as of_keys;
 ghost use Rattle.up_list.specs.Asking.{asked_of};
 ghost use Rattle.up_tree.specs.States.{entries_of, fixed_of, log_of};
@@ -20,9 +22,10 @@ use std::alloc::{AllocError, Global};
 use std::hash::RandomState;
 use up_blocks::{BlockWhy, Blocks};
 use up_bytes::Bytes;
-use up_dir::{Fetched, foreign_asked, step_asked};
+use up_dir::{Fetched, step_asked};
 use up_disk::Disk;
 use up_entry::Fetch;
+use up_foreign::{KeptSearch, foreign_asked};
 use up_keys::{Keys, key_step};
 use up_list::ReadRequest;
 use up_names::{Path, User};
@@ -33,7 +36,7 @@ use up_tree::TreeState;
 use up_wire::{Reply, Request};
 
 /// One turn of a tree: which groups are missing for a request, or else the reply. A reply that tells of want of memory is none. The
-/// request's texts were read before, to `asked`.
+/// request's texts were read before, to `asked`. The search for what is missing goes on from what was kept of the turn before.
 pub fn try_tree<D: Disk>(
     alloc: Global,
     state: &mut TreeState<D>,
@@ -41,17 +44,21 @@ pub fn try_tree<D: Disk>(
     request: &Request,
     asked: &ReadRequest,
     loaded: &Loaded,
+    kept: &mut KeptSearch,
     fetched: &Fetched,
     now: u64,
 ) -> Turn
     requires read { asked_of user.now request.now ≡ Ok asked.now }
+    requires kept { Keeps state.old.owner state.old.log loaded.now kept.old }
     requires moment { now < 253402207200 }
     ensures tried { Tried D.Disk (record { user = user.now; request = request.now })
         loaded.now fetched.now now state.old state.new result }
+    ensures kept { where_missing result
+        (Keeps state.new.owner state.new.log loaded.now kept.new) }
     ensures grows { OnlyGrows entries_of
         (λ state. D.faults state.disk) fixed_of state.old state.new }
 {
-    let Ok(missing) = foreign_asked(alloc, state, user, asked, loaded) else {
+    let Ok(missing) = foreign_asked(alloc, state, user, asked, loaded, kept) else {
         return Turn::Wanting;
     };
     if !is_enough(&missing, loaded) {

@@ -1,5 +1,6 @@
 pub mod EventLemmas
 pub mod FrontLemmas
+pub mod KeptLemmas
 pub mod NotedLemmas
 pub mod PlaceLemmas
 pub mod ReachLemmas

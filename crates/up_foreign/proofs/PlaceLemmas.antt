@@ -73,12 +73,12 @@ pub items_noted : (tree : Tree) (f : Place → List PathName) (test : PathName �
     now ≡ with_paths old (flat_map f (items_where test tree))
 items_noted tree f test old now keys is h = h ∙ ap (λ ks. with_paths old (flat_map f (map (in_tree tree) ks))) is
 
-pub glob_noted : (tree : Tree) (f : Place → List PathName) (pattern : PatternName) (front : PathName) (old mid now keys : List PathName) → front ≡ literal_path pattern → keys ≡ filter (is_candidate pattern) (keys_of tree) →
-    mid ≡ with_paths old (f (tree, front)) → now ≡ with_paths mid (flat_map f (map (in_tree tree) keys)) →
+pub glob_noted : (tree : Tree) (f : Place → List PathName) (pattern : PatternName) (front : PathName) (old now keys : List PathName) → front ≡ literal_path pattern → keys ≡ filter (is_candidate pattern) (keys_of tree) →
+    now ≡ with_paths old (flat_map f (in_tree tree front ∷ map (in_tree tree) keys)) →
     now ≡ with_paths old (flat_map f ((tree, literal_path pattern) ∷ items_where (is_candidate pattern) tree))
-glob_noted tree f pattern front old mid now keys front_is keys_are one more =
-    noted_more f old mid now (tree, literal_path pattern) (items_where (is_candidate pattern) tree) (one ∙ ap (λ (p : PathName). with_paths old (f (tree, p))) front_is)
-    (items_noted tree f (is_candidate pattern) mid now keys keys_are more)
+glob_noted tree f pattern front old now keys front_is keys_are h =
+    h ∙ (ap (λ (p : PathName). with_paths old (flat_map f (in_tree tree p ∷ map (in_tree tree) keys))) front_is
+    ∙ ap (λ ks. with_paths old (flat_map f (in_tree tree (literal_path pattern) ∷ map (in_tree tree) ks))) keys_are)
 
 pub front_owned : (owner : List ℕ) (pattern : PatternName) (front : PathName) → front ≡ literal_path pattern → pattern.owner ≡ owner → front.owner ≡ owner
 front_owned owner pattern front is owned = ap (λ (p : PathName). p.owner) is ∙ (front_owner pattern ∙ owned)

@@ -6,3 +6,5 @@ pub mod Watched
 pub mod Times
 pub mod Trees
 pub mod Reaching
+pub mod Kept
+pub mod Laws

@@ -7,6 +7,7 @@ ghost use Rattle.std.specs.Option.{option_and_then, option_copied};
 ghost use Rattle.up_list.specs.Globs.{is_candidate, literal_path};
 ghost use Rattle.up_names.specs.PathNames.{extended, is_under};
 ghost use Rattle.up_foreign.specs.Items.{AreOwned};
+ghost use Rattle.up_foreign.specs.Kept.{Keeps};
 ghost use Rattle.up_foreign.specs.Watched.{watched_by};
 ghost use Rattle.up_log_tree.specs.Changes.{path_of_change};
 ghost use Rattle.up_log_tree.specs.Logs.{Limits};
@@ -14,12 +15,14 @@ ghost use Rattle.up_list.specs.Asking.{owner_asked};
 ghost use Rattle.up_policy.specs.Reached.{with_paths};
 ghost use Rattle.up_log_tree.specs.Trees.{tree_at, tree_of};
 ghost use Rattle.up_foreign.specs.Foreign.{IsOwnChange, in_tree, needed_in, places_at};
+ghost use Rattle.up_foreign.specs.Noted.{AreNoted};
 ghost use Rattle.up_foreign.specs.Reaching.{NeedsNothing};
 ghost use Rattle.up_foreign.specs.Times.{AreBothNoted};
 ghost use Rattle.up_foreign.specs.Trees.{log_over};
 ghost use Rattle.up_tree.specs.States.{log_of};
 
 use crate::items::{items_matching, items_under};
+use crate::kept::KeptSearch;
 use crate::left::Left;
 use crate::noted::{Noted, Times};
 use std::alloc::{AllocError, Global};
@@ -49,18 +52,22 @@ pub fn foreign<D: Disk>(
     foreign_in(alloc, state.memory(), user, request, loaded)
 }
 
-/// The same for a request whose texts were read.
+/// The same for a request whose texts were read. It goes on from what was kept of the call before with less loaded, where the tree still
+/// has as many records, and keeps as much for the next. After an `Err` nothing is known of what is kept.
 pub fn foreign_asked<D: Disk>(
     alloc: Global,
     state: &TreeState<D>,
     user: &User,
     asked: &ReadRequest,
     loaded: &Loaded,
+    kept: &mut KeptSearch,
 ) -> Result<Names, AllocError>
-    ensures { IfOk result (λ names. names
+    requires { Keeps state.now.owner state.now.log loaded.now kept.old }
+    ensures needed { IfOk result (λ names. names
         ≡ needs_asked (log_of state.now) loaded.now user.now asked.now) }
+    ensures kept { OnOk result (Keeps state.now.owner state.now.log loaded.now kept.new) }
 {
-    names_for(alloc, state.memory(), user, asked, loaded)
+    names_for(alloc, state.memory(), user, asked, loaded, kept)
 }
 
 /// The groups that have to be loaded for a user's request over a tree in memory: those of other owners that are reached from the texts
@@ -78,7 +85,7 @@ pub fn foreign_in(
 {
     match asked_of(alloc, user, request) {
         Ok(asked) => {
-            let names = names_for(alloc, tree, user, &asked, loaded);
+            let names = names_once(alloc, tree, user, &asked, loaded);
             drop(asked);
             names
         }
@@ -88,8 +95,7 @@ pub fn foreign_in(
 }
 
 /// The same over a tree in memory, for a request whose texts were read.
-#[tactic(auto, unfolding(up_answers::specs::Needs::needs_asked))]
-fn names_for(
+fn names_once(
     alloc: Global,
     tree: &MemTree,
     user: &User,
@@ -99,8 +105,29 @@ fn names_for(
     ensures { (limits : Limits) → IfOk result (λ names. names
         ≡ needs_asked (log_over limits tree.now) loaded.now user.now asked.now) }
 {
+    let mut kept = KeptSearch::new(alloc, loaded.random());
+    let names = names_for(alloc, tree, user, asked, loaded, &mut kept);
+    drop(kept);
+    names
+}
+
+/// The same, which goes on from what was kept.
+#[tactic(auto, unfolding(up_answers::specs::Needs::needs_asked))]
+fn names_for(
+    alloc: Global,
+    tree: &MemTree,
+    user: &User,
+    asked: &ReadRequest,
+    loaded: &Loaded,
+    kept: &mut KeptSearch,
+) -> Result<Names, AllocError>
+    requires { Keeps tree.now.owner tree.now.log loaded.now kept.old }
+    ensures needed { (limits : Limits) → IfOk result (λ names. names
+        ≡ needs_asked (log_over limits tree.now) loaded.now user.now asked.now) }
+    ensures kept { OnOk result (Keeps tree.now.owner tree.now.log loaded.now kept.new) }
+{
     let mut names = Names::new(alloc, loaded.random());
-    match note_asked(alloc, tree, user, asked, loaded, &mut names) {
+    match note_asked(alloc, tree, user, asked, loaded, kept, &mut names) {
         Ok(()) => Ok(names),
         Err(fault) => {
             drop(names);
@@ -116,16 +143,19 @@ fn note_asked(
     user: &User,
     asked: &ReadRequest,
     loaded: &Loaded,
+    kept: &mut KeptSearch,
     names: &mut Names,
 ) -> Result<(), AllocError>
-    ensures { (limits : Limits) → OnOk result (names.new
+    requires { Keeps tree.now.owner tree.now.log loaded.now kept.old }
+    ensures added { (limits : Limits) → OnOk result (names.new
         ≡ with_paths names.old (flat_map (needed_in tree.now.owner loaded.now)
         (places_for (log_over limits tree.now) user.now asked.now))) }
+    ensures kept { OnOk result (Keeps tree.now.owner tree.now.log loaded.now kept.new) }
 {
     if needs_nothing(tree, loaded) {
         return Ok(());
     }
-    note_places(alloc, tree, user, asked, loaded, names)
+    note_places(alloc, tree, user, asked, loaded, kept, names)
 }
 
 /// Whether no text of the tree names a group of another owner, or has named one once, and no group was loaded: then nothing is needed,
@@ -147,40 +177,43 @@ fn note_places(
     user: &User,
     asked: &ReadRequest,
     loaded: &Loaded,
+    kept: &mut KeptSearch,
     names: &mut Names,
 ) -> Result<(), AllocError>
-    ensures { (limits : Limits) → OnOk result (names.new
+    requires { Keeps tree.now.owner tree.now.log loaded.now kept.old }
+    ensures added { (limits : Limits) → OnOk result (names.new
         ≡ with_paths names.old (flat_map (needed_in tree.now.owner loaded.now)
         (places_for (log_over limits tree.now) user.now asked.now))) }
+    ensures kept { OnOk result (Keeps tree.now.owner tree.now.log loaded.now kept.new) }
 {
     if asked.owner() != tree.owner() {
         return Ok(());
     }
     if user == tree.owner() {
-        note_for_owner(alloc, tree, user, asked, loaded, names)
+        note_for_owner(tree, asked, loaded, kept, names)
     } else {
-        note_for_others(alloc, tree, user, asked, loaded, names)
+        note_for_others(alloc, tree, user, asked, loaded, kept, names)
     }
 }
 
 /// Adds what the tree's owner needs: at the ordinary path of a Put or a Delete.
 #[tactic(auto, unfolding(up_answers::specs::Needs::owner_places))]
 fn note_for_owner(
-    alloc: Global,
     tree: &MemTree,
-    user: &User,
     asked: &ReadRequest,
     loaded: &Loaded,
+    kept: &mut KeptSearch,
     names: &mut Names,
 ) -> Result<(), AllocError>
-    requires { owner_asked asked.now ≡ tree.now.owner }
-    ensures { (limits : Limits) → OnOk result (names.new
+    requires { Keeps tree.now.owner tree.now.log loaded.now kept.old }
+    ensures added { (limits : Limits) → OnOk result (names.new
         ≡ with_paths names.old (flat_map (needed_in tree.now.owner loaded.now)
         (owner_places (log_over limits tree.now) asked.now))) }
+    ensures kept { OnOk result (Keeps tree.now.owner tree.now.log loaded.now kept.new) }
 {
     match asked {
-        ReadRequest::Delete(path) => note_ordinary(alloc, tree, user, path, loaded, names),
-        ReadRequest::Put(put) => note_ordinary(alloc, tree, user, &put.entry.name, loaded, names),
+        ReadRequest::Delete(path) => note_ordinary(tree, path, loaded, kept, names),
+        ReadRequest::Put(put) => note_ordinary(tree, &put.entry.name, loaded, kept, names),
         ReadRequest::Lookup(_)
         | ReadRequest::WhichAccess(_)
         | ReadRequest::GroupText(_)
@@ -197,43 +230,27 @@ fn note_for_others(
     user: &User,
     asked: &ReadRequest,
     loaded: &Loaded,
+    kept: &mut KeptSearch,
     names: &mut Names,
 ) -> Result<(), AllocError>
-    requires { owner_asked asked.now ≡ tree.now.owner }
-    ensures { (limits : Limits) → OnOk result (names.new
+    requires owned { owner_asked asked.now ≡ tree.now.owner }
+    requires kept { Keeps tree.now.owner tree.now.log loaded.now kept.old }
+    ensures added { (limits : Limits) → OnOk result (names.new
         ≡ with_paths names.old (flat_map (needed_in tree.now.owner loaded.now)
         (places (log_over limits tree.now) asked.now))) }
+    ensures kept { OnOk result (Keeps tree.now.owner tree.now.log loaded.now kept.new) }
 {
     match asked {
         ReadRequest::GroupText(_) => Ok(()),
         ReadRequest::Lookup(path) | ReadRequest::WhichAccess(path) | ReadRequest::Delete(path) => {
-            note_now(alloc, tree, user, path, loaded, names)
+            kept.note(tree, path, loaded, names)
         }
-        ReadRequest::Put(put) => note_now(alloc, tree, user, &put.entry.name, loaded, names),
-        ReadRequest::Glob(pattern) => note_glob(alloc, tree, user, pattern, loaded, names),
+        ReadRequest::Put(put) => kept.note(tree, &put.entry.name, loaded, names),
+        ReadRequest::Glob(pattern) => note_glob(alloc, tree, user, pattern, loaded, kept, names),
         ReadRequest::Watch(path, sequence) => {
-            note_now(alloc, tree, user, path, loaded, names)?;
-            note_watched(alloc, tree, user, path, *sequence, loaded, names)
+            note_watch(alloc, tree, user, path, *sequence, loaded, kept, names)
         }
     }
-}
-
-/// Adds what is needed at a path, as the tree is now.
-#[tactic(auto, unfolding(up_log_tree::specs::Rights::facts_of))]
-fn note_now(
-    alloc: Global,
-    tree: &MemTree,
-    user: &User,
-    path: &Path,
-    loaded: &Loaded,
-    names: &mut Names,
-) -> Result<(), AllocError>
-    requires { path.now.owner ≡ tree.now.owner }
-    ensures { OnOk result (names.new
-        ≡ with_paths names.old (needed_in tree.now.owner loaded.now
-        (tree_of tree.now.log, path.now))) }
-{
-    needs(alloc, &MemView::new(tree), loaded, user, path, names)
 }
 
 /// Adds what was needed at a path, as the tree was after its first `n` records.
@@ -258,25 +275,26 @@ pub(crate) fn note_then(
 
 /// Adds what is needed at a path that is ordinary; at any other nothing is.
 fn note_ordinary(
-    alloc: Global,
     tree: &MemTree,
-    user: &User,
     path: &Path,
     loaded: &Loaded,
+    kept: &mut KeptSearch,
     names: &mut Names,
 ) -> Result<(), AllocError>
-    requires { path.now.owner ≡ tree.now.owner }
-    ensures { (limits : Limits) → OnOk result (names.new
+    requires { Keeps tree.now.owner tree.now.log loaded.now kept.old }
+    ensures added { (limits : Limits) → OnOk result (names.new
         ≡ with_paths names.old (flat_map (needed_in tree.now.owner loaded.now)
         (where_ordinary (log_over limits tree.now) path.now))) }
+    ensures kept { OnOk result (Keeps tree.now.owner tree.now.log loaded.now kept.new) }
 {
     match path.control_kind() {
-        Control::Ordinary => note_now(alloc, tree, user, path, loaded, names),
+        Control::Ordinary => kept.note(tree, path, loaded, names),
         Control::Access | Control::Group => Ok(()),
     }
 }
 
-/// Adds what is needed at each of these paths, in order. A text that governs several of them is looked at once.
+/// Adds what is needed at each of these paths, in order. A text that governs several of them is looked at once, and one that was looked at
+/// before not at all.
 #[tactic(auto, using(crate::proofs::PlaceLemmas::key_owned, crate::proofs::PlaceLemmas::each_next, crate::proofs::PlaceLemmas::each_end))]
 fn note_each(
     alloc: Global,
@@ -284,14 +302,16 @@ fn note_each(
     user: &User,
     paths: &OrderedMap<Path, ()>,
     loaded: &Loaded,
+    known: Noted,
     names: &mut Names,
 ) -> Result<(), AllocError>
-    requires { AreOwned tree.now.owner (keys_of paths.now.entries) }
+    requires owned { AreOwned tree.now.owner (keys_of paths.now.entries) }
+    requires noted { AreNoted tree.now loaded.now known names.old }
     ensures { OnOk result (names.new
         ≡ with_paths names.old (flat_map (needed_in tree.now.owner loaded.now)
         (map (in_tree (tree_of tree.now.log)) (keys_of paths.now.entries)))) }
 {
-    let mut noted = Noted::new(alloc);
+    let mut noted = known;
     for i in 0..u64::MAX {
         let Some(path) = paths.key_at(i) else {
             return Ok(());
@@ -310,18 +330,45 @@ fn note_glob(
     user: &User,
     pattern: &Pattern,
     loaded: &Loaded,
+    kept: &mut KeptSearch,
     names: &mut Names,
 ) -> Result<(), AllocError>
-    requires { pattern.now.owner ≡ tree.now.owner }
-    ensures { OnOk result (names.new
+    requires owned { pattern.now.owner ≡ tree.now.owner }
+    requires kept { Keeps tree.now.owner tree.now.log loaded.now kept.old }
+    ensures added { OnOk result (names.new
         ≡ with_paths names.old (flat_map (needed_in tree.now.owner loaded.now)
         ((tree_of tree.now.log, literal_path pattern.now)
         ∷ items_where (is_candidate pattern.now) (tree_of tree.now.log)))) }
+    ensures kept { OnOk result (Keeps tree.now.owner tree.now.log loaded.now kept.new) }
 {
     let front = literal_path(alloc, pattern)?;
-    note_now(alloc, tree, user, &front, loaded, names)?;
     let items = items_matching(alloc, tree, pattern, &front)?;
-    note_each(alloc, tree, user, &items, loaded, names)
+    note_front(alloc, tree, user, &front, &items, loaded, kept, names)
+}
+
+/// Adds what is needed at a path and then at others, by the search that is kept for the first.
+fn note_front(
+    alloc: Global,
+    tree: &MemTree,
+    user: &User,
+    front: &Path,
+    items: &OrderedMap<Path, ()>,
+    loaded: &Loaded,
+    kept: &mut KeptSearch,
+    names: &mut Names,
+) -> Result<(), AllocError>
+    requires owned { AreOwned tree.now.owner (keys_of items.now.entries) }
+    requires kept { Keeps tree.now.owner tree.now.log loaded.now kept.old }
+    ensures added { OnOk result (names.new
+        ≡ with_paths names.old (flat_map (needed_in tree.now.owner loaded.now)
+        (in_tree (tree_of tree.now.log) front.now
+        ∷ map (in_tree (tree_of tree.now.log)) (keys_of items.now.entries)))) }
+    ensures kept { OnOk result (Keeps tree.now.owner tree.now.log loaded.now kept.new) }
+{
+    let mut noted = Noted::new(alloc);
+    noted.note_kept(tree, front, loaded, kept, names)?;
+    note_each(alloc, tree, user, items, loaded, noted, names)?;
+    Ok(())
 }
 
 /// The path of the literal elements in front of a pattern.
@@ -351,6 +398,31 @@ fn within(dir: &Path, name: &str) -> Result<Path, AllocError>
     }
 }
 
+/// Adds what a Watch needs: at its path, by the search that is kept, and behind it.
+fn note_watch(
+    alloc: Global,
+    tree: &MemTree,
+    user: &User,
+    path: &Path,
+    sequence: i64,
+    loaded: &Loaded,
+    kept: &mut KeptSearch,
+    names: &mut Names,
+) -> Result<(), AllocError>
+    requires owned { path.now.owner ≡ tree.now.owner }
+    requires kept { Keeps tree.now.owner tree.now.log loaded.now kept.old }
+    ensures added { (limits : Limits) → OnOk result (names.new
+        ≡ with_paths names.old (flat_map (needed_in tree.now.owner loaded.now)
+        ((tree_of tree.now.log, path.now)
+        ∷ watch_places (log_over limits tree.now) path.now sequence))) }
+    ensures kept { OnOk result (Keeps tree.now.owner tree.now.log loaded.now kept.new) }
+{
+    let mut noted = Noted::new(alloc);
+    noted.note_kept(tree, path, loaded, kept, names)?;
+    note_watched(alloc, tree, user, path, sequence, loaded, noted, names)?;
+    Ok(())
+}
+
 /// Adds what a Watch needs behind its path: at the paths of its events, each now and directly after its record; or at the items that
 /// there are.
 fn note_watched(
@@ -360,17 +432,22 @@ fn note_watched(
     path: &Path,
     sequence: i64,
     loaded: &Loaded,
+    noted: Noted,
     names: &mut Names,
 ) -> Result<(), AllocError>
-    requires { path.now.owner ≡ tree.now.owner }
+    requires owned { path.now.owner ≡ tree.now.owner }
+    requires noted { AreNoted tree.now loaded.now noted names.old }
     ensures { (limits : Limits) → OnOk result (names.new
         ≡ with_paths names.old (flat_map (needed_in tree.now.owner loaded.now)
         (watch_places (log_over limits tree.now) path.now sequence))) }
 {
     match looked_at(sequence) {
-        Watched::Above(above) => note_events(alloc, tree, user, path, above, loaded, names),
-        Watched::Items => note_under(alloc, tree, user, path, loaded, names),
-        Watched::Nothing => Ok(()),
+        Watched::Above(above) => note_events(alloc, tree, user, path, above, loaded, noted, names),
+        Watched::Items => note_under(alloc, tree, user, path, loaded, noted, names),
+        Watched::Nothing => {
+            drop(noted);
+            Ok(())
+        }
     }
 }
 
@@ -402,15 +479,17 @@ fn note_under(
     user: &User,
     path: &Path,
     loaded: &Loaded,
+    noted: Noted,
     names: &mut Names,
 ) -> Result<(), AllocError>
-    requires { path.now.owner ≡ tree.now.owner }
+    requires owned { path.now.owner ≡ tree.now.owner }
+    requires noted { AreNoted tree.now loaded.now noted names.old }
     ensures { OnOk result (names.new
         ≡ with_paths names.old (flat_map (needed_in tree.now.owner loaded.now)
         (items_where (λ name. is_under name path.now) (tree_of tree.now.log)))) }
 {
     let items = items_under(alloc, tree, path)?;
-    note_each(alloc, tree, user, &items, loaded, names)
+    note_each(alloc, tree, user, &items, loaded, noted, names)
 }
 
 /// Adds what is needed at the paths of the records above a sequence that are under a path. It goes through these records alone.
@@ -421,16 +500,18 @@ fn note_events(
     path: &Path,
     above: u64,
     loaded: &Loaded,
+    noted: Noted,
     names: &mut Names,
 ) -> Result<(), AllocError>
-    requires { path.now.owner ≡ tree.now.owner }
+    requires owned { path.now.owner ≡ tree.now.owner }
+    requires noted { AreNoted tree.now loaded.now noted names.old }
     ensures { (limits : Limits) → OnOk result (names.new
         ≡ with_paths names.old (flat_map (needed_in tree.now.owner loaded.now)
         (event_places_to (log_over limits tree.now) above path.now (length tree.now.log)))) }
 {
     let _records = tree.position();
     let positions = tree.positions_under(path, above);
-    note_positions(alloc, tree, user, positions, loaded, names)
+    note_positions(alloc, tree, user, positions, loaded, noted, names)
 }
 
 /// Adds what is needed at the paths that the records at these positions change. A text is looked at once, and again where it or a Group
@@ -441,14 +522,16 @@ fn note_positions(
     user: &User,
     positions: &[u64],
     loaded: &Loaded,
+    noted: Noted,
     names: &mut Names,
 ) -> Result<(), AllocError>
-    requires { AllByRecursion (IsOwnChange tree.now) positions.now }
+    requires owned { AllByRecursion (IsOwnChange tree.now) positions.now }
+    requires noted { AreNoted tree.now loaded.now noted names.old }
     ensures { OnOk result (names.new
         ≡ with_paths names.old (flat_map (needed_in tree.now.owner loaded.now)
         (flat_map (places_at tree.now.log) positions.now))) }
 {
-    let mut times = Times::new(alloc);
+    let mut times = Times::new(alloc, noted);
     let mut left = Left::new(alloc, tree, loaded, positions.len())?;
     for position in positions {
         if left.is_done(names) {

@@ -5,6 +5,7 @@ ghost use Rattle.std.specs.List.{flat_map};
 ghost use Rattle.up_names.specs.PathNames.{PathName};
 ghost use Rattle.up_names.specs.PathOrder.{path_cmp};
 ghost use Rattle.up_foreign.specs.Foreign.{needed_in};
+ghost use Rattle.up_foreign.specs.Kept.{Keeps};
 ghost use Rattle.up_foreign.specs.Noted.{AreNoted, HasNeeded};
 ghost use Rattle.up_foreign.specs.Times.{AreBothNoted};
 ghost use Rattle.up_policy.specs.Loadings.{Loading};
@@ -12,6 +13,7 @@ ghost use Rattle.up_policy.specs.Reached.{with_paths};
 ghost use Rattle.up_log_tree.specs.Rights.{governing_prefix};
 ghost use Rattle.up_log_tree.specs.Trees.{tree_at, tree_of};
 
+use crate::kept::KeptSearch;
 use crate::needed::note_then;
 use std::alloc::{AllocError, Global};
 use up_maps::OrderedMap;
@@ -98,6 +100,33 @@ impl Noted {
         self.add(dir, n)
     }
 
+    /// Adds what is needed at a path, as the tree is now, by the search that is kept, and remembers that the text that governs the path was
+    /// looked at.
+    pub(crate) fn note_kept(
+        &mut self,
+        tree: &MemTree,
+        path: &Path,
+        loaded: &Loaded,
+        kept: &mut KeptSearch,
+        names: &mut Names,
+    ) -> Result<(), AllocError>
+        requires kept { Keeps tree.now.owner tree.now.log loaded.now kept.old }
+        requires noted { AreNoted tree.now loaded.now self.old names.old }
+        ensures added { OnOk result (names.new
+            ≡ with_paths names.old (needed_in tree.now.owner loaded.now
+            (tree_of tree.now.log, path.now))) }
+        ensures noted { OnOk result (AreNoted tree.now loaded.now self.new names.new) }
+        ensures kept { OnOk result (Keeps tree.now.owner tree.now.log loaded.now kept.new) }
+    {
+        kept.note(tree, path, loaded, names)?;
+        let records = tree.position();
+        let Some(dir) = governing_dir(tree, records, path)? else {
+            return Ok(());
+        };
+        self.add(dir, records)?;
+        Ok(())
+    }
+
     /// Adds what is needed at a path, as the tree is now: nothing, where the text that governs the path was looked at.
     pub(crate) fn note_now(
         &mut self,
@@ -145,13 +174,13 @@ pub(crate) struct Times {
 }
 
 impl Times {
-    /// Nothing was looked at. It takes no memory.
-    pub(crate) fn new(alloc: Global) -> Times
-        ensures current { result.current.dirs.entries ≡ [] }
+    /// This was looked at in the tree as it is, and nothing in the tree as it was. It takes no memory.
+    pub(crate) fn new(alloc: Global, current: Noted) -> Times
+        ensures current { result.current ≡ current }
         ensures past { result.past.dirs.entries ≡ [] }
     {
         Times {
-            current: Noted::new(alloc),
+            current,
             past: Noted::new(alloc),
         }
     }

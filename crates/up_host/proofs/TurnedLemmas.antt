@@ -5,10 +5,12 @@ use Rattle.std.proofs.lemmas.Bool.{false≢true}
 use Rattle.up_answers.specs.Fetching.{Fetched}
 use Rattle.up_blocks.specs.Blocks as blocks
 use Rattle.up_blocks.specs.declared.record.BlockRecord.{BlockRecord}
+use Rattle.up_calls.proofs.KeptLemmas.{missing_then, seen_whole}
 use Rattle.up_calls.proofs.SettledLemmas.{tried_settled}
 use Rattle.up_calls.proofs.StepLemmas.{block_told, keys_told, store_told, turn_told}
 use Rattle.up_calls.specs.Blocks.{IsFromStore}
 use Rattle.up_calls.specs.Calls.{KeysTurn, StoreTurn}
+use Rattle.up_calls.specs.Kept.{KeepsSeen, where_missing}
 use Rattle.up_calls.specs.Routes.{LogName, Question}
 use Rattle.up_calls.specs.Services.{key_fault, store_fault}
 use Rattle.up_calls.specs.Steps.{BlockRead, KeysTried, StoreReads, StoreTried, Tried}
@@ -20,7 +22,9 @@ use Rattle.up_disk.specs.declared.disk.Disk.{Ghosts}
 use Rattle.up_ends.specs.Growing.{OnlyGrows}
 use Rattle.up_entry.specs.declared.fetch.Fetch.{Fetch}
 use Rattle.up_entry.specs.declared.fetch.Fetch.TheVariants as fetch
-use Rattle.up_host.proofs.PlaceLemmas.{position-none}
+use Rattle.up_foreign.specs.Kept.{Keeps}
+use Rattle.up_foreign.specs.declared.kept.KeptSearch.{KeptSearch}
+use Rattle.up_host.proofs.PlaceLemmas.{found_at, position-none}
 use Rattle.up_host.proofs.TiedLemmas.{keys_rose, store_rose, tied_keys, tied_store, tied_tree, took_view, tree_rose, view_after, view_before}
 use Rattle.up_host.specs.Alone.{HostState, ends_at, is_of, keys_view, store_view, tree_view, views}
 use Rattle.up_host.specs.Tied.{DiskRose, IsTied}
@@ -39,6 +43,12 @@ module _ {D : Type 0} (disks : Ghosts D) where
   -- a host that has the tree of an owner has it at a place
   pub nowhere : (host : HostState D) (owner : UserName) → position (is_of owner) host.trees ≡ None → is_some ((views disks host).tree owner) ≡ true → ⊥
   nowhere host owner none there = false≢true (sym (ap (λ (v : Option SeenTree). is_some v) (ap (option_map (tree_view disks)) (position-none (is_of owner) host.trees none))) ∙ there)
+
+  -- what is kept of the tree that the host's caller has seen is of the tree at its place
+  pub kept_there : (host : HostState D) (owner : UserName) (place : ℕ) (before : Held (State D)) → position (is_of owner) host.trees ≡ Some place → slice_get host.trees place ≡ Some before → (now_is : HostState D) → host ≡ now_is
+      → (loaded : Loading) (kept : KeptSearch) → KeepsSeen ((views disks now_is).tree owner) loaded kept → Keeps before.state.owner before.state.log loaded kept
+  kept_there host owner place before at there now_is is loaded kept h =
+      h.seen (tree_view disks before) (ap (λ (x : HostState D). (views disks x).tree owner) (sym is) ∙ ap (option_map (tree_view disks)) (found_at (is_of owner) host.trees place at ∙ there))
 
   module _ (host : HostState D) (owner : UserName) (place : ℕ) (before : Held (State D)) (state : State D) (at : position (is_of owner) host.trees ≡ Some place) (there : slice_get host.trees place ≡ Some before)
       (grows : OnlyGrows entries_of (λ (s : State D). disks.faults s.disk) fixed_of before.state state) (fits : before.base ≤ length before.state.log)
@@ -68,6 +78,12 @@ module _ {D : Type 0} (disks : Ghosts D) where
 
     pub tree_left : (now_is : HostState D) → host ≡ now_is → answered_at came (λ n. ends_at (Some (LogName.OfTree owner)) (views disks now_is) ≡ Some n)
     tree_left now_is is = subst (λ (h : HostState D). answered_at came (λ n. ends_at (Some (LogName.OfTree owner)) (views disks h) ≡ Some n)) is (at_end came tried)
+
+    -- what the turn kept is of the tree as the caller has seen it then
+    pub tree_kept : (now_is : HostState D) → host ≡ now_is → (kept : KeptSearch) → where_missing came (Keeps state.owner state.log loaded kept) → where_missing came (KeepsSeen ((views disks after).tree owner) loaded kept)
+    tree_kept now_is is kept h =
+        missing_then came (Keeps state.owner state.log loaded kept) (KeepsSeen ((views disks after).tree owner) loaded kept)
+        (seen_whole ((views disks after).tree owner) (tree_view disks (record { state = state; base = before.base })) loaded kept (view_after disks host owner place before state at there grows fits)) h
 
     pub tree_tied : IsTied disks (Some (LogName.OfTree owner)) host after
     tree_tied = tied_tree disks host owner place before state at there grows fits (tried_settled disks q loaded fetched now before.state state came tried)

@@ -7,6 +7,7 @@ use up_calls::{Logs, Turn, read_block, read_text, try_keys, try_store, try_tree}
 use up_dir::Fetched;
 use up_disk::Disk;
 use up_entry::Fetch;
+use up_foreign::KeptSearch;
 use up_list::ReadRequest;
 use up_names::{Path, User};
 use up_policy::{LoadAnswer, Loaded};
@@ -64,6 +65,7 @@ impl<D: Disk> Logs for Host<D> {
         request: &Request,
         asked: &ReadRequest,
         loaded: &Loaded,
+        kept: &mut KeptSearch,
         fetched: &Fetched,
         now: u64,
     ) -> Turn {
@@ -78,6 +80,7 @@ impl<D: Disk> Logs for Host<D> {
             request,
             asked,
             loaded,
+            kept,
             fetched,
             now,
         )

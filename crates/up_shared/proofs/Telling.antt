@@ -1,14 +1,16 @@
 -- What one turn of a seat tells whoever has the logs.
-use Rattle.std.proofs.Common.{◌≡◌, ◌<◌, ◌+◌, ℕ, List, length, refl, sym, ap, subst, ◌∙◌, inl, inr, arith, option_map, Some, None, Result, Ok, Err, position}
+use Rattle.std.proofs.Common.{◌≡◌, ◌<◌, ◌+◌, ℕ, List, length, refl, sym, ap, subst, ◌∙◌, inl, inr, arith, option_map, slice_get, Some, None, Result, Ok, Err, position}
 use Rattle.std.specs.Prelude.{IfOk}
 use Rattle.up_answers.specs.Fetching.{Fetched}
 use Rattle.up_blocks.specs.Blocks as blocks
 use Rattle.up_blocks.specs.declared.record.BlockRecord.{BlockRecord}
+use Rattle.up_calls.proofs.KeptLemmas.{missing_then, seen_whole}
 use Rattle.up_calls.proofs.StepLemmas.{block_told, keys_told, store_told, turn_told}
 use Rattle.up_calls.specs.Answered.{Risen}
 use Rattle.up_calls.specs.Blocks.{IsFromStore}
 use Rattle.up_calls.specs.Calls.{KeysTurn, StoreTurn}
 use Rattle.up_calls.specs.Gathered.{OwnText}
+use Rattle.up_calls.specs.Kept.{KeepsSeen, where_missing}
 use Rattle.up_calls.specs.Loads.{group_text_answer, load_of}
 use Rattle.up_calls.specs.Routes.{LogName, OwnStays, Question}
 use Rattle.up_calls.specs.Services.{key_fault, store_fault}
@@ -24,14 +26,19 @@ use Rattle.up_disk.specs.declared.disk.Disk as disk
 use Rattle.up_entry.specs.declared.fetch.Fetch.{Fetch}
 use Rattle.up_entry.specs.declared.fetch.Fetch.TheVariants as fetch
 use Rattle.up_entry.specs.declared.records.Rec.{Rec}
+use Rattle.up_foreign.proofs.KeptLemmas.{keeps_later}
+use Rattle.up_foreign.specs.Kept.{Keeps}
+use Rattle.up_foreign.specs.declared.kept.KeptSearch.{KeptSearch}
 use Rattle.up_journal.specs.Logs.{LogState}
 use Rattle.up_journal.specs.declared.limits.Limits.{Limits}
 use Rattle.up_keys.specs.Keys as keys
+use Rattle.up_lists.specs.Begins.{Begins}
 use Rattle.up_names.specs.PathNames.{PathName}
 use Rattle.up_names.specs.Texts.{UserName}
 use Rattle.up_policy.specs.Loadings.{Loading}
 use Rattle.up_policy.specs.declared.load_answer.LoadAnswer.{LoadAnswer}
 use Rattle.up_log_tree.specs.Logs.{Log}
+use Rattle.up_shared.proofs.Places.{seat_at}
 use Rattle.up_shared.proofs.Turning.{turn_fixed, turn_takes, turned_after, turned_before, turned_fixed, turned_later, turned_looked, turned_own, turned_quiet, turned_takes}
 use Rattle.up_shared.specs.Callers.{IsTied, KeysTurned, StoreTurned, TreeTurned, seats_same}
 use Rattle.up_shared.specs.Jobs.{there}
@@ -48,6 +55,13 @@ store_no_tree : (owner : UserName) → Some LogName.OfStore ≡ Some (LogName.Of
 store_no_tree owner h = cc
 
 -- ---- the tree of an owner
+
+-- what is kept of the tree that the caller has seen is of any state of it that a seat may be lent
+pub kept_there : {D : Type 0} (seats : Seats D) (owner : UserName) (place : ℕ) (seat : TreeSeat D) → position (is_seat_of owner) seats.trees.items ≡ Some place → slice_get seats.trees.items place ≡ Some seat → (state : State D)
+    → (seat.owner, seat.limits) ≡ fixed_of state → Begins seat.seat.seen state.log → (loaded : Loading) (kept : KeptSearch) → KeepsSeen ((views_of seats).tree owner) loaded kept → Keeps state.owner state.log loaded kept
+kept_there seats owner place seat at there state fixed begins loaded kept h =
+    let seen = h.seen (tree_seen seat) (ap (option_map tree_seen) (seat_at owner seats.trees.items place seat at there)) in
+    subst (λ (f : UserName × Limits). Keeps f.0 state.log loaded kept) fixed (keeps_later seat.owner seat.seat.seen state.log loaded kept begins seen)
 
 module _ {D J : Type 0} (disks : disk.Ghosts D) (did : J → State D → J → State D → Type 0) (place : ℕ) (job after : J) (shared : Shared D) (a b : Seats D) (sits : AreSeats shared a) (t : TreeTurned disks did place job after a b) (owner : UserName) (at : position (is_seat_of owner) a.trees.items ≡ Some place) where
   abbrev faults_of : State D → ℕ
@@ -95,6 +109,14 @@ module _ {D J : Type 0} (disks : disk.Ghosts D) (did : J → State D → J → S
 
   pub tied_quiet : {N : Type 0} (n : N) → t.turn.after.log ≡ t.turn.before.log → IsTied None shared shared n n a b
   tied_quiet n same = record { host = refl; name_is = refl; later = turned_later disks did place job after a b t owner at; own = turned_quiet disks did place job after a b t owner at same }
+
+  -- what a turn kept is of the tree as the caller has seen it then
+  pub tree_kept : (loaded : Loading) (came : Turn) (kept : KeptSearch) → where_missing came (Keeps t.turn.after.owner t.turn.after.log loaded kept) → where_missing came (KeepsSeen ((views_of b).tree owner) loaded kept)
+  tree_kept loaded came kept h =
+      missing_then came (Keeps t.turn.after.owner t.turn.after.log loaded kept) (KeepsSeen ((views_of b).tree owner) loaded kept)
+      (λ keeps. seen_whole ((views_of b).tree owner) (tree_seen after_seat) loaded kept (turned_after disks did place job after a b t owner at)
+      (subst (λ (rs : List Rec). Keeps t.before.owner rs loaded kept) (sym (ap (λ (k : Known Rec (UserName × Limits)). k.seen) t.turn.seat))
+      (subst (λ (f : UserName × Limits). Keeps f.0 t.turn.after.log loaded kept) (sym fixed_after) keeps))) h
 
   module _ (q : Question) (loaded : Loading) (fetched : Fetched) (now : ℕ) where
     pub tree_told : (came : Turn) → Tried disks q loaded fetched now t.turn.before t.turn.after came

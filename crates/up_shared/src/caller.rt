@@ -10,11 +10,13 @@ use crate::lending::{lend_keys, lend_store, lend_tree};
 use crate::shared::{Seats, Shared, place_among};
 use std::alloc::{AllocError, Global};
 use std::hash::RandomState;
+use std::mem;
 use std::sync::Wait;
 use up_calls::{Logs, Turn};
 use up_dir::Fetched;
 use up_disk::Disk;
 use up_entry::Fetch;
+use up_foreign::KeptSearch;
 use up_list::ReadRequest;
 use up_names::{Path, User};
 use up_policy::{LoadAnswer, Loaded};
@@ -87,6 +89,7 @@ impl<'a, D: Disk + Drop, R: Wait> Logs for Caller<'a, D, R> {
         request: &Request,
         asked: &ReadRequest,
         loaded: &Loaded,
+        kept: &mut KeptSearch,
         fetched: &Fetched,
         now: u64,
     ) -> Turn {
@@ -99,11 +102,13 @@ impl<'a, D: Disk + Drop, R: Wait> Logs for Caller<'a, D, R> {
             request,
             asked,
             loaded,
+            kept: mem::replace(kept, KeptSearch::new(alloc, self.shared.random)),
             fetched,
             now,
             came: Turn::Wanting,
         };
         lend_tree(self.rt, self.shared, self.seats, place, &mut job);
+        mem::swap(kept, &mut job.kept);
         job.came
     }
 

@@ -1,9 +1,11 @@
 //! What is done in the turns of a shared host.
 ghost use Rattle.std.specs.Prelude.{◌≡◌, ◌<◌, None, Ok};
+ghost use Rattle.up_calls.specs.Kept.{where_missing};
 ghost use Rattle.up_calls.specs.Routes.{service_of};
 ghost use Rattle.up_calls.specs.Services.{key_fault, store_fault};
 ghost use Rattle.up_calls.specs.Steps.{KeysTried, StoreTried, Tried};
 ghost use Rattle.up_calls.specs.declared.service.Service.TheVariants as service;
+ghost use Rattle.up_foreign.specs.Kept.{Keeps};
 ghost use Rattle.up_list.specs.Asking.{asked_of};
 ghost use Rattle.up_shared.specs.Jobs.{ReadsBlock, ReadsText};
 
@@ -15,6 +17,7 @@ use up_cell::Job;
 use up_dir::Fetched;
 use up_disk::Disk;
 use up_entry::Fetch;
+use up_foreign::KeptSearch;
 use up_keys::Keys;
 use up_list::ReadRequest;
 use up_names::{Path, User};
@@ -23,7 +26,8 @@ use up_refs::Reference;
 use up_tree::TreeState;
 use up_wire::{Reply, Request};
 
-/// A user's request to a tree, and what it asks, with what was loaded and fetched for it: what is missing for it, or else the reply.
+/// A user's request to a tree, and what it asks, with what was loaded and fetched for it, and with what is kept of the search for what is
+/// missing: what is missing for it, or else the reply.
 #[derive(Drop)]
 pub(crate) struct TryTree<'a> {
     pub(crate) alloc: Global,
@@ -31,6 +35,7 @@ pub(crate) struct TryTree<'a> {
     pub(crate) request: &'a Request,
     pub(crate) asked: &'a ReadRequest,
     pub(crate) loaded: &'a Loaded,
+    pub(crate) kept: KeptSearch,
     pub(crate) fetched: &'a Fetched,
     pub(crate) now: u64,
     pub(crate) came: Turn,
@@ -38,11 +43,12 @@ pub(crate) struct TryTree<'a> {
 
 impl<'a, D: Disk> Job<TreeState<D>> for TryTree<'a> {
     ghost can = { λ job state. (asked_of job.user.now job.request.now ≡ Ok job.asked.now)
-        × (job.now < 253402207200) };
+        × (job.now < 253402207200) × Keeps state.owner state.log job.loaded.now job.kept };
 
     ghost did = { λ job old after new. Tried D.Disk
         (record { user = job.user.now; request = job.request.now })
-        job.loaded.now job.fetched.now job.now old new after.came };
+        job.loaded.now job.fetched.now job.now old new after.came
+        × where_missing after.came (Keeps new.owner new.log job.loaded.now after.kept) };
 
     fn run(&mut self, state: &mut TreeState<D>) {
         self.came = try_tree(
@@ -52,6 +58,7 @@ impl<'a, D: Disk> Job<TreeState<D>> for TryTree<'a> {
             self.request,
             self.asked,
             self.loaded,
+            &mut self.kept,
             self.fetched,
             self.now,
         );

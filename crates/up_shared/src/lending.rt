@@ -2,6 +2,7 @@
 ghost use Rattle.std.specs.Prelude.{◌≡◌, ◌<◌, Some, length, slice_get};
 ghost use Rattle.up_blocks.specs.declared.record.BlockRecord.{BlockRecord as OneBlock};
 ghost use Rattle.up_journal.specs.Logs.{LogState};
+ghost use Rattle.up_lists.specs.Begins.{Begins};
 ghost use Rattle.up_shared.specs.Callers.{KeysTurned, StoreTurned, TreeTurned};
 ghost use Rattle.up_shared.specs.Sharing.{AreSeats};
 ghost use Rattle.up_shared.specs.declared.shared.TreeSeat.{TreeSeat as OneSeat};
@@ -28,7 +29,8 @@ pub(crate) fn lend_tree<D: Disk + Drop, R: Wait, J: Job<TreeState<D>>>(
     requires place { place < length shared.now.trees.items }
     requires can { (seat : OneSeat D) (state : State D)
         → slice_get seats.old.trees.items place ≡ Some seat
-        → (seat.owner, seat.limits) ≡ fixed_of state → J.can job.old state }
+        → (seat.owner, seat.limits) ≡ fixed_of state → Begins seat.seat.seen state.log
+        → J.can job.old state }
     ensures { TreeTurned D.Disk J.did place job.old job.new seats.old seats.new }
 {
     let cell = &shared.trees[place].cell;

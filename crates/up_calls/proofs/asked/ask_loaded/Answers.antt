@@ -1,12 +1,14 @@
 use Rattle.std.proofs.Common.{◌≡◌, ◌≢◌, ◌≤◌, ◌<◌, [], None, Some, arith, length, refl, subst, sym}
 use Rattle.up_calls.proofs.AsksLemmas.{Tries-Asks, Tries-trans}
 use Rattle.up_calls.proofs.GatherLemmas.{gathered_none, stays_same, stays_trans}
+use Rattle.up_calls.proofs.KeptLemmas.{kept_next}
 use Rattle.up_calls.proofs.RoundLemmas.{needed_new, round_few, round_grows}
 use Rattle.up_calls.proofs.TurnLemmas.{answered, own_quiet, round_gathered, round_made, rounds_none, some_later}
 use Rattle.up_answers.specs.Fetching.{Fetched}
 use Rattle.up_calls.proofs.CameLemmas.{on_err_now}
 use Rattle.up_calls.specs.Answered.{TreeAnswered}
 use Rattle.up_calls.specs.Gathered.{Gathered, HasRounds, IsWanted}
+use Rattle.up_calls.specs.Kept.{KeepsSeen}
 use Rattle.up_calls.specs.Loads.{group_answer, group_question, load_failed}
 use Rattle.up_calls.specs.Rounds.{IsMissing, bound}
 use Rattle.up_calls.specs.Routes.{LogName, Question}
@@ -35,6 +37,7 @@ loop-reply-init g c =
       tie = g.met.B.Logs.wider who c.args.logs.now c.args.logs.now (g.met.B.Logs.same c.args.logs.now);
       fetched = refl;
       there = c.requires.there;
+      kept = subst (λ l. KeepsSeen (a.tree c.args.owner.now) l c.args.kept.now) (sym none) c.requires.kept;
     }
 
 pub ask_tree-requires-clause-ready : goal.ask_tree-requires-clause-ready
@@ -70,6 +73,8 @@ loop-reply-preserved g c =
       fetched = c.loop-reply.invariant.fetched;
       there = some_later (d.tree c.args.owner.now) (e.tree c.args.owner.now) (past.trees c.args.owner.now)
           (some_later (b.tree c.args.owner.now) (d.tree c.args.owner.now) (on.trees c.args.owner.now) c.loop-reply.invariant.there);
+      kept = kept_next (d.tree c.args.owner.now) (e.tree c.args.owner.now) names c.ask_tree.result c.loop-reply.loaded c.in_ok-gather_round-in-Missing.ensures.round.round c.gather_round.new.loaded c.ask_tree.new.kept c.in-Missing.is c.ask_tree.ensures.kept
+          (past.trees c.args.owner.now) c.in_ok-gather_round-in-Missing.ensures.round.whole;
     }
 
 pub loop-reply-smaller : goal.loop-reply-smaller

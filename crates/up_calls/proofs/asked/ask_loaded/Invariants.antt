@@ -1,6 +1,7 @@
 use Rattle.std.proofs.Common.{◌≡◌, ◌≤◌, ◌-◌, [], length}
 use Rattle.std.specs.Prelude.{None, Some, is_some, true}
 use Rattle.up_calls.specs.Gathered.{Gathered, HasRounds, IsWanted}
+use Rattle.up_calls.specs.Kept.{KeepsSeen}
 use Rattle.up_calls.specs.Rounds.{bound}
 use Rattle.up_calls.specs.Routes.{LogName, OwnStays}
 use Rattle.up_calls.proofs.asked.ask_loaded.Given as goal
@@ -15,6 +16,7 @@ invariant-loop-reply g l = record {
   tie : g.B.Logs.tied (Some (LogName.OfTree l.fn.owner)) l.fn.logs l.logs;
   fetched : l.fetched ≡ l.fn.fetched;
   there : is_some ((g.B.Logs.views l.logs).tree l.fn.owner) ≡ true;
+  kept : KeepsSeen ((g.B.Logs.views l.logs).tree l.fn.owner) l.loaded l.kept;
 }
 
 abbrev pub decreases-loop-reply : goal.decreases-loop-reply

@@ -3,16 +3,14 @@ use Rattle.std.specs.Map.{keys_of}
 use Rattle.std.specs.Option.{option_copied}
 use Rattle.up_log_tree.specs.Trees.{tree_of}
 use Rattle.up_foreign.specs.Foreign.{in_tree, needed_in}
-use Rattle.up_foreign.proofs.NotedLemmas.{none_noted}
 use Rattle.up_foreign.proofs.PlaceLemmas.{each_next, key_owned}
 use Rattle.up_foreign.proofs.needed.note_each.Goals as goal
 
--- none was looked at yet
 pub loop-i-init : goal.loop-i-init
-loop-i-init c = (none_noted c.args.tree.now c.args.loaded.now c.new-noted.result c.args.names.now c.new-noted.ensures, refl)
+loop-i-init c = (c.requires.noted, refl)
 
 pub note_now-requires-clause-owned : goal.note_now-requires-clause-owned
-note_now-requires-clause-owned c = key_owned c.args.tree.now.owner (keys_of c.args.paths.now.entries) c.loop-i.i c.in-Some.path.now c.requires (sym (ap option_copied c.in-Some.is) ∙ c.key_at.ensures)
+note_now-requires-clause-owned c = key_owned c.args.tree.now.owner (keys_of c.args.paths.now.entries) c.loop-i.i c.in-Some.path.now c.requires.owned (sym (ap option_copied c.in-Some.is) ∙ c.key_at.ensures)
 
 -- one path more
 pub loop-i-preserved : goal.loop-i-preserved

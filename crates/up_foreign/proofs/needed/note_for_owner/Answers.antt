@@ -7,14 +7,14 @@ use Rattle.up_foreign.specs.Foreign.{needed_in}
 use Rattle.up_foreign.specs.Trees.{log_over}
 use Rattle.up_foreign.proofs.needed.note_for_owner.Goals as goal
 
-pub returns-in-Delete : goal.returns-in-Delete
+pub returns-in-Delete-clause-added : goal.returns-in-Delete-clause-added
 unfolding owner_places
-returns-in-Delete c = λ limits.
+returns-in-Delete-clause-added c = λ limits.
     subst (λ asked. OnOk c.note_ordinary.result (c.note_ordinary.new.names ≡ with_paths c.args.names.now (flat_map (needed_in c.args.tree.now.owner c.args.loaded.now) (owner_places (log_over limits c.args.tree.now) asked))))
-    (sym c.in-Delete.is) (c.note_ordinary.ensures limits)
+    (sym c.in-Delete.is) (c.note_ordinary.ensures.added limits)
 
-pub returns-in-Put : goal.returns-in-Put
+pub returns-in-Put-clause-added : goal.returns-in-Put-clause-added
 unfolding owner_places
-returns-in-Put c = λ limits.
+returns-in-Put-clause-added c = λ limits.
     subst (λ asked. OnOk c.note_ordinary-in-Put.result (c.note_ordinary-in-Put.new.names ≡ with_paths c.args.names.now (flat_map (needed_in c.args.tree.now.owner c.args.loaded.now) (owner_places (log_over limits c.args.tree.now) asked))))
-    (sym c.in-Put.is) (c.note_ordinary-in-Put.ensures limits)
+    (sym c.in-Put.is) (c.note_ordinary-in-Put.ensures.added limits)

@@ -6,13 +6,13 @@ use Rattle.up_policy.specs.Reached.{with_paths}
 use Rattle.up_foreign.specs.Foreign.{needed_in, places_at}
 use Rattle.up_foreign.proofs.EventLemmas.{own_at, position_next}
 use Rattle.up_foreign.proofs.ReachLemmas.{may_cover_any, may_cover_more, rest_found}
-use Rattle.up_foreign.proofs.TimesLemmas.{both_none}
+use Rattle.up_foreign.proofs.TimesLemmas.{both_begun}
 use Rattle.up_foreign.proofs.needed.note_positions.Goals as goal
 
 -- none yet
 pub loop-position-init : goal.loop-position-init
 loop-position-init c = (
-  both_none c.args.tree.now c.args.loaded.now c.new-times.result c.args.names.now c.new-times.ensures.current c.new-times.ensures.past,
+  both_begun c.args.tree.now c.args.loaded.now c.args.noted c.new-times.result c.args.names.now c.requires.noted c.new-times.ensures.current c.new-times.ensures.past,
   refl,
   may_cover_any c.args.tree.now c.args.loaded.now c.in_ok-left.left c.args.names.now c.in_ok-left.ensures,
 )
@@ -24,7 +24,7 @@ returns-then-is_done c =
     (c.is_done.ensures.found c.if-is_done.true c.args.tree.now c.args.loaded.now c.loop-position.invariant.2) c.loop-position.invariant.1
 
 pub note_record-requires-clause-change : goal.note_record-requires-clause-change
-note_record-requires-clause-change c = own_at c.args.tree.now c.args.positions.now c.loop-position.position-index 0 c.requires c.loop-position-test.true
+note_record-requires-clause-change c = own_at c.args.tree.now c.args.positions.now c.loop-position.position-index 0 c.requires.owned c.loop-position-test.true
 
 -- one position more
 pub loop-position-preserved : goal.loop-position-preserved

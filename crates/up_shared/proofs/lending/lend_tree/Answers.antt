@@ -1,5 +1,6 @@
 use Rattle.std.proofs.Common.{◌≡◌, Some, ap, arith, refl, slice_get, subst, sym, ◌∙◌}
 use Rattle.up_cell.specs.Turned.{Turned}
+use Rattle.up_lists.specs.Begins.{Begins}
 use Rattle.up_shared.specs.Sharing.{IsTreeSeat}
 use Rattle.up_shared.proofs.Pairs.{each_at, each_length, read_at, some_same}
 use Rattle.up_tree.specs.States.{entries_of, fixed_of}
@@ -32,6 +33,7 @@ lend-requires-clause-can g c = λ state lent.
     let at = each_at IsTreeSeat c.args.shared.now.trees.items c.args.seats.now.trees.items c.args.place c.index.result.now c.index_mut.result.now c.requires.sits.trees here mine in
     c.requires.can c.index_mut.result.now state mine
     (some_same (c.index_mut.result.now.owner, c.index_mut.result.now.limits) (fixed_of state) (sym at.fixed ∙ (sym (ap (λ k. k.fixed) c.seen.ensures.seat) ∙ lent.fixed_is)))
+    (subst (λ seen. Begins seen state.log) (ap (λ k. k.seen) c.seen.ensures.seat) lent.begins)
 
 pub returns : goal.returns
 returns g c =

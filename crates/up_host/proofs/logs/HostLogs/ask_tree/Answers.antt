@@ -2,7 +2,7 @@ use Rattle.std.proofs.Common.{◌≡◌, ◌<◌, ◌≤◌, Some, length, arith
 use Rattle.std.specs.Prelude.{position}
 use Rattle.std.proofs.lemmas.Option.{slice_get-get_or}
 use Rattle.up_host.proofs.PlaceLemmas.{base_at, bases_set, length_set, position-place}
-use Rattle.up_host.proofs.TurnedLemmas.{nowhere, tree_left, tree_tied, tree_told}
+use Rattle.up_host.proofs.TurnedLemmas.{kept_there, nowhere, tree_kept, tree_left, tree_tied, tree_told}
 use Rattle.up_host.specs.Alone.{is_of}
 use Rattle.up_lists.proofs.BeginsLemmas.{length-Begins}
 use Rattle.up_host.proofs.logs.HostLogs.ask_tree.Goals as goal
@@ -57,3 +57,18 @@ returns-clause-tie g c =
     slice_get-get_or c.self.inside.trees.items c.in-Some.place c.index_mut-held.result.now (position-place (is_of c.args.owner.now) c.self.inside.trees.items c.in-Some.place at).1 ∙ ap Some (sym c.index_mut-held.ensures.value) in
     let fits : c.index_mut-held.result.now.base ≤ length c.index_mut-held.result.now.state.log = base_at c.self.inside.trees.items c.in-Some.place c.index_mut-held.result.now c.self.invariant.trees_base there in
     rw (← c.self.view_is) (tree_tied g.D.Disk _ c.args.owner.now c.in-Some.place c.index_mut-held.result.now c.try_tree.new.state at there c.try_tree.ensures.grows fits (record { user = c.args.user.now; request = c.args.request.now }) c.args.loaded.now c.args.fetched.now c.args.now c.try_tree.result c.try_tree.ensures.tried)
+
+pub try_tree-requires-clause-kept : goal.try_tree-requires-clause-kept
+try_tree-requires-clause-kept g c =
+    let at : position (is_of c.args.owner.now) c.self.inside.trees.items ≡ Some c.in-Some.place = sym (ap (position (is_of c.args.owner.now)) c.deref.ensures.value) ∙ sym c.place_of.ensures ∙ c.in-Some.is in
+    let there : slice_get c.self.inside.trees.items c.in-Some.place ≡ Some c.index_mut-held.result.now =
+    slice_get-get_or c.self.inside.trees.items c.in-Some.place c.index_mut-held.result.now (position-place (is_of c.args.owner.now) c.self.inside.trees.items c.in-Some.place at).1 ∙ ap Some (sym c.index_mut-held.ensures.value) in
+    kept_there g.D.Disk _ c.args.owner.now c.in-Some.place c.index_mut-held.result.now at there c.args.self.now c.self.view_is c.args.loaded.now c.args.kept.now c.requires.kept
+
+pub returns-clause-kept : goal.returns-clause-kept
+returns-clause-kept g c =
+    let at : position (is_of c.args.owner.now) c.self.inside.trees.items ≡ Some c.in-Some.place = sym (ap (position (is_of c.args.owner.now)) c.deref.ensures.value) ∙ sym c.place_of.ensures ∙ c.in-Some.is in
+    let there : slice_get c.self.inside.trees.items c.in-Some.place ≡ Some c.index_mut-held.result.now =
+    slice_get-get_or c.self.inside.trees.items c.in-Some.place c.index_mut-held.result.now (position-place (is_of c.args.owner.now) c.self.inside.trees.items c.in-Some.place at).1 ∙ ap Some (sym c.index_mut-held.ensures.value) in
+    let fits : c.index_mut-held.result.now.base ≤ length c.index_mut-held.result.now.state.log = base_at c.self.inside.trees.items c.in-Some.place c.index_mut-held.result.now c.self.invariant.trees_base there in
+    tree_kept g.D.Disk _ c.args.owner.now c.in-Some.place c.index_mut-held.result.now c.try_tree.new.state at there c.try_tree.ensures.grows fits (record { user = c.args.user.now; request = c.args.request.now }) c.args.loaded.now c.args.fetched.now c.args.now c.try_tree.result c.try_tree.ensures.tried c.args.self.now c.self.view_is c.try_tree.new.kept c.try_tree.ensures.kept

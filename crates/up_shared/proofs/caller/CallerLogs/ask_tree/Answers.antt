@@ -1,9 +1,11 @@
-use Rattle.std.proofs.Common.{◌≡◌, Some, ap, position, sym, ◌∙◌}
+use Rattle.std.proofs.Common.{◌≡◌, Some, ap, position, subst, sym, ◌∙◌}
 use Rattle.std.proofs.lemmas.Bool.{false≢true}
 use Rattle.std.specs.Prelude.{is_some}
-use Rattle.up_shared.specs.Sharing.{is_cell_of, is_seat_of}
+use Rattle.up_calls.specs.Kept.{KeepsSeen, where_missing}
+use Rattle.up_foreign.specs.declared.kept.KeptSearch.{KeptSearch}
+use Rattle.up_shared.specs.Sharing.{is_cell_of, is_seat_of, views_of}
 use Rattle.up_shared.proofs.Places.{has_same, position_same}
-use Rattle.up_shared.proofs.Telling.{tied_own, tree_looked, tree_told}
+use Rattle.up_shared.proofs.Telling.{kept_there, tied_own, tree_kept, tree_looked, tree_told}
 use Rattle.up_shared.proofs.caller.CallerLogs.ask_tree.Goals as goal
 
 pub unreachable-requires : goal.unreachable-requires
@@ -21,7 +23,7 @@ returns-clause-told g c =
     sym (position_same owner cells seats c.requires.ready.trees) ∙ sym (ap (position (is_cell_of owner)) c.deref.ensures.value) ∙ sym c.place_among.ensures ∙ c.in-Some.is in
     let t = c.lend_tree.ensures in
     tree_told g.D.Disk _ c.in-Some.place _ c.lend_tree.new.job c.args.self.now.shared.now c.args.self.now.seats.now c.lend_tree.new.seats c.requires.ready t owner at
-    (record { user = c.args.user.now; request = c.args.request.now }) c.args.loaded.now c.args.fetched.now c.args.now c.lend_tree.new.job.came t.turn.did_it
+    (record { user = c.args.user.now; request = c.args.request.now }) c.args.loaded.now c.args.fetched.now c.args.now c.lend_tree.new.job.came t.turn.did_it.0
 
 pub returns-clause-left : goal.returns-clause-left
 returns-clause-left g c =
@@ -32,7 +34,7 @@ returns-clause-left g c =
     sym (position_same owner cells seats c.requires.ready.trees) ∙ sym (ap (position (is_cell_of owner)) c.deref.ensures.value) ∙ sym c.place_among.ensures ∙ c.in-Some.is in
     let t = c.lend_tree.ensures in
     tree_looked g.D.Disk _ c.in-Some.place _ c.lend_tree.new.job c.args.self.now.shared.now c.args.self.now.seats.now c.lend_tree.new.seats c.requires.ready t owner at
-    (record { user = c.args.user.now; request = c.args.request.now }) c.args.loaded.now c.args.fetched.now c.args.now c.lend_tree.new.job.came t.turn.did_it
+    (record { user = c.args.user.now; request = c.args.request.now }) c.args.loaded.now c.args.fetched.now c.args.now c.lend_tree.new.job.came t.turn.did_it.0
 
 pub returns-clause-tie : goal.returns-clause-tie
 returns-clause-tie g c =
@@ -43,3 +45,24 @@ returns-clause-tie g c =
     sym (position_same owner cells seats c.requires.ready.trees) ∙ sym (ap (position (is_cell_of owner)) c.deref.ensures.value) ∙ sym c.place_among.ensures ∙ c.in-Some.is in
     tied_own g.D.Disk _ c.in-Some.place _ c.lend_tree.new.job c.args.self.now.shared.now c.args.self.now.seats.now c.lend_tree.new.seats c.requires.ready c.lend_tree.ensures owner at
     c.args.self.now.seats.ghost_name
+
+pub lend_tree-requires-clause-can : goal.lend_tree-requires-clause-can
+lend_tree-requires-clause-can g c = λ seat state there fixed begins.
+    let cells = c.args.self.now.shared.now.trees.items in
+    let seats = c.args.self.now.seats.now.trees.items in
+    let owner = c.args.owner.now in
+    let at : position (is_seat_of owner) seats ≡ Some c.in-Some.place =
+    sym (position_same owner cells seats c.requires.ready.trees) ∙ sym (ap (position (is_cell_of owner)) c.deref.ensures.value) ∙ sym c.place_among.ensures ∙ c.in-Some.is in
+    (c.requires.read, c.requires.moment, kept_there c.args.self.now.seats.now owner c.in-Some.place seat at there state fixed begins c.args.loaded.now c.replace.result (subst (KeepsSeen ((views_of c.args.self.now.seats.now).tree owner) c.args.loaded.now) (sym c.replace.ensures.value) c.requires.kept))
+
+pub returns-clause-kept : goal.returns-clause-kept
+returns-clause-kept g c =
+    let cells = c.args.self.now.shared.now.trees.items in
+    let seats = c.args.self.now.seats.now.trees.items in
+    let owner = c.args.owner.now in
+    let at : position (is_seat_of owner) seats ≡ Some c.in-Some.place =
+    sym (position_same owner cells seats c.requires.ready.trees) ∙ sym (ap (position (is_cell_of owner)) c.deref.ensures.value) ∙ sym c.place_among.ensures ∙ c.in-Some.is in
+    let t = c.lend_tree.ensures in
+    subst (λ (k : KeptSearch). where_missing c.lend_tree.new.job.came (KeepsSeen ((views_of c.lend_tree.new.seats).tree owner) c.args.loaded.now k)) (sym c.swap.ensures.x_after)
+    (tree_kept g.D.Disk _ c.in-Some.place _ c.lend_tree.new.job c.args.self.now.shared.now c.args.self.now.seats.now c.lend_tree.new.seats c.requires.ready t owner at
+    c.args.loaded.now c.lend_tree.new.job.came c.lend_tree.new.job.kept t.turn.did_it.1)

@@ -20,7 +20,7 @@ pub returns-in_default-clause-tie : goal.returns-in_default-clause-tie
 returns-in_default-clause-tie g c = tied_same c.args.self.now.shared.now c.args.self.now.seats.ghost_name c.args.self.now.seats.now
 
 pub lend_tree-requires-clause-can : goal.lend_tree-requires-clause-can
-lend_tree-requires-clause-can g c = λ seat state there fixed.
+lend_tree-requires-clause-can g c = λ seat state there fixed begins.
     let cells = c.args.self.now.shared.now.trees.items in
     let seats = c.args.self.now.seats.now.trees.items in
     let owner = c.args.name.now.owner in
