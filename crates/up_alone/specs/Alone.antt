@@ -5,7 +5,7 @@ use Rattle.up_ends.specs.declared.clock.Clock as clock
 use Rattle.up_ends.specs.declared.nonces.Nonces as nonces
 use Rattle.up_ends.specs.declared.verifier.Verifier as verifier
 use Rattle.up_calls.specs.Alike.{TellsNoMore}
-use Rattle.up_host.specs.Alone.{Counts, HostState, IsAlone, disk_faults, views}
+use Rattle.up_host.specs.Alone.{Counts, HostState, IsAlone, RisesAsShown, disk_faults, views}
 use Rattle.up_calls.specs.Calls.{Asked}
 use Rattle.up_calls.specs.Routes.{Question}
 use Rattle.up_host.specs.Settled.{StaysSettled}
@@ -33,6 +33,7 @@ pub record AsksAlone {D L : Type 0} (disks : disk.Ghosts D) (loaders : loader.Gh
   pub asked : Asked loaders a.host.operator (views disks a.host) a.peers q e (views disks b.host) b.peers
   pub alone : IsAlone (views disks a.host) (views disks b.host) q e
   pub counts : Counts (disk_faults disks a.host) (disk_faults disks b.host) (loaders.faults a.peers) (loaders.faults b.peers) e
+  pub quiet : RisesAsShown (views disks a.host) (views disks b.host) q e
   pub alike : TellsNoMore (views disks b.host) q e
   pub stays : StaysSettled disks a.host b.host
   pub moment_is : e.moment ≡ moment

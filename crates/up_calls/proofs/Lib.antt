@@ -18,3 +18,4 @@ pub mod SettledLemmas
 pub mod StepLemmas
 pub mod GroupTextLemmas
 pub mod StateLemmas
+pub mod ShownLemmas

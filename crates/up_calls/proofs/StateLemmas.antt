@@ -24,6 +24,8 @@ use Rattle.up_entry.specs.declared.fetch.Fetch.{Fetch}
 use Rattle.up_entry.specs.declared.fetch.Fetch.TheVariants as fetch
 use Rattle.up_journal.specs.Logs.{LogState}
 use Rattle.up_keys.specs.Answers as of_keys
+use Rattle.up_lists.proofs.Causes.{StaysUnless-more}
+use Rattle.up_lists.specs.Counts.{StaysUnless}
 use Rattle.up_names.specs.Texts.{UserName}
 use Rattle.up_policy.specs.Loadings.{Loading}
 use Rattle.up_policy.specs.declared.load_answer.LoadAnswer.{LoadAnswer}
@@ -40,25 +42,25 @@ use Rattle.up_wire.specs.declared.requests.Request.TheVariants as request
 module _ {D : Type 0} (disks : Ghosts D) (q : Question) (loaded : Loading) (fetched : Fetched) (now : ℕ) (old new : State D) where
   pub tried_said : (said : Reply) (position : ℕ) → IsWhole (needs (log_of old) loaded q.user q.request) loaded → position ≡ length old.log
       → Steps disks (answer (log_of old) loaded fetched q.user q.request now) (added (log_of old) loaded fetched q.user q.request now) old new said → IsLog old.owner old.log
-      → Tried disks q loaded fetched now old new (said_at said position)
-  tried_said reply.OutOfMemory position whole at steps legal = record { log = steps.log ∙ append-nil old.log; stands = steps.stands }
-  tried_said reply.Io position whole at steps legal = record { enough = λ e. cc; whole = whole; position_is = at; steps = steps; legal = legal }
-  tried_said (reply.Ok what) position whole at steps legal = record { enough = λ e. cc; whole = whole; position_is = at; steps = steps; legal = legal }
-  tried_said (reply.Invalid what) position whole at steps legal = record { enough = λ e. cc; whole = whole; position_is = at; steps = steps; legal = legal }
-  tried_said reply.WrongHost position whole at steps legal = record { enough = λ e. cc; whole = whole; position_is = at; steps = steps; legal = legal }
-  tried_said (reply.FollowLink entry) position whole at steps legal = record { enough = λ e. cc; whole = whole; position_is = at; steps = steps; legal = legal }
-  tried_said reply.Private position whole at steps legal = record { enough = λ e. cc; whole = whole; position_is = at; steps = steps; legal = legal }
-  tried_said (reply.Permission right) position whole at steps legal = record { enough = λ e. cc; whole = whole; position_is = at; steps = steps; legal = legal }
-  tried_said reply.NotExist position whole at steps legal = record { enough = λ e. cc; whole = whole; position_is = at; steps = steps; legal = legal }
-  tried_said reply.NotDir position whole at steps legal = record { enough = λ e. cc; whole = whole; position_is = at; steps = steps; legal = legal }
-  tried_said reply.IsDir position whole at steps legal = record { enough = λ e. cc; whole = whole; position_is = at; steps = steps; legal = legal }
-  tried_said reply.Exist position whole at steps legal = record { enough = λ e. cc; whole = whole; position_is = at; steps = steps; legal = legal }
-  tried_said (reply.BadSequence sequence) position whole at steps legal = record { enough = λ e. cc; whole = whole; position_is = at; steps = steps; legal = legal }
-  tried_said reply.NotEmpty position whole at steps legal = record { enough = λ e. cc; whole = whole; position_is = at; steps = steps; legal = legal }
-  tried_said (reply.BadBlock reference) position whole at steps legal = record { enough = λ e. cc; whole = whole; position_is = at; steps = steps; legal = legal }
-  tried_said (reply.BadText line) position whole at steps legal = record { enough = λ e. cc; whole = whole; position_is = at; steps = steps; legal = legal }
-  tried_said (reply.TooLarge size) position whole at steps legal = record { enough = λ e. cc; whole = whole; position_is = at; steps = steps; legal = legal }
-  tried_said (reply.Full records) position whole at steps legal = record { enough = λ e. cc; whole = whole; position_is = at; steps = steps; legal = legal }
+      → StaysUnless (disks.faults old.disk) (disks.faults new.disk) (said ≡ reply.Io) → Tried disks q loaded fetched now old new (said_at said position)
+  tried_said reply.OutOfMemory position whole at steps legal quiet = record { log = steps.log ∙ append-nil old.log; stands = steps.stands; quiet = quiet.stays (λ e. cc) }
+  tried_said reply.Io position whole at steps legal quiet = record { enough = λ e. cc; whole = whole; position_is = at; steps = steps; legal = legal; quiet = quiet }
+  tried_said (reply.Ok what) position whole at steps legal quiet = record { enough = λ e. cc; whole = whole; position_is = at; steps = steps; legal = legal; quiet = quiet }
+  tried_said (reply.Invalid what) position whole at steps legal quiet = record { enough = λ e. cc; whole = whole; position_is = at; steps = steps; legal = legal; quiet = quiet }
+  tried_said reply.WrongHost position whole at steps legal quiet = record { enough = λ e. cc; whole = whole; position_is = at; steps = steps; legal = legal; quiet = quiet }
+  tried_said (reply.FollowLink entry) position whole at steps legal quiet = record { enough = λ e. cc; whole = whole; position_is = at; steps = steps; legal = legal; quiet = quiet }
+  tried_said reply.Private position whole at steps legal quiet = record { enough = λ e. cc; whole = whole; position_is = at; steps = steps; legal = legal; quiet = quiet }
+  tried_said (reply.Permission right) position whole at steps legal quiet = record { enough = λ e. cc; whole = whole; position_is = at; steps = steps; legal = legal; quiet = quiet }
+  tried_said reply.NotExist position whole at steps legal quiet = record { enough = λ e. cc; whole = whole; position_is = at; steps = steps; legal = legal; quiet = quiet }
+  tried_said reply.NotDir position whole at steps legal quiet = record { enough = λ e. cc; whole = whole; position_is = at; steps = steps; legal = legal; quiet = quiet }
+  tried_said reply.IsDir position whole at steps legal quiet = record { enough = λ e. cc; whole = whole; position_is = at; steps = steps; legal = legal; quiet = quiet }
+  tried_said reply.Exist position whole at steps legal quiet = record { enough = λ e. cc; whole = whole; position_is = at; steps = steps; legal = legal; quiet = quiet }
+  tried_said (reply.BadSequence sequence) position whole at steps legal quiet = record { enough = λ e. cc; whole = whole; position_is = at; steps = steps; legal = legal; quiet = quiet }
+  tried_said reply.NotEmpty position whole at steps legal quiet = record { enough = λ e. cc; whole = whole; position_is = at; steps = steps; legal = legal; quiet = quiet }
+  tried_said (reply.BadBlock reference) position whole at steps legal quiet = record { enough = λ e. cc; whole = whole; position_is = at; steps = steps; legal = legal; quiet = quiet }
+  tried_said (reply.BadText line) position whole at steps legal quiet = record { enough = λ e. cc; whole = whole; position_is = at; steps = steps; legal = legal; quiet = quiet }
+  tried_said (reply.TooLarge size) position whole at steps legal quiet = record { enough = λ e. cc; whole = whole; position_is = at; steps = steps; legal = legal; quiet = quiet }
+  tried_said (reply.Full records) position whole at steps legal quiet = record { enough = λ e. cc; whole = whole; position_is = at; steps = steps; legal = legal; quiet = quiet }
 
 -- ---- a text
 
@@ -95,6 +97,15 @@ module _ {D : Type 0} (disks : Ghosts D) (old new : LogState D BlockRecord) wher
   block_read reference told (Err why.Fault) gives given h = if_some (BlockRead disks old new reference) given fetch.Failed h (inr (refl, gives.cause.rose refl))
   block_read reference told (Err (why.Full records)) gives given h = absurd (gives.never_full records refl)
   block_read reference told (Err why.OutOfMemory) gives given h = none_ok (BlockRead disks old new reference) given h
+
+failed_ok : {E : Type 0} (result : Result Fetch E) → result_ok result ≡ Some fetch.Failed → result ≡ Ok fetch.Failed
+failed_ok (Ok x) is = let same : x ≡ fetch.Failed = cc in ap Ok same
+failed_ok (Err e) is = absurd (cc)
+
+-- the count of the store's disk is as before, unless the block could not be read
+pub block_quiet : {E : Type 0} (before after : ℕ) (given : Result (List ℕ) BlockWhy) (result : Result Fetch E) → FetchedAs given (result_ok result) → StaysUnless before after (given ≡ Err why.Fault) → StaysUnless before after (result ≡ Ok fetch.Failed)
+block_quiet before after given result h quiet =
+    StaysUnless-more before after (given ≡ Err why.Fault) (result ≡ Ok fetch.Failed) quiet (λ is. failed_ok result (subst (λ (r : Result (List ℕ) BlockWhy). FetchedAs r (result_ok result)) is h))
 
 -- ---- the store and the keys
 

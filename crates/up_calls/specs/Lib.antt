@@ -10,6 +10,7 @@ pub mod Rounds
 pub mod Gathered
 pub mod Kept
 pub mod Told
+pub mod Shown
 pub mod Answered
 pub mod Alike
 pub mod Done

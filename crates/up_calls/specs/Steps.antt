@@ -20,7 +20,7 @@ use Rattle.up_disk.specs.declared.disk.Disk.{Ghosts}
 use Rattle.up_entry.specs.declared.fetch.Fetch.{Fetch}
 use Rattle.up_entry.specs.declared.fetch.Fetch.TheVariants as fetch
 use Rattle.up_journal.specs.Logs.{LogState}
-use Rattle.up_lists.specs.Counts.{Rose}
+use Rattle.up_lists.specs.Counts.{Rose, StaysUnless}
 use Rattle.up_names.specs.PathNames.{PathName}
 use Rattle.up_names.specs.Texts.{UserName}
 use Rattle.up_policy.specs.Loadings.{Loading}
@@ -43,7 +43,8 @@ pub record Takes {E F : Type 0} (before after : List E) (v w : Seen E F) (faults
 
 -- ---- a tree
 
--- A tree answered: nothing is needed over its log, or as many names are loaded as one call may load.
+-- A tree answered: nothing is needed over its log, or as many names are loaded as one call may load. Its disk's count is as before where
+-- the reply is not Io.
 pub record Answers {D : Type 0} (disks : Ghosts D) (q : Question) (loaded : Loading)
     (fetched : Fetched) (now : ℕ) (old new : State D) (said : Reply) (position : ℕ) : Type 0 where
   pub enough : said ≢ reply.OutOfMemory
@@ -52,12 +53,14 @@ pub record Answers {D : Type 0} (disks : Ghosts D) (q : Question) (loaded : Load
   pub steps : Steps disks (answer (log_of old) loaded fetched q.user q.request now)
       (added (log_of old) loaded fetched q.user q.request now) old new said
   pub legal : IsLog old.owner old.log
+  pub quiet : StaysUnless (disks.faults old.disk) (disks.faults new.disk) (said ≡ reply.Io)
 
--- Memory was wanting: its log stays, and perhaps a doubtful record was settled.
+-- Memory was wanting: its log stays, and perhaps a doubtful record was settled; its disk did not fail.
 pub record Wants {D : Type 0} (disks : Ghosts D) (q : Question) (loaded : Loading)
     (fetched : Fetched) (now : ℕ) (old new : State D) : Type 0 where
   pub log : new.log ≡ old.log
   pub stands : (new ≡ old) ⊎ IsApplied disks (added (log_of old) loaded fetched q.user q.request now) old new reply.OutOfMemory
+  pub quiet : disks.faults new.disk ≡ disks.faults old.disk
 
 -- Some groups are needed over its log, and fewer names are loaded than one call may load; the tree stays.
 pub record Lacks {D : Type 0} (q : Question) (loaded : Loading) (old new : State D) (names : List PathName) : Type 0 where
@@ -105,6 +108,7 @@ pub record StoreTried {D : Type 0} (disks : Ghosts D) (operator : UserName) (q :
   pub done : IsDone StoreSays (store_fault q.request) (store_leads operator q.user q.request old.limits old.log)
       old.log new.log (disks.faults old.disk) (disks.faults new.disk) said
   pub rose : said ≡ reply.Io → Rose (disks.faults old.disk) (disks.faults new.disk)
+  pub quiet : StaysUnless (disks.faults old.disk) (disks.faults new.disk) (said ≡ reply.Io)
   pub stays : KeepsSettled disks old new
   pub position_is : position ≡ length old.log
 
@@ -114,5 +118,6 @@ pub record KeysTried {D : Type 0} (disks : Ghosts D) (q : Question)
   pub done : IsDone (λ log. KeysSay) (key_fault q.request) (key_leads q.user q.request old.limits old.log)
       old.log new.log (disks.faults old.disk) (disks.faults new.disk) said
   pub rose : said ≡ reply.Io → Rose (disks.faults old.disk) (disks.faults new.disk)
+  pub quiet : StaysUnless (disks.faults old.disk) (disks.faults new.disk) (said ≡ reply.Io)
   pub stays : KeepsSettled disks old new
   pub position_is : position ≡ length old.log

@@ -1,5 +1,5 @@
 -- What one turn of one log tells whoever has the logs of a host. This project's own.
-use Rattle.std.specs.Prelude.{◌≡◌, ◌≢◌, ◌≤◌, ◌⊎◌, ℕ, List, [], length, Some}
+use Rattle.std.specs.Prelude.{◌≡◌, ◌≢◌, ◌≤◌, ◌⊎◌, ℕ, Bool, true, false, List, [], length, Some}
 use Rattle.up_answers.specs.Fetching.{Fetched}
 use Rattle.up_calls.specs.Calls.{TreeNeedsDisk, TreeSays}
 use Rattle.up_calls.specs.Gathered.{missing_over}
@@ -62,6 +62,11 @@ abbrev pub answered_at : Turn → (ℕ → Type 0) → Type 0
 answered_at (turn.Said answer position) holds = holds position
 answered_at (turn.Missing names) holds = Unit {0}
 answered_at turn.Wanting holds = Unit {0}
+
+-- a turn of a tree replied Io
+abbrev pub tells_io : Turn → Bool
+tells_io (turn.Said reply.Io position) = true
+tells_io other = false
 
 -- One turn of the store or the keys: `turn` says which event is one of it. It replied, or its disk failed, or memory was wanting.
 pub record LogTold {E F : Type 0} (turn : Event → Type 0) (rises : Type 0) (v w : Seen E F) (said : Reply) (position : ℕ) : Type 0 where

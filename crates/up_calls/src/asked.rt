@@ -5,6 +5,7 @@ ghost use Rattle.up_calls.specs.Asks.{Tries};
 ghost use Rattle.up_calls.specs.Calls.{IsTried};
 ghost use Rattle.up_calls.specs.Kept.{KeepsSeen};
 ghost use Rattle.up_calls.specs.Routes.{LogName, OwnStays, log_asked, service_of};
+ghost use Rattle.up_calls.specs.Shown.{AllQuiet, FailsAsShown, QuietApart, QuietBut, TreeQuiet};
 ghost use Rattle.up_calls.specs.declared.service.Service.TheVariants as service;
 ghost use Rattle.up_edits.specs.Routes.{route_of};
 ghost use Rattle.up_edits.specs.declared.routes.Route.TheVariants as route;
@@ -42,6 +43,8 @@ pub(crate) fn ask_directory<B: Logs, L: Loader>(
         (λ log n. B.left log n logs.old logs.new) (λ log. B.rises log logs.old logs.new)
         (B.views logs.old) (B.views logs.new)
         (record { user = user.now; request = request.now }) loader.old loader.new result }
+    ensures quiet { FailsAsShown (λ log. B.quiet log logs.old logs.new)
+        (record { user = user.now; request = request.now }) result }
     ensures tie { B.tied (log_asked (record { user = user.now; request = request.now }))
         logs.old logs.new }
     ensures moment { result.moment ≡ now }
@@ -75,6 +78,8 @@ fn ask_read<B: Logs, L: Loader>(
         (λ log n. B.left log n logs.old logs.new) (λ log. B.rises log logs.old logs.new)
         (B.views logs.old) (B.views logs.new)
         (record { user = user.now; request = request.now }) loader.old loader.new result }
+    ensures quiet { FailsAsShown (λ log. B.quiet log logs.old logs.new)
+        (record { user = user.now; request = request.now }) result }
     ensures tie { B.tied (log_asked (record { user = user.now; request = request.now }))
         logs.old logs.new }
     ensures moment { result.moment ≡ now }
@@ -110,6 +115,8 @@ fn ask_owner<B: Logs, L: Loader>(
         (λ log n. B.left log n logs.old logs.new) (λ log. B.rises log logs.old logs.new)
         (B.views logs.old) (B.views logs.new)
         (record { user = user.now; request = request.now }) loader.old loader.new result }
+    ensures quiet { FailsAsShown (λ log. B.quiet log logs.old logs.new)
+        (record { user = user.now; request = request.now }) result }
     ensures tie { B.tied (Some (LogName.OfTree owner.now)) logs.old logs.new }
     ensures moment { result.moment ≡ now }
 {
@@ -145,6 +152,10 @@ fn ask_there<B: Logs, L: Loader>(
         (λ log. B.rises log logs.old logs.new) (B.views logs.old) (B.views logs.new) owner.now
         (record { user = user.now; request = request.now })
         loader.old loader.new locations now) }
+    ensures quiet { IfOk result
+        (TreeQuiet (λ log. B.quiet log logs.old logs.new) owner.now) }
+    ensures apart { OnErr result
+        (QuietApart (λ log. B.quiet log logs.old logs.new) LogName.OfStore) }
     ensures left { IfOk result (λ event.
         B.left (LogName.OfTree owner.now) event.position logs.old logs.new) }
     ensures wanting { OnErr result (OwnStays None (B.views logs.old) (B.views logs.new)) }
@@ -184,6 +195,9 @@ fn ask_loaded<B: Logs, L: Loader>(
         (B.views logs.old) (B.views logs.new) owner.now
         (record { user = user.now; request = request.now })
         loader.old loader.new fetched now) }
+    ensures quiet { IfOk result (λ event. QuietBut (λ log. B.quiet log logs.old logs.new)
+        (LogName.OfTree owner.now) (event.reply ≡ Reply.Io)) }
+    ensures calm { OnErr result (AllQuiet (λ log. B.quiet log logs.old logs.new)) }
     ensures left { IfOk result (λ event.
         B.left (LogName.OfTree owner.now) event.position logs.old logs.new) }
     ensures wanting { OnErr result (OwnStays None (B.views logs.old) (B.views logs.new)) }

@@ -4,6 +4,7 @@ ghost use Rattle.up_calls.specs.Alike.{TellsNoMore};
 ghost use Rattle.up_calls.specs.Answered.{Came, Leaves, LoadsInRounds, Risen};
 ghost use Rattle.up_calls.specs.Calls.{Asked};
 ghost use Rattle.up_calls.specs.Routes.{log_asked, service_of};
+ghost use Rattle.up_calls.specs.Shown.{FailsAsShown};
 ghost use Rattle.up_calls.specs.declared.service.Service.TheVariants as service;
 
 use crate::asked::ask_directory;
@@ -38,6 +39,8 @@ pub fn ask<B: Logs, L: Loader>(
     ensures risen { Risen (λ log. B.rises log logs.old logs.new)
         (L.faults loader.old) (L.faults loader.new)
         (record { user = user.now; request = request.now }) result }
+    ensures quiet { FailsAsShown (λ log. B.quiet log logs.old logs.new)
+        (record { user = user.now; request = request.now }) result }
     ensures rounds { LoadsInRounds (B.views logs.old) (B.views logs.new)
         (record { user = user.now; request = request.now }) result }
     ensures alike { TellsNoMore (B.views logs.new)
@@ -65,6 +68,8 @@ fn ask_by<B: Logs, L: Loader>(
         (λ log n. B.left log n logs.old logs.new) (λ log. B.rises log logs.old logs.new)
         (B.views logs.old) (B.views logs.new)
         (record { user = user.now; request = request.now }) loader.old loader.new result }
+    ensures quiet { FailsAsShown (λ log. B.quiet log logs.old logs.new)
+        (record { user = user.now; request = request.now }) result }
     ensures tie { B.tied (log_asked (record { user = user.now; request = request.now }))
         logs.old logs.new }
     ensures moment { result.moment ≡ now }
@@ -91,6 +96,8 @@ fn ask_store<B: Logs, L: Loader>(
         (λ log n. B.left log n logs.old logs.new) (λ log. B.rises log logs.old logs.new)
         (B.views logs.old) (B.views logs.new)
         (record { user = user.now; request = request.now }) loader.now loader.now result }
+    ensures quiet { FailsAsShown (λ log. B.quiet log logs.old logs.new)
+        (record { user = user.now; request = request.now }) result }
     ensures tie { B.tied (log_asked (record { user = user.now; request = request.now }))
         logs.old logs.new }
     ensures moment { result.moment ≡ now }
@@ -118,6 +125,8 @@ fn ask_keys<B: Logs, L: Loader>(
         (λ log n. B.left log n logs.old logs.new) (λ log. B.rises log logs.old logs.new)
         (B.views logs.old) (B.views logs.new)
         (record { user = user.now; request = request.now }) loader.now loader.now result }
+    ensures quiet { FailsAsShown (λ log. B.quiet log logs.old logs.new)
+        (record { user = user.now; request = request.now }) result }
     ensures tie { B.tied (log_asked (record { user = user.now; request = request.now }))
         logs.old logs.new }
     ensures moment { result.moment ≡ now }

@@ -1,8 +1,9 @@
 //! The blocks that are fetched for a Put of a control file, whoever has the logs.
-ghost use Rattle.std.specs.Prelude.{◌≡◌, [], ◌∷◌, ◌++◌, map, IfOk, OnOk};
+ghost use Rattle.std.specs.Prelude.{◌≡◌, [], ◌∷◌, ◌++◌, true, map, IfOk, OnOk};
 ghost use Rattle.up_calls.specs.Asks.{Tries};
-ghost use Rattle.up_calls.specs.Gathered.{BlockGathered, BlocksGathered};
+ghost use Rattle.up_calls.specs.Gathered.{BlockGathered, BlocksGathered, own_failed};
 ghost use Rattle.up_calls.specs.Routes.{LogName};
+ghost use Rattle.up_calls.specs.Shown.{IsUnread, QuietApart, QuietBut};
 
 use crate::logs::Logs;
 use std::alloc::{AllocError, Global};
@@ -24,6 +25,9 @@ pub(crate) fn gather_blocks<B: Logs, L: Loader>(
     ensures gathered { IfOk result (λ fetched. BlocksGathered L.Loader
         (B.rises LogName.OfStore logs.old logs.new)
         (B.views logs.old).store (B.views logs.new).store loader.old loader.new [] fetched) }
+    ensures quiet { IfOk result (λ fetched. QuietBut (λ log. B.quiet log logs.old logs.new)
+        LogName.OfStore (IsUnread fetched)) }
+    ensures apart { QuietApart (λ log. B.quiet log logs.old logs.new) LogName.OfStore }
     ensures tie { B.tied None logs.old logs.new }
     ensures tried { Tries L.fetches L.faults L.tied loader.old loader.new }
 {
@@ -52,6 +56,9 @@ fn gather_next<B: Logs, L: Loader>(
         (B.rises LogName.OfStore logs.old logs.new)
         (B.views logs.old).store (B.views logs.new).store
         loader.old loader.new fetched.old fetched.new) }
+    ensures quiet { OnOk result (QuietBut (λ log. B.quiet log logs.old logs.new)
+        LogName.OfStore (IsUnread fetched.new)) }
+    ensures apart { QuietApart (λ log. B.quiet log logs.old logs.new) LogName.OfStore }
     ensures tie { B.tied None logs.old logs.new }
     ensures tried { Tries L.fetches L.faults L.tied loader.old loader.new }
 {
@@ -72,6 +79,9 @@ fn gather_block<B: Logs, L: Loader>(
         (B.rises LogName.OfStore logs.old logs.new)
         (B.views logs.old).store (B.views logs.new).store
         loader.old loader.new location.now) }
+    ensures quiet { IfOk result (λ given. QuietBut (λ log. B.quiet log logs.old logs.new)
+        LogName.OfStore (own_failed location.now.endpoint given ≡ true)) }
+    ensures apart { QuietApart (λ log. B.quiet log logs.old logs.new) LogName.OfStore }
     ensures tie { B.tied None logs.old logs.new }
     ensures tried { Tries L.fetches L.faults L.tied loader.old loader.new }
 {

@@ -4,6 +4,7 @@ ghost use Rattle.std.specs.Result.{result_ok};
 ghost use Rattle.up_calls.specs.Asks.{Tries};
 ghost use Rattle.up_calls.specs.Gathered.{AddsName, Gathered, NameLoaded};
 ghost use Rattle.up_calls.specs.Rounds.{AreNew, IsMissing, LoadsRound, bound};
+ghost use Rattle.up_calls.specs.Shown.{AllQuiet};
 ghost use Rattle.up_policy.specs.Loadings.{answer_for};
 
 use crate::logs::Logs;
@@ -31,6 +32,7 @@ pub(crate) fn gather_round<B: Logs, L: Loader>(
         (B.views logs.old) (B.views logs.new) (IsMissing missing.now)
         loader.old loader.new loaded.old loaded.new) }
     ensures round { OnOk result (LoadsRound missing.now loaded.old loaded.new) }
+    ensures quiet { AllQuiet (λ log. B.quiet log logs.old logs.new) }
     ensures tie { B.tied None logs.old logs.new }
     ensures tried { Tries L.loads L.faults L.tied loader.old loader.new }
 {
@@ -60,6 +62,7 @@ fn gather_new<B: Logs, L: Loader>(
     ensures adds { OnOk result (AddsName L.Loader (B.operator_of logs.old)
         (B.views logs.old) (B.views logs.new) loader.old loader.new
         name.now loaded.old loaded.new) }
+    ensures quiet { AllQuiet (λ log. B.quiet log logs.old logs.new) }
     ensures tie { B.tied None logs.old logs.new }
     ensures tried { Tries L.loads L.faults L.tied loader.old loader.new }
 {
@@ -78,6 +81,7 @@ fn gather_one<B: Logs, L: Loader>(
     ensures loaded { NameLoaded L.Loader (B.operator_of logs.old)
         (B.views logs.old) (B.views logs.new)
         loader.old loader.new name.now (result_ok result) }
+    ensures quiet { AllQuiet (λ log. B.quiet log logs.old logs.new) }
     ensures tie { B.tied None logs.old logs.new }
 {
     match logs.text(alloc, name)? {

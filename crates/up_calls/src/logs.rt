@@ -6,7 +6,8 @@ ghost use Rattle.up_calls.specs.Gathered.{OwnText};
 ghost use Rattle.up_calls.specs.Kept.{KeepsSeen, where_missing};
 ghost use Rattle.up_calls.specs.Routes.{LogName, OwnStays, service_of};
 ghost use Rattle.up_calls.specs.Services.{key_fault, store_fault};
-ghost use Rattle.up_calls.specs.Told.{LogTold, TreeTold, answered_at};
+ghost use Rattle.up_calls.specs.Shown.{AllQuiet, QuietBut};
+ghost use Rattle.up_calls.specs.Told.{LogTold, TreeTold, answered_at, tells_io};
 ghost use Rattle.up_calls.specs.Views.{Later, Views};
 ghost use Rattle.up_calls.specs.declared.service.Service.TheVariants as service;
 ghost use Rattle.up_entry.specs.declared.fetch.Fetch.TheVariants as fetches;
@@ -56,6 +57,9 @@ pub trait Logs {
     /// How it counts that the disk of a log failed.
     ghost rises: { LogName → Self → Self → Type 0 };
 
+    /// How it counts that the disk of a log did not fail.
+    ghost quiet: { LogName → Self → Self → Type 0 };
+
     fn operator(&self) -> &User
         ensures { result.now ≡ operator_of self.now };
 
@@ -73,6 +77,7 @@ pub trait Logs {
         requires { ready self.old }
         ensures given { IfOk result (OwnText (operator_of self.old)
             (views self.old) (views self.new) name.now) }
+        ensures quiet { AllQuiet (λ log. quiet log self.old self.new) }
         ensures tie { tied None self.old self.new };
 
     /// What the host's own store gives for a reference. An `Err` is want of memory.
@@ -81,6 +86,8 @@ pub trait Logs {
         ensures given { IfOk result (IsFromStore
             (views self.old).store (views self.new).store reference.now) }
         ensures failed { result ≡ Ok fetches.Failed → rises LogName.OfStore self.old self.new }
+        ensures quiet { QuietBut (λ log. quiet log self.old self.new) LogName.OfStore
+            (result ≡ Ok fetches.Failed) }
         ensures tie { tied None self.old self.new };
 
     /// One turn of the tree of an owner: which groups are missing for a request, or else the reply to it. The request's texts were read
@@ -109,6 +116,8 @@ pub trait Logs {
             (λ n. left (LogName.OfTree owner.now) n self.old self.new) }
         ensures kept { where_missing result
             (KeepsSeen ((views self.new).tree owner.now) loaded.now kept.new) }
+        ensures quiet { QuietBut (λ log. quiet log self.old self.new) (LogName.OfTree owner.now)
+            (tells_io result ≡ true) }
         ensures tie { tied (Some (LogName.OfTree owner.now)) self.old self.new };
 
     /// One turn of the store: the reply to a request of which nothing is malformed, and the number of records over which it is the
@@ -123,6 +132,8 @@ pub trait Logs {
             (rises LogName.OfStore self.old self.new)
             (views self.old).store (views self.new).store result.0 result.1 }
         ensures left { left LogName.OfStore result.1 self.old self.new }
+        ensures quiet { QuietBut (λ log. quiet log self.old self.new) LogName.OfStore
+            (result.0 ≡ Reply.Io) }
         ensures tie { tied (Some LogName.OfStore) self.old self.new };
 
     /// One turn of the keys, likewise.
@@ -135,6 +146,8 @@ pub trait Logs {
             (rises LogName.OfKeys self.old self.new)
             (views self.old).keys (views self.new).keys result.0 result.1 }
         ensures left { left LogName.OfKeys result.1 self.old self.new }
+        ensures quiet { QuietBut (λ log. quiet log self.old self.new) LogName.OfKeys
+            (result.0 ≡ Reply.Io) }
         ensures tie { tied (Some LogName.OfKeys) self.old self.new };
 
     // No call at all leaves all as it is; so do two calls, one after the other; and who may change one log may also change none.
@@ -163,4 +176,10 @@ pub trait Logs {
 
     ghost rises_within: { (log : LogName) (but : Option LogName) (a b c d : Self) → tied but a b
         → rises log b c → tied but c d → rises log a d };
+
+    // No call at all fails, and where a disk failed in neither of two calls, it failed in none.
+    ghost quiet_same: { (log : LogName) (a : Self) → quiet log a a };
+
+    ghost quiet_joined: { (log : LogName) (a b c : Self) → quiet log a b → quiet log b c
+        → quiet log a c };
 }

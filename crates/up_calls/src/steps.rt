@@ -10,9 +10,11 @@ ghost use Rattle.up_calls.specs.Services.{key_fault, store_fault};
 ghost use Rattle.up_calls.specs.Steps.{BlockRead, FetchedAs, KeysTried, StoreReads, StoreTried, Tried, said_at};
 ghost use Rattle.up_calls.specs.declared.service.Service.TheVariants as service;
 ghost use Rattle.up_ends.specs.Growing.{OnlyGrows};
+ghost use Rattle.up_entry.specs.declared.fetch.Fetch.TheVariants as fetches;
 ghost use Rattle.up_foreign.specs.Kept.{Keeps};
 ghost use Rattle.up_keys.specs.Keys as of_keys;
 ghost use Rattle.up_list.specs.Asking.{asked_of};
+ghost use Rattle.up_lists.specs.Counts.{StaysUnless};
 ghost use Rattle.up_tree.specs.States.{entries_of, fixed_of, log_of};
 
 use crate::gathering::BOUND;
@@ -110,6 +112,8 @@ pub fn read_block<D: Disk>(
 ) -> Result<Fetch, AllocError>
     ensures reads { StoreReads D.Disk state.old state.new }
     ensures given { IfOk result (BlockRead D.Disk state.old state.new reference.now) }
+    ensures quiet { StaysUnless (D.faults state.old.disk) (D.faults state.new.disk)
+        (result ≡ Ok fetches.Failed) }
     ensures grows { OnlyGrows of_blocks.log_of
         (λ state. D.faults state.disk) of_blocks.limits_of state.old state.new }
 {

@@ -12,6 +12,7 @@ use Rattle.up_calls.specs.Gathered.{OwnText}
 use Rattle.up_calls.specs.Loads.{group_text_answer, load_of}
 use Rattle.up_calls.specs.Routes.{LogName}
 use Rattle.up_calls.specs.Settled.{KeepsSettled}
+use Rattle.up_calls.specs.Shown.{QuietBut, failures}
 use Rattle.up_calls.specs.Steps.{Takes}
 use Rattle.up_calls.specs.Views.{LaterSeen, LaterTree, SeenTree, own_of}
 use Rattle.up_disk.specs.declared.disk.Disk.{Ghosts}
@@ -27,7 +28,7 @@ use Rattle.up_host.specs.declared.held.Held.{Held}
 use Rattle.up_journal.specs.Logs.{LogState}
 use Rattle.up_keys.specs.Keys as keys
 use Rattle.up_lists.proofs.BeginsLemmas.{length-Begins}
-use Rattle.up_lists.specs.Counts.{Rose}
+use Rattle.up_lists.specs.Counts.{Rose, StaysUnless}
 use Rattle.up_names.specs.PathNames.{PathName}
 use Rattle.up_names.specs.Texts.{UserName}
 use Rattle.up_policy.specs.declared.load_answer.LoadAnswer.{LoadAnswer}
@@ -158,6 +159,32 @@ module _ {D : Type 0} (disks : Ghosts D) where
           (sum_most of_tree host.trees place before there) rose;
     }
 
+    -- no disk failed but the tree's, and that one only where its count did not stay
+    quiet_tree : (fault : Type 0) → StaysUnless (disks.faults before.state.disk) (disks.faults state.disk) fault → QuietBut (λ log. failures (views disks after) log ≡ failures (views disks host) log) (LogName.OfTree owner) fault
+    quiet_tree fault stays = record { stays = by }
+      where
+        mine : (fault → ⊥) → failures (views disks after) (LogName.OfTree owner) ≡ failures (views disks host) (LogName.OfTree owner)
+        mine none =
+            ap (option_map (λ (v : SeenTree). v.failed)) view_after ∙ ap (λ (n : ℕ). Some n) (stays.stays none) ∙ sym (ap (option_map (λ (v : SeenTree). v.failed)) view_before)
+
+        at_tree : (o : UserName) (b : Bool) → bytes_eq o owner ≡ b → (LogName.OfTree o ≡ LogName.OfTree owner → fault → ⊥) → failures (views disks after) (LogName.OfTree o) ≡ failures (views disks host) (LogName.OfTree o)
+        at_tree o true e none =
+            let same : o ≡ owner = (bytes_eq-Decides o owner).0 e in
+            subst (λ p. failures (views disks after) (LogName.OfTree p) ≡ failures (views disks host) (LogName.OfTree p)) (sym same) (mine (none (ap (λ (p : UserName). LogName.OfTree p) same)))
+        at_tree o false e none =
+            ap (option_map (λ (v : SeenTree). v.failed)) (other_tree o (λ same. false≢true (sym e ∙ (bytes_eq-Decides o owner).1 same)))
+
+        by : (log : LogName) → (log ≡ LogName.OfTree owner → fault → ⊥) → failures (views disks after) log ≡ failures (views disks host) log
+        by (LogName.OfTree o) none = at_tree o (bytes_eq o owner) refl none
+        by LogName.OfStore none = refl
+        by LogName.OfKeys none = refl
+
+    -- of the host as its caller has it
+    pub quiet_tree_now : (now_is : HostState D) → host ≡ now_is → (fault : Type 0) → StaysUnless (disks.faults before.state.disk) (disks.faults state.disk) fault
+        → QuietBut (λ log. failures (views disks after) log ≡ failures (views disks now_is) log) (LogName.OfTree owner) fault
+    quiet_tree_now now_is is fault stays =
+        subst (λ (h : HostState D). QuietBut (λ log. failures (views disks after) log ≡ failures (views disks h) log) (LogName.OfTree owner) fault) is (quiet_tree fault stays)
+
     pub tied_tree : KeepsSettled disks (over_journal before.state) (over_journal state) → IsTied disks (Some (LogName.OfTree owner)) host after
     tied_tree keeps = record {
       name = refl;
@@ -185,6 +212,21 @@ module _ {D : Type 0} (disks : Ghosts D) where
 
     pub store_rose : Rose (disks.faults host.store.state.disk) (disks.faults state.disk) → DiskRose disks host stored
     store_rose rose = record { later = store_counts; rose = middle_rose (sum_by (λ (h : Held (State D)). disks.faults h.state.disk) host.trees) (disks.faults host.store.state.disk) (disks.faults state.disk) (disks.faults host.keys.state.disk) rose }
+
+    -- no disk failed but the store's, and that one only where its count did not stay
+    quiet_store : (fault : Type 0) → StaysUnless (disks.faults host.store.state.disk) (disks.faults state.disk) fault → QuietBut (λ log. failures (views disks stored) log ≡ failures (views disks host) log) LogName.OfStore fault
+    quiet_store fault stays = record { stays = by }
+      where
+        by : (log : LogName) → (log ≡ LogName.OfStore → fault → ⊥) → failures (views disks stored) log ≡ failures (views disks host) log
+        by (LogName.OfTree o) none = refl
+        by LogName.OfStore none = ap (λ (n : ℕ). Some n) (stays.stays (none refl))
+        by LogName.OfKeys none = refl
+
+    -- of the host as its caller has it
+    pub quiet_store_now : (now_is : HostState D) → host ≡ now_is → (fault : Type 0) → StaysUnless (disks.faults host.store.state.disk) (disks.faults state.disk) fault
+        → QuietBut (λ log. failures (views disks stored) log ≡ failures (views disks now_is) log) LogName.OfStore fault
+    quiet_store_now now_is is fault stays =
+        subst (λ (h : HostState D). QuietBut (λ log. failures (views disks stored) log ≡ failures (views disks h) log) LogName.OfStore fault) is (quiet_store fault stays)
 
     pub tied_store : (but : Option LogName) → (but ≢ Some LogName.OfStore → state.log ≡ host.store.state.log) → KeepsSettled disks host.store.state state → IsTied disks but host stored
     tied_store but same keeps = record {
@@ -215,6 +257,21 @@ module _ {D : Type 0} (disks : Ghosts D) where
 
     pub keys_rose : Rose (disks.faults host.keys.state.disk) (disks.faults state.disk) → DiskRose disks host keyed
     keys_rose rose = record { later = keys_counts; rose = last_rose (sum_by (λ (h : Held (State D)). disks.faults h.state.disk) host.trees) (disks.faults host.store.state.disk) (disks.faults host.keys.state.disk) (disks.faults state.disk) rose }
+
+    -- no disk failed but that of the keys, and that one only where its count did not stay
+    quiet_keys : (fault : Type 0) → StaysUnless (disks.faults host.keys.state.disk) (disks.faults state.disk) fault → QuietBut (λ log. failures (views disks keyed) log ≡ failures (views disks host) log) LogName.OfKeys fault
+    quiet_keys fault stays = record { stays = by }
+      where
+        by : (log : LogName) → (log ≡ LogName.OfKeys → fault → ⊥) → failures (views disks keyed) log ≡ failures (views disks host) log
+        by (LogName.OfTree o) none = refl
+        by LogName.OfStore none = refl
+        by LogName.OfKeys none = ap (λ (n : ℕ). Some n) (stays.stays (none refl))
+
+    -- of the host as its caller has it
+    pub quiet_keys_now : (now_is : HostState D) → host ≡ now_is → (fault : Type 0) → StaysUnless (disks.faults host.keys.state.disk) (disks.faults state.disk) fault
+        → QuietBut (λ log. failures (views disks keyed) log ≡ failures (views disks now_is) log) LogName.OfKeys fault
+    quiet_keys_now now_is is fault stays =
+        subst (λ (h : HostState D). QuietBut (λ log. failures (views disks keyed) log ≡ failures (views disks h) log) LogName.OfKeys fault) is (quiet_keys fault stays)
 
     pub tied_keys : KeepsSettled disks host.keys.state state → IsTied disks (Some LogName.OfKeys) host keyed
     tied_keys keeps = record {

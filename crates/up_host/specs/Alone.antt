@@ -1,5 +1,5 @@
 -- A host that is not shared: all that comes to its logs comes by its one caller. This project's own.
-use Rattle.std.specs.Prelude.{◌≡◌, ◌≢◌, ◌≤◌, ◌<◌, ◌+◌, ◌-◌, ◌^◌, ℕ, zero, suc, nat_le, if◌then◌else◌, List, [], ◌∷◌, ◌++◌, length, Option, Some, None}
+use Rattle.std.specs.Prelude.{◌≡◌, ◌≢◌, ◌≤◌, ◌<◌, ◌+◌, ◌-◌, ◌^◌, ℕ, zero, suc, nat_le, if◌then◌else◌, List, [], ◌∷◌, ◌++◌, length, Option, Some, None, Err}
 use Rattle.std.specs.Prelude as std
 use Rattle.std.specs.List.{AllByRecursion, find, sum_by}
 use Rattle.std.specs.Option.{option_map}
@@ -9,12 +9,15 @@ use Rattle.up_disk.specs.declared.disk.Disk.{Ghosts}
 use Rattle.up_answers.specs.Needs.{needs}
 use Rattle.up_calls.specs.Rounds.{InRounds}
 use Rattle.up_calls.specs.Routes.{LogName, Question, log_asked, refusal}
+use Rattle.up_calls.specs.Shown.{FailsAsShown, failures}
 use Rattle.up_calls.specs.Views.{Seen, SeenKeys, SeenStore, SeenTree, Views, log_seen}
 use Rattle.up_calls.specs.declared.event.Event.{Event}
 use Rattle.up_host.specs.declared.held.Held.{Held}
 use Rattle.up_ends.specs.Growing.{OnlyGrows}
 use Rattle.up_journal.specs.Logs.{LogState}
 use Rattle.up_journal.specs.declared.fault.AppendWhy.{AppendWhy}
+use Rattle.up_journal.specs.declared.fault.AppendWhy.TheVariants as append
+use Rattle.up_lists.specs.Counts.{StaysUnless}
 use Rattle.up_keys.specs.Keys.{PutsRecord, limits_of, log_of}
 use Rattle.up_names.specs.Texts.{UserName}
 use Rattle.up_tree.specs.States.{State, fixed_of}
@@ -126,10 +129,16 @@ pub record Counts (disks_before disks_after loader_before loader_after : ℕ) (e
   pub loader : loader_before ≤ loader_after
   pub io : disks_after + loader_after < 2 ^ 64 - 1 → disks_before + loader_before + io_of e.reply ≤ disks_after + loader_after
 
--- a record was put to the keys, and nothing else of the host changed
+-- The count of each log's disk is as before, unless the event shows that this disk failed: so none that failed was passed over and
+-- asked again.
+abbrev pub RisesAsShown : Views → Views → Question → Event → Type 0
+RisesAsShown a b q e = FailsAsShown (λ log. failures b log ≡ failures a log) q e
+
+-- A record was put to the keys, and nothing else of the host changed; their disk's count is as before, but for a fault.
 pub record Enrols {D : Type 0} (disks : Ghosts D) (card : KeyRecord)
     (host after : HostState D) (result : std.Result ℕ AppendWhy) : Type 0 where
   pub state : LogState D KeyRecord
   pub whole : after ≡ record host { keys = record { state = state; base = host.keys.base } }
   pub puts : PutsRecord disks card host.keys.state state result
   pub grows : OnlyGrows log_of (λ (k : LogState D KeyRecord). disks.faults k.disk) limits_of host.keys.state state
+  pub quiet : StaysUnless (disks.faults host.keys.state.disk) (disks.faults state.disk) (result ≡ Err append.Fault)

@@ -8,6 +8,7 @@ pub use Rattle.up_calls.specs.Rounds
 pub use Rattle.up_calls.specs.Routes
 pub use Rattle.up_calls.specs.Calls
 pub use Rattle.up_calls.specs.Alike
+pub use Rattle.up_calls.specs.Shown
 pub mod Alone
 pub mod Settled
 pub mod Tied

@@ -4,7 +4,7 @@ use Rattle.std.specs.List.{AllByRecursion}
 use Rattle.up_blocks.specs.Records as blocks
 use Rattle.up_blocks.specs.declared.record.BlockRecord.{BlockRecord}
 use Rattle.up_disk.specs.declared.disk.Disk.{Ghosts}
-use Rattle.up_lists.specs.Counts.{HasCause}
+use Rattle.up_lists.specs.Counts.{HasCause, StaysUnless}
 use Rattle.up_host.specs.Alone.{HostState}
 use Rattle.up_calls.specs.Routes.{LogName}
 use Rattle.up_host.specs.declared.fault.HostFault.{HostFault}
@@ -32,17 +32,19 @@ store_limits limits = record { records = limits.records; device = limits.device;
 
 -- ---- one disk
 
--- A log was opened on a disk, and the disk did not fail.
+-- A log was opened on a disk, and the disk did not fail: its count is as before.
 pub record IsLogOn {D R : Type 0} (disks : Ghosts D) (read : Reader R) (limits : Limits) (disk : D) (log : LogState D R) : Type 0 where
   pub opens : OpensLog disks read limits disk log
   pub opened : IsOpened disks limits.largest disk log.disk ⊥
   pub counts : HasCause (disks.faults disk) (disks.faults log.disk) ⊥
+  pub quiet : StaysUnless (disks.faults disk) (disks.faults log.disk) ⊥
 
--- A disk was refused as a log, and failed where the fault says so.
+-- A disk was refused as a log, and failed where the fault says so, and nowhere else.
 pub record IsNoLog {D R : Type 0} (disks : Ghosts D) (read : Reader R) (limits : Limits) (disk : D) (fault : OpenFault D) : Type 0 where
   pub refuses : RefusesLog disks read limits disk fault
   pub opened : IsOpened disks limits.largest disk fault.disk (fault.why ≡ why.Fault)
   pub counts : HasCause (disks.faults disk) (disks.faults fault.disk) (fault.why ≡ why.Fault)
+  pub quiet : StaysUnless (disks.faults disk) (disks.faults fault.disk) (fault.why ≡ why.Fault)
 
 -- a disk was opened as the tree of an owner, whose base is its length
 pub record OpensTree {D : Type 0} (disks : Ghosts D) (limits : Limits)

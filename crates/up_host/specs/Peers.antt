@@ -11,6 +11,7 @@ use Rattle.up_host.specs.Alone.{HostState, tree_for}
 use Rattle.up_calls.specs.Loads.{group_text_answer}
 use Rattle.up_host.specs.declared.held.Held.{Held}
 use Rattle.up_journal.specs.Logs.{LogState}
+use Rattle.up_lists.specs.Counts.{StaysUnless}
 use Rattle.up_names.specs.PathNames.{PathName}
 use Rattle.up_names.specs.Texts.{UserName}
 use Rattle.up_peer.specs.InMemory.{faults_after}
@@ -64,12 +65,13 @@ IsBlockAnswer (Err why.Fault) answer = answer ≡ peer.Failed
 IsBlockAnswer (Err why.OutOfMemory) answer = ⊥
 IsBlockAnswer (Err other) answer = answer ≡ peer.Nothing
 
--- a block of the store was read, and nothing else of the host changed
+-- A block of the store was read, and nothing else of the host changed; the disk's count is as before, but for a fault.
 pub record ReadsBlock {D : Type 0} (disks : Ghosts D) (reference : List ℕ)
     (host after : HostState D) (result : Result (List ℕ) BlockWhy) : Type 0 where
   pub store : LogState D BlockRecord
   pub whole : after ≡ record host { store = record { state = store; base = host.store.base } }
   pub gives : GivesBlock disks reference host.store.state store result
+  pub quiet : StaysUnless (disks.faults host.store.state.disk) (disks.faults store.disk) (result ≡ Err why.Fault)
 
 -- the store was asked for a block, and what it gave is the answer
 pub record AsksStore {D E : Type 0} (disks : Ghosts D) (reference : List ℕ)

@@ -1,7 +1,7 @@
 -- Calls of a host that is not shared, one after the other. This project's own.
 use Rattle.std.specs.Prelude.{◌≡◌, ◌≢◌, ◌≤◌, ◌<◌, ◌+◌, ◌-◌, ◌^◌, ℕ, List, [], ◌∷◌, Contains, map, slice_get, Option, Some, None}
 use Rattle.up_disk.specs.declared.disk.Disk as disk
-use Rattle.up_host.specs.Alone.{Counts, HostState, IsAlone, disk_faults, io_of, views}
+use Rattle.up_host.specs.Alone.{Counts, HostState, IsAlone, RisesAsShown, disk_faults, io_of, views}
 use Rattle.up_calls.specs.Calls.{Asked}
 use Rattle.up_calls.specs.Routes.{LogName, Question, log_asked, refusal}
 use Rattle.up_host.specs.Settled.{StaysSettled}
@@ -23,6 +23,7 @@ pub record IsCalled {D L : Type 0} (disks : disk.Ghosts D) (loader : Ghosts L)
   pub asked : Asked loader host.operator (views disks host) old c.question c.event (views disks c.after) new
   pub alone : IsAlone (views disks host) (views disks c.after) c.question c.event
   pub counts : Counts (disk_faults disks host) (disk_faults disks c.after) (loader.faults old) (loader.faults new) c.event
+  pub quiet : RisesAsShown (views disks host) (views disks c.after) c.question c.event
   pub stays : StaysSettled disks host c.after
   pub operator : c.after.operator ≡ host.operator
 

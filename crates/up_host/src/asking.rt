@@ -2,7 +2,7 @@
 ghost use Rattle.std.specs.Prelude.{◌≡◌, ◌<◌};
 ghost use Rattle.up_calls.specs.Alike.{TellsNoMore};
 ghost use Rattle.up_calls.specs.Calls.{Asked};
-ghost use Rattle.up_host.specs.Alone.{Counts, IsAlone, disk_faults, views};
+ghost use Rattle.up_host.specs.Alone.{Counts, IsAlone, RisesAsShown, disk_faults, views};
 ghost use Rattle.up_host.specs.Settled.{StaysSettled};
 
 use crate::host::Host;
@@ -32,6 +32,8 @@ impl<D: Disk> Host<D> {
             (record { user = session.now.user; request = request.now }) result }
         ensures counts { Counts (disk_faults D.Disk self.old) (disk_faults D.Disk self.new)
             (L.faults loader.old) (L.faults loader.new) result }
+        ensures quiet { RisesAsShown (views D.Disk self.old) (views D.Disk self.new)
+            (record { user = session.now.user; request = request.now }) result }
         ensures tie { L.tied loader.old loader.new }
         ensures alike { TellsNoMore (views D.Disk self.new)
             (record { user = session.now.user; request = request.now }) result }

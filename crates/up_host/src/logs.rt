@@ -16,7 +16,9 @@ use up_wire::{Reply, Request};
 
 /// Its caller has all of each log, and each call that answers of a log answers at the end of it.
 impl<D: Disk> Logs for Host<D> {
-    ghost use Rattle.std.specs.Prelude.{◌≡◌, Some};
+    ghost use Rattle.std.proofs.Common.{◌∙◌};
+    ghost use Rattle.std.specs.Prelude.{◌≡◌, Some, refl};
+    ghost use Rattle.up_calls.specs.Shown.{failures};
     ghost use Rattle.up_host.specs.Alone.{ends_at, views};
     ghost use Rattle.up_host.specs.Tied.{DiskRose, IsTied};
     ghost use Rattle.up_host.specs.TiedLaws.{left_since, rises_within, tied_joined, tied_same, tied_wider};
@@ -32,6 +34,9 @@ impl<D: Disk> Logs for Host<D> {
     ghost left = { λ log n host after. ends_at (Some log) (views D.Disk host) ≡ Some n };
 
     ghost rises = { λ log host after. DiskRose D.Disk host after };
+
+    ghost quiet = { λ log host after.
+        failures (views D.Disk after) log ≡ failures (views D.Disk host) log };
 
     fn operator(&self) -> &User {
         &self.operator
@@ -111,4 +116,8 @@ impl<D: Disk> Logs for Host<D> {
     ghost left_since = { λ log n a b c. left_since log n a b };
 
     ghost rises_within = { λ log but a b c d. rises_within but a b c d };
+
+    ghost quiet_same = { λ log a. refl };
+
+    ghost quiet_joined = { λ log a b c p q. q ∙ p };
 }

@@ -1,7 +1,7 @@
 -- How users are enrolled at a host, line by line.
 use Rattle.std.proofs.Common.{◌≡◌, ◌∙◌, ◌+◌, ℕ, Bool, true, false, List, [], ◌∷◌, ◌++◌, length, is_some, Option, Some, None, Result, Ok, Err, refl, sym, ap, subst}
 use Rattle.std.specs.Prelude.{IsErrOf, if◌then◌else◌}
-use Rattle.up_lists.specs.Counts.{HasCause}
+use Rattle.up_lists.specs.Counts.{HasCause, StaysUnless}
 use Rattle.up_disk.specs.declared.disk.Disk.{Ghosts}
 use Rattle.up_host.specs.Alone.{Enrols, HostState}
 use Rattle.up_journal.specs.Journal.{is_full}
@@ -12,7 +12,7 @@ use Rattle.up_journal.specs.declared.limits.Limits.{Limits}
 use Rattle.up_keys.specs.Keys.{sizes_of}
 use Rattle.up_keys.specs.Records.{record_in}
 use Rattle.up_lists.proofs.BeginsLemmas.{Begins-append, Begins-self, Begins-trans}
-use Rattle.up_lists.proofs.Causes.{HasCause-same, HasCause-then, HasCause-weaker}
+use Rattle.up_lists.proofs.Causes.{HasCause-same, HasCause-then, HasCause-weaker, StaysUnless-more, StaysUnless-same, StaysUnless-then}
 use Rattle.up_lists.specs.Begins.{Begins}
 use Rattle.up_names.specs.Texts.{Text}
 use Rattle.up_serve.specs.EnrolLines.{enrol_line}
@@ -60,14 +60,15 @@ module _ {D : Type 0} (disks : Ghosts D) where
     begins = Begins-self host.keys.state.log;
     told = refl;
     counts = HasCause-same (disks.faults host.keys.state.disk) fault (λ is. absurd (none is));
+    quiet = StaysUnless-same (disks.faults host.keys.state.disk) fault;
   }
 
   -- what the state of its keys is
   state_is : {host after : HostState D} {fault : Type 0} (kept : KeepsHost disks host after fault) → after.keys.state ≡ kept.state
   state_is kept = ap (λ (h : HostState D). h.keys.state) kept.whole
 
-  pub kept_then : (host mid after : HostState D) (first fault : Type 0) → KeepsHost disks host mid first → KeepsHost disks mid after fault → KeepsHost disks host after fault
-  kept_then host mid after first fault one two =
+  pub kept_then : (host mid after : HostState D) (first fault : Type 0) → (first → fault) → KeepsHost disks host mid first → KeepsHost disks mid after fault → KeepsHost disks host after fault
+  kept_then host mid after first fault less one two =
       let same = state_is one in
       record {
         state = two.state;
@@ -76,6 +77,7 @@ module _ {D : Type 0} (disks : Ghosts D) where
         begins = Begins-trans one.begins (subst (λ (s : LogState D KeyRecord). Begins s.log two.state.log) same two.begins);
         told = two.told ∙ (ap (λ (s : LogState D KeyRecord). is_some (disks.content s.disk)) same ∙ one.told);
         counts = HasCause-then _ _ _ first fault one.counts (subst (λ (s : LogState D KeyRecord). HasCause (disks.faults s.disk) (disks.faults two.state.disk) fault) same two.counts);
+        quiet = StaysUnless-then _ _ _ first fault fault one.quiet less (subst (λ (s : LogState D KeyRecord). StaysUnless (disks.faults s.disk) (disks.faults two.state.disk) fault) same two.quiet) (λ is. is);
       }
 
   -- ---- one record
@@ -87,14 +89,15 @@ module _ {D : Type 0} (disks : Ghosts D) where
     same = tt;
   }
 
-  kept_put : (host after : HostState D) (card : KeyRecord) (result : Result ℕ AppendWhy) (fault : Type 0) → Enrols disks card host after result → (fault → result ≡ Err append.Fault) → KeepsHost disks host after fault
-  kept_put host after card result fault put less = record {
+  kept_put : (host after : HostState D) (card : KeyRecord) (result : Result ℕ AppendWhy) (fault : Type 0) → Enrols disks card host after result → (fault → result ≡ Err append.Fault) → (result ≡ Err append.Fault → fault) → KeepsHost disks host after fault
+  kept_put host after card result fault put less more = record {
     state = put.state;
     whole = put.whole;
     limits = put.puts.added.limits;
     begins = put.grows.begins;
     told = put.puts.added.told;
     counts = HasCause-weaker _ _ (IsErrOf result append.Fault) fault put.puts.cause (λ is. less is);
+    quiet = StaysUnless-more _ _ (result ≡ Err append.Fault) fault put.quiet more;
   }
 
   none_held : (host : HostState D) (card : KeyRecord) (full : Bool) → is_some (record_in host.keys.state.log card.user) ≡ false → is_full host.keys.state.limits (sizes_of host.keys.state.log) (length (logged card)) ≡ full
@@ -105,7 +108,7 @@ module _ {D : Type 0} (disks : Ghosts D) where
 
   pub user_put : (host after : HostState D) (card : KeyRecord) (position : ℕ) → is_some (record_in host.keys.state.log card.user) ≡ false → Enrols disks card host after (Ok position) → PutsUser disks card host after (Ok tt)
   user_put host after card position none put = record {
-    kept = kept_put host after card (Ok position) _ put (λ is. absurd (cc));
+    kept = kept_put host after card (Ok position) _ put (λ is. absurd (cc)) (λ is. absurd (cc));
     exact = λ _. none_held host card false none (room (is_full host.keys.state.limits (sizes_of host.keys.state.log) (length (logged card))) refl) ∙ ap Ok (sym log);
     same = tt;
   }
@@ -122,17 +125,17 @@ module _ {D : Type 0} (disks : Ghosts D) where
 
   pub user_refused : (host after : HostState D) (card : KeyRecord) (why : AppendWhy) → is_some (record_in host.keys.state.log card.user) ≡ false → Enrols disks card host after (Err why) → PutsUser disks card host after (Err (stop_by why))
   user_refused host after card (append.Full records) none put = record {
-    kept = kept_put host after card (Err (append.Full records)) _ put (λ is. absurd (cc));
+    kept = kept_put host after card (Err (append.Full records)) _ put (λ is. absurd (cc)) (λ is. absurd (cc));
     exact = λ _. let full = put.puts.full_only records refl in none_held host card true none full.0 ∙ ap (λ n. Err (stop.Full n)) (sym full.1);
     same = same_log host after card (append.Full records) put;
   }
   user_refused host after card append.Fault none put = record {
-    kept = kept_put host after card (Err append.Fault) _ put (λ is. refl);
+    kept = kept_put host after card (Err append.Fault) _ put (λ is. refl) (λ is. refl);
     exact = λ bad. absurd (cc);
     same = same_log host after card append.Fault put;
   }
   user_refused host after card append.OutOfMemory none put = record {
-    kept = kept_put host after card (Err append.OutOfMemory) _ put (λ is. absurd (cc));
+    kept = kept_put host after card (Err append.OutOfMemory) _ put (λ is. absurd (cc)) (λ is. absurd (cc));
     exact = λ bad. absurd (cc);
     same = same_log host after card append.OutOfMemory put;
   }
@@ -165,6 +168,9 @@ module _ {D : Type 0} (disks : Ghosts D) where
 
   -- ---- a text
 
+  no_fault : ◌≡◌ {A = Result (Unit {0}) EnrolStop} (Ok tt) (Err stop.DiskFault) → ⊥
+  no_fault bad = absurd (cc)
+
   -- the lines so far were done, and what is left comes to what all comes to
   pub record Enrolling (text : Text) (host after : HostState D) (number : ℕ) (left : List Text) : Type 0 where
     pub kept : KeepsHost disks host after ⊥
@@ -184,29 +190,34 @@ module _ {D : Type 0} (disks : Ghosts D) where
   step_to text host mid after number line left going done =
       let one = now_after text host mid after number line left (Ok tt) going done refl in
       record {
-        kept = kept_then host mid after ⊥ ⊥ going.kept (weaker mid after (Ok tt) (λ bad. absurd bad) done.kept);
+        kept = kept_then host mid after ⊥ ⊥ (λ bad. bad) going.kept (weaker mid after (Ok tt) (λ bad. absurd bad) (λ bad. no_fault bad) done.kept);
         meant = sym (ap (λ r. elim r [ Err why ↦ ended mid.keys.state.log (Some why) | Ok grown ↦ after_lines host.keys.state.limits (number + 1) grown left ]) one) ∙ going.meant;
       }
     where
-      weaker : (a b : HostState D) (result : Result (Unit {0}) EnrolStop) → (⊥ → result ≡ Err stop.DiskFault) → KeepsHost disks a b (result ≡ Err stop.DiskFault) → KeepsHost disks a b ⊥
-      weaker a b result less kept = record { state = kept.state; whole = kept.whole; limits = kept.limits; begins = kept.begins; told = kept.told; counts = HasCause-weaker _ _ (result ≡ Err stop.DiskFault) ⊥ kept.counts less }
+      weaker : (a b : HostState D) (result : Result (Unit {0}) EnrolStop) → (⊥ → result ≡ Err stop.DiskFault) → (result ≡ Err stop.DiskFault → ⊥) → KeepsHost disks a b (result ≡ Err stop.DiskFault) → KeepsHost disks a b ⊥
+      weaker a b result less more kept = record {
+        state = kept.state;
+        whole = kept.whole;
+        limits = kept.limits;
+        begins = kept.begins;
+        told = kept.told;
+        counts = HasCause-weaker _ _ (result ≡ Err stop.DiskFault) ⊥ kept.counts less;
+        quiet = StaysUnless-more _ _ (result ≡ Err stop.DiskFault) ⊥ kept.quiet more;
+      }
 
   stop_at : (text : Text) (host mid after : HostState D) (number : ℕ) (line : Text) (left : List Text) (why : EnrolStop) → Enrolling text host mid number (line ∷ left) → DoesLine disks number line mid after (Err why) → EnrolsUsers disks text host after (Err why)
   stop_at text host mid after number line left why going done =
       record {
-        kept = kept_then host mid after ⊥ (Err why ≡ Err stop.DiskFault) going.kept done.kept;
+        kept = kept_then host mid after ⊥ (Err why ≡ Err stop.DiskFault) (λ bad. absurd bad) going.kept done.kept;
         exact = λ fine. sym going.meant ∙ (ap (λ r. elim r [ Err reason ↦ ended mid.keys.state.log (Some reason) | Ok grown ↦ after_lines host.keys.state.limits (number + 1) grown left ]) (now_after text host mid after number line left (Err why) going done fine)
             ∙ ap (λ log. ended log (Some why)) (sym done.same));
         front = subst (λ log. Begins log (enrolment host.keys.state.limits host.keys.state.log text).log) (sym done.same)
             (subst (λ meant. Begins mid.keys.state.log meant.log) going.meant (lines_begin host.keys.state.limits number mid.keys.state.log (line ∷ left)));
       }
 
-  no_fault : ◌≡◌ {A = Result (Unit {0}) EnrolStop} (Ok tt) (Err stop.DiskFault) → ⊥
-  no_fault bad = absurd (cc)
-
   end_at : (text : Text) (host after : HostState D) (number : ℕ) → Enrolling text host after number [] → EnrolsUsers disks text host after (Ok tt)
   end_at text host after number going = record {
-    kept = record { state = going.kept.state; whole = going.kept.whole; limits = going.kept.limits; begins = going.kept.begins; told = going.kept.told; counts = HasCause-weaker _ _ ⊥ (Ok tt ≡ Err stop.DiskFault) going.kept.counts (λ bad. no_fault bad) };
+    kept = record { state = going.kept.state; whole = going.kept.whole; limits = going.kept.limits; begins = going.kept.begins; told = going.kept.told; counts = HasCause-weaker _ _ ⊥ (Ok tt ≡ Err stop.DiskFault) going.kept.counts (λ bad. no_fault bad); quiet = StaysUnless-more _ _ ⊥ (Ok tt ≡ Err stop.DiskFault) going.kept.quiet (λ bad. absurd bad) };
     exact = λ _. sym going.meant;
     front = subst (λ meant. Begins after.keys.state.log meant.log) going.meant (Begins-self after.keys.state.log);
   }

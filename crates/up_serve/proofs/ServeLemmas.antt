@@ -22,7 +22,7 @@ use Rattle.up_journal.specs.declared.limits.Limits.{Limits}
 use Rattle.up_keys.specs.Records as keys
 use Rattle.up_lists.specs.Counts.{Rose, StaysUnless}
 use Rattle.up_names.specs.Texts.{Text, UserName}
-use Rattle.up_serve.proofs.CountLemmas.{host_faults, opens_later, refuses_counts}
+use Rattle.up_serve.proofs.CountLemmas.{host_faults, opens_calm, opens_later, refuses_calm, refuses_counts}
 use Rattle.up_serve.proofs.TellLemmas.{refused_codes, refused_six, stopped_codes, stopped_six}
 use Rattle.up_serve.specs.Enrolling.{EnrolsUsers, KeepsHost, enrolment, is_cut}
 use Rattle.up_serve.specs.Serving.{AreServed, HasCauses, IsInput, IsServed, Reads, Serves, Stays, disks_after, result_code}
@@ -194,6 +194,41 @@ module _ {D : Type 0} (disks : Ghosts D) (limits : Limits) (plan : ServePlan) (g
         | inr over ↦ (let within = keys_within host in let after_later = users.kept.counts.later in omega (arith, before, first, moved, all, same, over, below, within, after_later))
       ]
 
+  host_calm : (host after : HostState D) (fault : Type 0) → OpensHost disks limits plan.host plan.operator plan.trees given host → KeepsHost disks host after fault → (fault → ⊥) → sum_by disks.faults (disks_of after) ≡ sum_by disks.faults given
+  host_calm host after fault opens kept none =
+      let before = opens_calm disks limits plan.host plan.operator plan.trees given host opens in
+      let moved = kept_faults host after fault kept in
+      let same : disks.faults kept.state.disk ≡ disks.faults host.keys.state.disk = kept.quiet.stays none in
+      let all = host_faults disks after in
+      omega (arith, before, moved, same, all)
+
+  -- the counts of the disks are as before, unless the status tells of a disk, of the sink or of want of memory
+  pub calm : (result : Result (HostState D) (ServeFault D)) → Serves disks limits plan given unasked left held held_now result
+      → StaysUnless (sum_by disks.faults given) (sum_by disks.faults (disks_after result)) (IsOneOf (3 ∷ 4 ∷ 6 ∷ []) (result_code result))
+  calm (Ok after) (Serves.enrolled {host = host} opens input users same) = record { stays = λ none. host_calm host after _ opens users.kept (λ bad. not_done bad) }
+    where
+      not_done : ◌≡◌ {A = Result (Unit {0}) EnrolStop} (Ok tt) (Err stop.DiskFault) → ⊥
+      not_done bad = absurd (cc)
+  calm (Err fault) (Serves.refused {fault = log} refuses back quiet one) = record {
+    stays = λ none.
+        let same = refuses_calm disks limits plan.trees given log refuses (λ is. none (subst (λ w. IsOneOf (3 ∷ 4 ∷ (refused_by log.which w).status ∷ []) fault.status) is one.one)) in
+        let all = ap (sum_by disks.faults) back in
+        omega (arith, same, all);
+  }
+  calm (Err fault) (Serves.unread {host = host} opens back code same) = record {
+    stays = λ none.
+        let before = opens_calm disks limits plan.host plan.operator plan.trees given host opens in
+        let all = host_faults disks host in
+        let same_disks = ap (sum_by disks.faults) back in
+        omega (arith, before, all, same_disks);
+  }
+  calm (Err fault) (Serves.stopped {host = host} {after = after} {why = reason} opens input users back one) = record {
+    stays = λ none.
+        let same = host_calm host after _ opens users.kept (λ is. none (subst (λ w. IsOneOf (3 ∷ 4 ∷ (stopped_by w).status ∷ []) fault.status) (let e : reason ≡ stop.DiskFault = cc in e) one.one)) in
+        let all = ap (sum_by disks.faults) back in
+        omega (arith, same, all);
+  }
+
   -- ---- completeness
 
   served_at : (text : Text) (before behind : List LogName) (log : LogName) (used opened rest : List D) (disk : D) → WereOpened disks limits before used opened → AreServed disks limits text (before ++ log ∷ behind) (used ++ disk ∷ rest) → IsServed disks limits text log disk
@@ -358,4 +393,4 @@ pub ruleset came = (was_refused, was_unread, was_stopped, was_enrolled)
 
 pub ruleset causes = (causes_refused, causes_unread, causes_stopped, causes_enrolled)
 
-pub ruleset served = (statuses, later, rose, complete_if)
+pub ruleset served = (statuses, later, rose, calm, complete_if)

@@ -11,7 +11,7 @@ use Rattle.up_journal.specs.declared.limits.Limits.{Limits}
 use Rattle.up_keys.specs.Keys.{sizes_of}
 use Rattle.up_keys.specs.Records.{record_in}
 use Rattle.up_lists.specs.Begins.{Begins}
-use Rattle.up_lists.specs.Counts.{HasCause}
+use Rattle.up_lists.specs.Counts.{HasCause, StaysUnless}
 use Rattle.up_names.specs.Texts.{Text}
 use Rattle.up_serve.specs.EnrolLines.{enrol_line}
 use Rattle.up_serve.specs.declared.enrol_line.EnrolLine.{EnrolLine}
@@ -73,7 +73,7 @@ is_cut (Err (stop.BadLine number)) = false
 is_cut (Err (stop.Full records)) = false
 is_cut (Ok done) = false
 
--- Nothing of the host changed but its keys, whose log grew or stayed, and whose disk failed where the result says so.
+-- Nothing of the host changed but its keys, whose log grew or stayed, and whose disk failed where the result says so, and nowhere else.
 pub record KeepsHost {D : Type 0} (disks : Ghosts D) (host after : HostState D) (fault : Type 0) : Type 0 where
   pub state : LogState D KeyRecord
   pub whole : after ≡ record host { keys = record { state = state; base = host.keys.base } }
@@ -81,6 +81,7 @@ pub record KeepsHost {D : Type 0} (disks : Ghosts D) (host after : HostState D) 
   pub begins : Begins host.keys.state.log state.log
   pub told : is_some (disks.content state.disk) ≡ is_some (disks.content host.keys.state.disk)
   pub counts : HasCause (disks.faults host.keys.state.disk) (disks.faults state.disk) fault
+  pub quiet : StaysUnless (disks.faults host.keys.state.disk) (disks.faults state.disk) fault
 
 -- The users of a text were enrolled, in the order of its lines: the log of keys is what it should be, and it stopped where it should;
 -- cut short by a fault or want of memory, the log is a front of that.

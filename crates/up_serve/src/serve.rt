@@ -79,6 +79,8 @@ pub fn serve_open<D: Disk + Drop, S: Source, K: Sink>(
     ensures told_long { result_code result ≡ 7
         → IfSome (S.left enrol.old) (λ bytes. input_limit < length bytes) }
     ensures disk_counts { sum_by D.faults disks.disks ≤ sum_by D.faults (disks_after result) }
+    ensures disk_quiet { StaysUnless (sum_by D.faults disks.disks)
+        (sum_by D.faults (disks_after result)) (IsOneOf (3 ∷ 4 ∷ 6 ∷ []) (result_code result)) }
     ensures source_counts { S.faults enrol.old ≤ S.faults enrol.new }
     ensures source_quiet { StaysUnless (S.faults enrol.old) (S.faults enrol.new)
         (result_code result ≡ 2) }
@@ -135,6 +137,8 @@ pub fn serve_within<D: Disk + Drop, S: Source, K: Sink>(
     ensures told_long { result_code result ≡ 7
         → IfSome (S.left enrol.old) (λ bytes. input_limit < length bytes) }
     ensures disk_counts { sum_by D.faults disks.disks ≤ sum_by D.faults (disks_after result) }
+    ensures disk_quiet { StaysUnless (sum_by D.faults disks.disks)
+        (sum_by D.faults (disks_after result)) (IsOneOf (3 ∷ 4 ∷ 6 ∷ []) (result_code result)) }
     ensures source_counts { S.faults enrol.old ≤ S.faults enrol.new }
     ensures source_quiet { StaysUnless (S.faults enrol.old) (S.faults enrol.new)
         (result_code result ≡ 2) }

@@ -7,7 +7,7 @@ use Rattle.up_client.specs.Talks.{Held, Talking}
 use Rattle.up_client.specs.declared.fault.ClientFault.{ClientFault}
 use Rattle.up_disk.specs.declared.disk.Disk as disk
 use Rattle.up_host.specs.Alike.{TellsNoMore}
-use Rattle.up_host.specs.Alone.{Counts, HostState, IsAlone, disk_faults, views}
+use Rattle.up_host.specs.Alone.{Counts, HostState, IsAlone, RisesAsShown, disk_faults, views}
 use Rattle.up_host.specs.Calls.{Asked}
 use Rattle.up_host.specs.Routes.{Question}
 use Rattle.up_calls.specs.declared.event.Event.{Event}
@@ -48,14 +48,15 @@ module _ {D P L : Type 0} (near : Ghosts P) (peers : L → P) (before after : L 
   -- so a call of the host over the object is one over what stands behind it
   pub asks_among : (disks : disk.Ghosts D) (q : Question) (moment : ℕ) (e : Event) (host then : HostState D) (old new : L) (last : P) → last ≡ peers new
       → Asked far host.operator (views disks host) old q e (views disks then) new → IsAlone (views disks host) (views disks then) q e → TellsNoMore (views disks then) q e
-      → Counts (disk_faults disks host) (disk_faults disks then) (near.faults (peers old)) (near.faults (peers new)) e → e.moment ≡ moment → StaysHost disks host then
+      → Counts (disk_faults disks host) (disk_faults disks then) (near.faults (peers old)) (near.faults (peers new)) e → RisesAsShown (views disks host) (views disks then) q e → e.moment ≡ moment → StaysHost disks host then
       → AsksOne disks near (before old ++ after old) q moment e host then (peers old) last
-  asks_among disks q moment e host then old new last is asked alone alike counts moment_is stays =
+  asks_among disks q moment e host then old new last is asked alone alike counts quiet moment_is stays =
       subst (λ p. AsksOne disks near (before old ++ after old) q moment e host then (peers old) p) (sym is) (record {
         asked = (asked_seen peers (λ held. before held ++ after held ≡ before old ++ after old) far (behind near (before old ++ after old)) (seen_behind (before old ++ after old)) host.operator (views disks host) (views disks then) old new q e refl asked).0;
         alone = alone;
         alike = alike;
         counts = counts;
+        quiet = quiet;
         moment_is = moment_is;
         stays = stays;
       })

@@ -2,7 +2,7 @@
 use Rattle.std.specs.Prelude.{◌≡◌, ℕ, List}
 use Rattle.up_disk.specs.declared.disk.Disk as disk
 use Rattle.up_host.specs.Alike.{TellsNoMore}
-use Rattle.up_host.specs.Alone.{Counts, HostState, IsAlone, disk_faults, views}
+use Rattle.up_host.specs.Alone.{Counts, HostState, IsAlone, RisesAsShown, disk_faults, views}
 use Rattle.up_host.specs.Calls.{Asked}
 use Rattle.up_host.specs.Routes.{Question}
 use Rattle.up_host.specs.Settled.{StaysSettled}
@@ -24,6 +24,7 @@ pub record AsksOne {D P : Type 0} (disks : disk.Ghosts D) (loader : Ghosts P) (h
   pub alone : IsAlone (views disks host) (views disks after) q e
   pub alike : TellsNoMore (views disks after) q e
   pub counts : Counts (disk_faults disks host) (disk_faults disks after) (loader.faults old) (loader.faults new) e
+  pub quiet : RisesAsShown (views disks host) (views disks after) q e
   pub moment_is : e.moment ≡ moment
   pub stays : StaysHost disks host after
 

@@ -14,9 +14,10 @@ use Rattle.up_calls.specs.Kept.{KeepsSeen, where_missing}
 use Rattle.up_calls.specs.Loads.{group_text_answer, load_of}
 use Rattle.up_calls.specs.Routes.{LogName, OwnStays, Question}
 use Rattle.up_calls.specs.Services.{key_fault, store_fault}
+use Rattle.up_calls.specs.Shown.{FailsAsShown, QuietBut}
 use Rattle.up_calls.specs.Steps.{BlockRead, KeysTried, StoreReads, StoreTried, Takes, Tried}
 use Rattle.up_calls.specs.Told.{LogTold, TreeTold, answered_at}
-use Rattle.up_calls.specs.Views.{log_after, own_of}
+use Rattle.up_calls.specs.Views.{SeenTree, log_after, own_of}
 use Rattle.up_calls.specs.declared.event.Event.{Event}
 use Rattle.up_calls.specs.declared.logs.Turn.{Turn}
 use Rattle.up_calls.specs.declared.logs.Turn.TheVariants as turn
@@ -33,16 +34,17 @@ use Rattle.up_journal.specs.Logs.{LogState}
 use Rattle.up_journal.specs.declared.limits.Limits.{Limits}
 use Rattle.up_keys.specs.Keys as keys
 use Rattle.up_lists.specs.Begins.{Begins}
+use Rattle.up_lists.specs.Counts.{StaysUnless}
 use Rattle.up_names.specs.PathNames.{PathName}
 use Rattle.up_names.specs.Texts.{UserName}
 use Rattle.up_policy.specs.Loadings.{Loading}
 use Rattle.up_policy.specs.declared.load_answer.LoadAnswer.{LoadAnswer}
 use Rattle.up_log_tree.specs.Logs.{Log}
 use Rattle.up_shared.proofs.Places.{seat_at}
-use Rattle.up_shared.proofs.Turning.{turn_fixed, turn_takes, turned_after, turned_before, turned_fixed, turned_later, turned_looked, turned_own, turned_quiet, turned_takes}
+use Rattle.up_shared.proofs.Turning.{turn_fixed, turn_stays, turn_takes, turned_after, turned_before, turned_fixed, turned_later, turned_looked, turned_own, turned_quiet, turned_takes}
 use Rattle.up_shared.specs.Callers.{IsTied, KeysTurned, StoreTurned, TreeTurned, seats_same}
 use Rattle.up_shared.specs.Jobs.{there}
-use Rattle.up_shared.specs.Sharing.{AreSeats, EachPair, HasFailed, HasLooked, Looked, SeatsLater, TreeSeatLater, is_seat_of, seat_for, seen_by, tree_seen, views_of}
+use Rattle.up_shared.specs.Sharing.{AreSeats, EachPair, HasFailed, HasLooked, IsQuiet, Looked, SeatsLater, TreeSeatLater, is_seat_of, seat_for, seen_by, tree_seen, views_of}
 use Rattle.up_shared.specs.declared.shared.Seats.{Seats}
 use Rattle.up_shared.specs.declared.shared.Shared.{Shared}
 use Rattle.up_shared.specs.declared.shared.TreeSeat.{TreeSeat}
@@ -189,6 +191,18 @@ module _ {D J : Type 0} (disks : disk.Ghosts D) (did : J → LogState D BlockRec
       subst (λ (k : Known BlockRecord Limits). Takes t.turn.before.log t.turn.after.log (seen_by a.store b.store_limits) (seen_by k b.store_limits) (disks.faults t.turn.before.disk) (disks.faults t.turn.after.disk) (HasFailed LogName.OfStore a b)) (sym t.store)
       (turn_takes blocks.log_of store_faults blocks.limits_of did job after looked_store t.seat t.turn b.store_limits (HasFailed LogName.OfStore a b) (λ more. subst (λ (k : Known BlockRecord Limits). a.store.failed < k.failed) (sym t.store) more))
 
+  -- no disk failed but the store's, and that one only where its count did not stay
+  pub store_calm : (fault : Type 0) → StaysUnless (disks.faults t.turn.before.disk) (disks.faults t.turn.after.disk) fault → QuietBut (λ log. IsQuiet disks log a b) LogName.OfStore fault
+  store_calm fault stays = record { stays = by }
+    where
+      by : (log : LogName) → (log ≡ LogName.OfStore → fault → ⊥) → IsQuiet disks log a b
+      by (LogName.OfTree owner) none = IsQuiet.Stays (ap (λ (xs : List (TreeSeat D)). option_map (λ (v : SeenTree). v.failed) (option_map tree_seen (seat_for xs owner))) t.trees)
+      by LogName.OfStore none = elim (turn_stays blocks.log_of store_faults blocks.limits_of did job after looked_store t.seat t.turn (stays.stays (none refl))) [
+        | inl same ↦ IsQuiet.Stays (ap (λ (n : ℕ). Some n) (ap (λ (k : Known BlockRecord Limits). k.failed) t.store ∙ same))
+        | inr end ↦ IsQuiet.AtEnd t.turn.before.disk end
+      ]
+      by LogName.OfKeys none = IsQuiet.Stays (ap (λ (k : Known _ _). Some k.failed) t.keys)
+
   store_fixed : b.store_limits ≡ t.turn.before.limits
   store_fixed =
       turn_fixed blocks.log_of store_faults blocks.limits_of did job after looked_store t.seat t.turn b.store_limits (sits.store_fixed ∙ ap (λ (l : Limits). Some l) (sym t.store_limits))
@@ -257,6 +271,18 @@ module _ {D J : Type 0} (disks : disk.Ghosts D) (did : J → LogState D KeyRecor
       subst (λ (k : Known KeyRecord Limits). Takes t.turn.before.log t.turn.after.log (seen_by a.keys b.keys_limits) (seen_by k b.keys_limits) (disks.faults t.turn.before.disk) (disks.faults t.turn.after.disk) (HasFailed LogName.OfKeys a b)) (sym t.keys)
       (turn_takes keys.log_of keys_faults keys.limits_of did job after looked_keys t.seat t.turn b.keys_limits (HasFailed LogName.OfKeys a b) (λ more. subst (λ (k : Known KeyRecord Limits). a.keys.failed < k.failed) (sym t.keys) more))
 
+  -- no disk failed but that of the keys, and that one only where its count did not stay
+  pub keys_calm : (fault : Type 0) → StaysUnless (disks.faults t.turn.before.disk) (disks.faults t.turn.after.disk) fault → QuietBut (λ log. IsQuiet disks log a b) LogName.OfKeys fault
+  keys_calm fault stays = record { stays = by }
+    where
+      by : (log : LogName) → (log ≡ LogName.OfKeys → fault → ⊥) → IsQuiet disks log a b
+      by (LogName.OfTree owner) none = IsQuiet.Stays (ap (λ (xs : List (TreeSeat D)). option_map (λ (v : SeenTree). v.failed) (option_map tree_seen (seat_for xs owner))) t.trees)
+      by LogName.OfStore none = IsQuiet.Stays (ap (λ (k : Known _ _). Some k.failed) t.store)
+      by LogName.OfKeys none = elim (turn_stays keys.log_of keys_faults keys.limits_of did job after looked_keys t.seat t.turn (stays.stays (none refl))) [
+        | inl same ↦ IsQuiet.Stays (ap (λ (n : ℕ). Some n) (ap (λ (k : Known KeyRecord Limits). k.failed) t.keys ∙ same))
+        | inr end ↦ IsQuiet.AtEnd t.turn.before.disk end
+      ]
+
   keys_fixed : b.keys_limits ≡ t.turn.before.limits
   keys_fixed =
       turn_fixed keys.log_of keys_faults keys.limits_of did job after looked_keys t.seat t.turn b.keys_limits (sits.keys_fixed ∙ ap (λ (l : Limits). Some l) (sym t.keys_limits))
@@ -278,3 +304,10 @@ risen_at faults before a b final l last user who request e risen one two three =
     subst (λ (x : Seats _). Risen (λ log. HasFailed log a x) before (faults last) (record { user = who; request = request }) e) (sym one)
     (subst (λ (x : _). Risen (λ log. HasFailed log a b) before (faults x) (record { user = who; request = request }) e) (sym two)
     (subst (λ (x : UserName). Risen (λ log. HasFailed log a b) before (faults l) (record { user = x; request = request }) e) (sym three) risen))
+
+-- that no disk failed but as the event shows, of the seats as they are left
+pub quiet_at : {D : Type 0} (disks : disk.Ghosts D) (a b final : Seats D) (user who : UserName) (request : Request) (e : Event) → FailsAsShown (λ log. IsQuiet disks log a b) (record { user = user; request = request }) e → final ≡ b → who ≡ user
+    → FailsAsShown (λ log. IsQuiet disks log a final) (record { user = who; request = request }) e
+quiet_at disks a b final user who request e shown one two =
+    subst (λ (x : Seats _). FailsAsShown (λ log. IsQuiet disks log a x) (record { user = who; request = request }) e) (sym one)
+    (subst (λ (x : UserName). FailsAsShown (λ log. IsQuiet disks log a b) (record { user = x; request = request }) e) (sym two) shown)

@@ -1,24 +1,27 @@
 -- One turn of a seat, as its caller sees it.
-use Rattle.std.proofs.Common.{◌≡◌, ◌≢◌, ◌<◌, ◌+◌, ℕ, zero, suc, Bool, true, false, List, [], ◌∷◌, length, refl, sym, ap, subst, ◌∙◌, arith, option_map, slice_get, Option, Some, None}
-use Rattle.std.specs.Prelude.{position}
+use Rattle.std.proofs.Common.{◌≡◌, ◌≢◌, ◌<◌, ◌≤◌, ◌+◌, ◌-◌, ◌^◌, ◌⊎◌, inl, inr, nat_lt, ℕ, zero, suc, Bool, true, false, List, [], ◌∷◌, length, refl, sym, ap, subst, ◌∙◌, arith, option_map, slice_get, Option, Some, None}
+use Rattle.std.specs.Prelude.{if◌then◌else◌, position}
 use Rattle.std.specs.Str.{bytes_eq}
 use Rattle.std.proofs.lemmas.Bool.{false≢true}
+use Rattle.std.proofs.lemmas.Bool.Decides.{nat_tests}
 use Rattle.std.proofs.lemmas.Slice.Eq.{bytes_eq-Decides}
 use Rattle.std.proofs.lemmas.List.Folds.{find-set}
 use Rattle.up_calls.specs.Routes.{LogName, OwnStays}
+use Rattle.up_calls.specs.Shown.{QuietBut}
 use Rattle.up_calls.specs.Steps.{Takes}
-use Rattle.up_calls.specs.Views.{own_of}
+use Rattle.up_calls.specs.Views.{SeenTree, own_of}
 use Rattle.up_cell.proofs.Turns.{Onward-looked, Onward-self, Onward-trans, turn_added, turn_floor, turn_from, turn_onward, turn_quiet, turn_rose}
 use Rattle.up_cell.specs.Known.{Known, Onward, looked_of}
-use Rattle.up_cell.specs.Turned.{Turned}
+use Rattle.up_cell.specs.Turned.{Turned, rise}
 use Rattle.up_disk.specs.declared.disk.Disk as disk
 use Rattle.up_entry.specs.declared.records.Rec.{Rec}
 use Rattle.up_journal.specs.declared.limits.Limits.{Limits}
+use Rattle.up_lists.specs.Counts.{StaysUnless}
 use Rattle.up_names.specs.Texts.{UserName}
 use Rattle.up_shared.proofs.Pairs.{each_set, some_none, some_same}
 use Rattle.up_shared.proofs.Places.{find_other, found_passes, position-place, seat_at}
 use Rattle.up_shared.specs.Callers.{TreeTurned, seats_same}
-use Rattle.up_shared.specs.Sharing.{AreSeats, EachPair, HasFailed, HasLooked, IsTreeSeat, SeatsLater, TreeSeatLater, is_seat_of, seat_for, seen_by, tree_seen, views_of}
+use Rattle.up_shared.specs.Sharing.{AreSeats, EachPair, HasFailed, HasLooked, IsQuiet, IsTreeSeat, SeatsLater, TreeSeatLater, is_seat_of, seat_for, seen_by, tree_seen, views_of}
 use Rattle.up_shared.specs.declared.shared.Seats.{Seats}
 use Rattle.up_shared.specs.declared.shared.Shared.{Shared}
 use Rattle.up_shared.specs.declared.shared.TreeCell.{TreeCell}
@@ -26,6 +29,17 @@ use Rattle.up_shared.specs.declared.shared.TreeSeat.{TreeSeat}
 use Rattle.up_tree.specs.States.{State, entries_of, fixed_of}
 
 -- ---- any seat
+
+-- a count that stays did not rise, unless it stands at its end
+rise_none : (before after : ℕ) → after ≡ before → (rise before after ≡ 0) ⊎ (2 ^ 64 - 1 ≤ before)
+rise_none before after same = by (nat_lt before (2 ^ 64 - 1)) refl
+  where
+    at_end : nat_lt before (2 ^ 64 - 1) ≡ false → 2 ^ 64 - 1 ≤ before
+    at_end e = grind (arith, nat_tests)
+
+    by : (b : Bool) → nat_lt before (2 ^ 64 - 1) ≡ b → ((if b then after - before else 1) ≡ 0) ⊎ (2 ^ 64 - 1 ≤ before)
+    by true e = inl (omega (arith, same))
+    by false e = inr (at_end e)
 
 module _ {S E F J : Type 0} (entries : S → List E) (faults : S → ℕ) (fixed : S → F) (did : J → S → J → S → Type 0) (job after : J) (v w : Known E F) (t : Turned entries faults fixed did job after v w) where
   -- what a turn left of what its caller has of the log
@@ -38,6 +52,13 @@ module _ {S E F J : Type 0} (entries : S → List E) (faults : S → ℕ) (fixed
     one = λ x grown. (turn_added entries faults fixed did job after v w t x grown).1;
     rose = λ rose. let more = turn_rose entries faults fixed did job after v w t rose in (λ low. more, up more);
   }
+
+  -- where the state's count stays, the seat's failures stay, unless that count stands at its end
+  pub turn_stays : faults t.after ≡ faults t.before → (w.failed ≡ v.failed) ⊎ (2 ^ 64 - 1 ≤ faults t.before)
+  turn_stays same = elim (rise_none (faults t.before) (faults t.after) same) [
+    | inl none ↦ inl (omega (arith, none, ap (λ (k : Known E F). k.failed) t.seat))
+    | inr end ↦ inr end
+  ]
 
   -- the part that stays, as the seat has it, is that of the state as it was left
   pub turn_fixed : (part : F) → v.fixed ≡ Some part → part ≡ fixed t.after
@@ -72,15 +93,39 @@ module _ {D J : Type 0} (disks : disk.Ghosts D) (did : J → State D → J → S
   pub turned_after : (views_of b).tree owner ≡ Some (tree_seen after_seat)
   turned_after = ap (option_map tree_seen) found_then
 
-  own_elsewhere : (other : UserName) → other ≢ owner → own_of ((views_of b).tree other) ≡ own_of ((views_of a).tree other)
-  own_elsewhere other differs =
+  found_elsewhere : (other : UserName) → other ≢ owner → seat_for b.trees.items other ≡ seat_for a.trees.items other
+  found_elsewhere other differs =
       let not_mine : bytes_eq t.before.owner other ≡ false = by (bytes_eq t.before.owner other) refl in
-      ap (λ (o : Option (TreeSeat D)). own_of (option_map tree_seen o))
-      (ap (λ (xs : List (TreeSeat D)). seat_for xs other) t.trees ∙ find_other (is_seat_of other) a.trees.items place t.before after_seat t.there not_mine not_mine)
+      ap (λ (xs : List (TreeSeat D)). seat_for xs other) t.trees ∙ find_other (is_seat_of other) a.trees.items place t.before after_seat t.there not_mine not_mine
     where
       by : (c : Bool) → bytes_eq t.before.owner other ≡ c → c ≡ false
       by false e = refl
       by true e = absurd (differs (sym ((bytes_eq-Decides t.before.owner other).0 e) ∙ (bytes_eq-Decides t.before.owner owner).0 mine))
+
+  own_elsewhere : (other : UserName) → other ≢ owner → own_of ((views_of b).tree other) ≡ own_of ((views_of a).tree other)
+  own_elsewhere other differs = ap (λ (o : Option (TreeSeat D)). own_of (option_map tree_seen o)) (found_elsewhere other differs)
+
+  -- no disk failed but that of the tree, and that one only where its count did not stay
+  pub turned_calm : (fault : Type 0) → StaysUnless (disks.faults t.turn.before.disk) (disks.faults t.turn.after.disk) fault → QuietBut (λ log. IsQuiet disks log a b) (LogName.OfTree owner) fault
+  turned_calm fault stays = record { stays = by }
+    where
+      mine_calm : (fault → ⊥) → IsQuiet disks (LogName.OfTree owner) a b
+      mine_calm none = elim (turn_stays entries_of faults_of fixed_of did job after looked_seat t.seat t.turn (stays.stays none)) [
+        | inl same ↦ IsQuiet.Stays (ap (option_map (λ (v : SeenTree). v.failed)) turned_after ∙ ap (λ (n : ℕ). Some n) same ∙ sym (ap (option_map (λ (v : SeenTree). v.failed)) turned_before))
+        | inr end ↦ IsQuiet.AtEnd t.turn.before.disk end
+      ]
+
+      at_tree : (other : UserName) (c : Bool) → bytes_eq other owner ≡ c → (LogName.OfTree other ≡ LogName.OfTree owner → fault → ⊥) → IsQuiet disks (LogName.OfTree other) a b
+      at_tree other true e none =
+          let is : other ≡ owner = (bytes_eq-Decides other owner).0 e in
+          subst (λ (o : UserName). IsQuiet disks (LogName.OfTree o) a b) (sym is) (mine_calm (none (ap (λ (o : UserName). LogName.OfTree o) is)))
+      at_tree other false e none =
+          IsQuiet.Stays (ap (λ (o : Option (TreeSeat D)). option_map (λ (v : SeenTree). v.failed) (option_map tree_seen o)) (found_elsewhere other (λ is. false≢true (sym e ∙ (bytes_eq-Decides other owner).1 is))))
+
+      by : (log : LogName) → (log ≡ LogName.OfTree owner → fault → ⊥) → IsQuiet disks log a b
+      by (LogName.OfTree other) none = at_tree other (bytes_eq other owner) refl none
+      by LogName.OfStore none = IsQuiet.Stays (ap (λ (k : Known _ _). Some k.failed) t.store)
+      by LogName.OfKeys none = IsQuiet.Stays (ap (λ (k : Known _ _). Some k.failed) t.keys)
 
   -- no log but that of the tree got own records
   pub turned_own : OwnStays (Some (LogName.OfTree owner)) (views_of a) (views_of b)

@@ -17,7 +17,7 @@ use Rattle.up_journal.specs.Logs.{LogState}
 use Rattle.up_journal.specs.declared.limits.Limits.{Limits}
 use Rattle.up_keys.specs.Keys as keys
 use Rattle.up_names.specs.Texts.{UserName}
-use Rattle.up_shared.specs.Sharing.{AreSeats, EachPair, HasFailed, HasLooked, IsTreeSeat, SeatsLater, TreeSeatLater, is_seat_of, seat_for, seen_by, tree_seen, views_of}
+use Rattle.up_shared.specs.Sharing.{AreSeats, EachPair, HasFailed, HasLooked, IsQuiet, IsTreeSeat, SeatsLater, TreeSeatLater, is_seat_of, seat_for, seen_by, tree_seen, views_of}
 use Rattle.up_shared.specs.declared.shared.Seats.{Seats}
 use Rattle.up_shared.specs.declared.shared.Shared.{Shared}
 use Rattle.up_shared.specs.declared.shared.TreeCell.{TreeCell}
@@ -305,3 +305,10 @@ module _ {D : Type 0} where
       record { v = u.w; w = x.w; before = u.found; after = x.found; is = omega (arith, up, more, on) }
   failed_within LogName.OfStore a b c d one h two = let up = one.store.failed in let on = two.store.failed in omega (arith, up, h, on)
   failed_within LogName.OfKeys a b c d one h two = let up = one.keys.failed in let on = two.keys.failed in omega (arith, up, h, on)
+
+  -- a disk that failed in neither of two calls failed in none of both
+  pub quiet_trans : {disks : disk.Ghosts D} (log : LogName) (a b c : Seats D)
+      → IsQuiet disks log a b → IsQuiet disks log b c → IsQuiet disks log a c
+  quiet_trans log a b c (IsQuiet.Stays one) (IsQuiet.Stays two) = IsQuiet.Stays (two ∙ one)
+  quiet_trans log a b c (IsQuiet.Stays one) (IsQuiet.AtEnd stood end) = IsQuiet.AtEnd stood end
+  quiet_trans log a b c (IsQuiet.AtEnd stood end) two = IsQuiet.AtEnd stood end

@@ -1,12 +1,14 @@
 -- A host that is shared, and what one caller has of it. This project's own.
-use Rattle.std.specs.Prelude.{◌≡◌, ◌≤◌, ◌<◌, ℕ, Bool, List, [], ◌∷◌, Option, Some}
+use Rattle.std.specs.Prelude.{◌≡◌, ◌≤◌, ◌<◌, ◌-◌, ◌^◌, ℕ, Bool, List, [], ◌∷◌, Option, Some}
 use Rattle.std.specs.List.{find}
 use Rattle.std.specs.Option.{option_map}
 use Rattle.std.specs.Str.{bytes_eq}
 use Rattle.atomic_table.specs.Seated.{TableId}
 use Rattle.up_calls.specs.Routes.{LogName}
+use Rattle.up_calls.specs.Shown.{failures}
 use Rattle.up_calls.specs.Views.{Seen, SeenTree, Views}
 use Rattle.up_cell.specs.Known.{Known, Onward}
+use Rattle.up_disk.specs.declared.disk.Disk as disk
 use Rattle.up_names.specs.Texts.{UserName}
 use Rattle.up_shared.specs.declared.shared.Seats.{Seats}
 use Rattle.up_shared.specs.declared.shared.Shared.{Shared}
@@ -113,3 +115,9 @@ module _ {D : Type 0} where
   HasFailed (LogName.OfTree owner) a b = AtTree (λ v w. v.seat.failed < w.seat.failed) owner a b
   HasFailed LogName.OfStore a b = a.store.failed < b.store.failed
   HasFailed LogName.OfKeys a b = a.keys.failed < b.keys.failed
+
+  -- This log's disk failed in no turn of this call: the seat's count of failures is as before. But where the count of a disk stands at its
+  -- end, a seat counts a failure in each of its turns.
+  pub data IsQuiet (disks : disk.Ghosts D) (log : LogName) (a b : Seats D) : Type 0 where
+    Stays : failures (views_of b) log ≡ failures (views_of a) log → IsQuiet disks log a b
+    AtEnd : (stood : D) → 2 ^ 64 - 1 ≤ disks.faults stood → IsQuiet disks log a b

@@ -3,7 +3,8 @@ ghost use Rattle.std.specs.Prelude.{◌≡◌, ◌<◌};
 ghost use Rattle.up_calls.specs.Alike.{TellsNoMore};
 ghost use Rattle.up_calls.specs.Answered.{Leaves, LoadsInRounds, Risen};
 ghost use Rattle.up_calls.specs.Calls.{Asked};
-ghost use Rattle.up_shared.specs.Sharing.{AreSeats, HasFailed, HasLooked, SeatsLater, views_of};
+ghost use Rattle.up_calls.specs.Shown.{FailsAsShown};
+ghost use Rattle.up_shared.specs.Sharing.{AreSeats, HasFailed, HasLooked, IsQuiet, SeatsLater, views_of};
 
 use crate::caller::Caller;
 use crate::shared::{Seats, Shared};
@@ -39,6 +40,8 @@ impl<D: Disk + Drop> Shared<D> {
             (record { user = session.now.user; request = request.now }) result }
         ensures risen { Risen (λ log. HasFailed log seats.old seats.new)
             (L.faults loader.old) (L.faults loader.new)
+            (record { user = session.now.user; request = request.now }) result }
+        ensures quiet { FailsAsShown (λ log. IsQuiet D.Disk log seats.old seats.new)
             (record { user = session.now.user; request = request.now }) result }
         ensures rounds { LoadsInRounds (views_of seats.old) (views_of seats.new)
             (record { user = session.now.user; request = request.now }) result }

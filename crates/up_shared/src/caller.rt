@@ -1,9 +1,9 @@
 //! One caller of a host that many share, as who has its logs.
-ghost use Rattle.std.proofs.Common.{ap};
+ghost use Rattle.std.proofs.Common.{ap, refl};
 ghost use Rattle.std.specs.Prelude.{◌≡◌};
-ghost use Rattle.up_shared.specs.Callers.{IsTied, failed_within, looked_since, seats_later, tied_same, tied_still, tied_trans, tied_wider};
+ghost use Rattle.up_shared.specs.Callers.{IsTied, failed_within, looked_since, quiet_trans, seats_later, tied_same, tied_still, tied_trans, tied_wider};
 ghost use Rattle.up_shared.specs.Jobs.{there};
-ghost use Rattle.up_shared.specs.Sharing.{AreSeats, HasFailed, HasLooked, views_of};
+ghost use Rattle.up_shared.specs.Sharing.{AreSeats, HasFailed, HasLooked, IsQuiet, views_of};
 
 use crate::jobs::{ReadBlock, ReadText, TryKeys, TryStore, TryTree};
 use crate::lending::{lend_keys, lend_store, lend_tree};
@@ -44,6 +44,8 @@ impl<'a, D: Disk + Drop, R: Wait> Logs for Caller<'a, D, R> {
     ghost left = { λ log n old new. HasLooked log n old.seats.now new.seats.now };
 
     ghost rises = { λ log old new. HasFailed log old.seats.now new.seats.now };
+
+    ghost quiet = { λ log old new. IsQuiet D.Disk log old.seats.now new.seats.now };
 
     fn operator(&self) -> &User {
         &self.shared.operator
@@ -156,6 +158,11 @@ impl<'a, D: Disk + Drop, R: Wait> Logs for Caller<'a, D, R> {
 
     ghost rises_within = { λ log but a b c d p h q.
         failed_within log a.seats.now b.seats.now c.seats.now d.seats.now p.later h q.later };
+
+    ghost quiet_same = { λ log a. IsQuiet.Stays refl };
+
+    ghost quiet_joined = { λ log a b c p q.
+        quiet_trans log a.seats.now b.seats.now c.seats.now p q };
 }
 
 // What was loaded is there, unless memory was wanting.

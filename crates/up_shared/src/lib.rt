@@ -7,8 +7,8 @@
 //!
 //! [`Shared::ask`] answers a request. What its caller learns is `Asked` of `up_calls`, the same as of a host that has one caller, over
 //! what its seats have before and after; that it looked at the log in this call and was answered over no fewer records than it then
-//! counted (`looked`); and that the seat's count of failures rose where a disk failed (`risen`). What has to be fetched and loaded is so
-//! outside the turn of the log that answers, each log in a turn of its own.
+//! counted (`looked`); and that the seat's count of failures rose where a disk failed (`risen`), and no disk failed in its turns but as the
+//! event shows (`quiet`). What has to be fetched and loaded is so outside the turn of the log that answers, each log in a turn of its own.
 #![tactic(auto)]
 
 mod asking;

@@ -1,8 +1,9 @@
-use Rattle.std.proofs.Common.{◌≡◌, ◌≢◌, ◌≤◌, ◌<◌, [], None, Some, arith, length, refl, subst, sym}
+use Rattle.std.proofs.Common.{◌≡◌, ◌≢◌, ◌≤◌, ◌<◌, [], None, Some, arith, length, refl, subst, sym, true, ap, ◌∙◌}
 use Rattle.up_calls.proofs.AsksLemmas.{Tries-Asks, Tries-trans}
 use Rattle.up_calls.proofs.GatherLemmas.{gathered_none, stays_same, stays_trans}
 use Rattle.up_calls.proofs.KeptLemmas.{kept_next}
 use Rattle.up_calls.proofs.RoundLemmas.{needed_new, round_few, round_grows}
+use Rattle.up_calls.proofs.ShownLemmas.{all_joined, but_after, but_none, io_said, not_said}
 use Rattle.up_calls.proofs.TurnLemmas.{answered, own_quiet, round_gathered, round_made, rounds_none, some_later}
 use Rattle.up_answers.specs.Fetching.{Fetched}
 use Rattle.up_calls.proofs.CameLemmas.{on_err_now}
@@ -12,10 +13,12 @@ use Rattle.up_calls.specs.Kept.{KeepsSeen}
 use Rattle.up_calls.specs.Loads.{group_answer, group_question, load_failed}
 use Rattle.up_calls.specs.Rounds.{IsMissing, bound}
 use Rattle.up_calls.specs.Routes.{LogName, Question}
-use Rattle.up_calls.specs.Told.{TreeTold, answered_at}
+use Rattle.up_calls.specs.Told.{TreeTold, answered_at, tells_io}
 use Rattle.up_calls.specs.Views.{log_after}
 use Rattle.up_calls.specs.declared.event.Event.{Event}
+use Rattle.up_calls.specs.declared.logs.Turn.TheVariants as turn
 use Rattle.up_policy.specs.Loadings.{Loading}
+use Rattle.up_wire.specs.declared.replies.Reply.TheVariants as reply
 use Rattle.up_calls.proofs.asked.ask_loaded.Goals as goal
 
 less : (loaded : Loading) → length loaded ≤ bound → length loaded ≢ bound → length loaded < bound
@@ -34,6 +37,7 @@ loop-reply-init g c =
       rounds = subst (λ l. HasRounds a a c.args.owner.now q l) (sym none) (rounds_none a c.args.owner.now q c.requires.there);
       few = subst (λ l. length l ≤ bound) (sym none) (omega arith);
       own = stays_same None a;
+      quiet = record { all = λ log. g.met.B.Logs.quiet_same log c.args.logs.now };
       tie = g.met.B.Logs.wider who c.args.logs.now c.args.logs.now (g.met.B.Logs.same c.args.logs.now);
       fetched = refl;
       there = c.requires.there;
@@ -67,6 +71,11 @@ loop-reply-preserved g c =
       own = stays_trans None a b e c.loop-reply.invariant.own
           (stays_trans None b d e (own_quiet b d c.args.owner.now told.v told.w told.before told.after (g.met.B.Logs.stays who c.loop-reply.logs c.ask_tree.new.self c.ask_tree.ensures.tie) told.told.1)
           (g.met.B.Logs.stays None c.ask_tree.new.self c.gather_round.new.logs c.gather_round.ensures.tie));
+      quiet = all_joined g.B.Logs.quiet g.met.B.Logs.quiet_joined c.args.logs.now c.ask_tree.new.self c.gather_round.new.logs
+          (all_joined g.B.Logs.quiet g.met.B.Logs.quiet_joined c.args.logs.now c.loop-reply.logs c.ask_tree.new.self c.loop-reply.invariant.quiet
+          (but_none (λ log. g.B.Logs.quiet log c.loop-reply.logs c.ask_tree.new.self) (LogName.OfTree c.args.owner.now) (tells_io c.ask_tree.result ≡ true) c.ask_tree.ensures.quiet
+          (not_said c.ask_tree.result (turn.Missing c.in-Missing.missing) c.in-Missing.is refl)))
+          c.gather_round.ensures.quiet;
       tie = g.met.B.Logs.joined who c.args.logs.now c.ask_tree.new.self c.gather_round.new.logs
           (g.met.B.Logs.joined who c.args.logs.now c.loop-reply.logs c.ask_tree.new.self c.loop-reply.invariant.tie c.ask_tree.ensures.tie)
           (g.met.B.Logs.wider who c.ask_tree.new.self c.gather_round.new.logs c.gather_round.ensures.tie);
@@ -114,6 +123,11 @@ returns-in-Said-clause-answered g c =
     c.args.loader.now c.loop-reply.loader c.loop-reply.loaded c.in-Said.reply c.in-Said.position told
     c.loop-reply.invariant.own c.loop-reply.invariant.gathered c.loop-reply.invariant.rounds c.loop-reply.invariant.few c.len-names.ensures.names)
 
+pub returns-in-Said-clause-quiet : goal.returns-in-Said-clause-quiet
+returns-in-Said-clause-quiet g c =
+    but_after g.B.Logs.quiet g.met.B.Logs.quiet_joined c.args.logs.now c.loop-reply.logs c.ask_tree.new.self (LogName.OfTree c.args.owner.now) (tells_io c.ask_tree.result ≡ true) (c.in-Said.reply ≡ reply.Io)
+    c.loop-reply.invariant.quiet c.ask_tree.ensures.quiet (λ io. io_said c.in-Said.reply c.in-Said.position (sym (ap tells_io c.in-Said.is) ∙ io))
+
 pub returns-in-Said-clause-left : goal.returns-in-Said-clause-left
 returns-in-Said-clause-left g c =
     g.met.B.Logs.left_since (LogName.OfTree c.args.owner.now) c.in-Said.position c.args.logs.now c.loop-reply.logs c.ask_tree.new.self c.loop-reply.invariant.tie c.loop-reply.invariant.own
@@ -135,6 +149,14 @@ returns-in_err-gather_round-in-Missing-clause-wanting g c =
     on_err_now _ (stays_trans None a b e c.loop-reply.invariant.own
     (stays_trans None b d e (own_quiet b d c.args.owner.now told.v told.w told.before told.after (g.met.B.Logs.stays who c.loop-reply.logs c.ask_tree.new.self c.ask_tree.ensures.tie) told.told.1)
     (g.met.B.Logs.stays None c.ask_tree.new.self c.gather_round.new.logs c.gather_round.ensures.tie)))
+
+pub returns-in_err-gather_round-in-Missing-clause-calm : goal.returns-in_err-gather_round-in-Missing-clause-calm
+returns-in_err-gather_round-in-Missing-clause-calm g c =
+    on_err_now _ (all_joined g.B.Logs.quiet g.met.B.Logs.quiet_joined c.args.logs.now c.ask_tree.new.self c.gather_round.new.logs
+    (all_joined g.B.Logs.quiet g.met.B.Logs.quiet_joined c.args.logs.now c.loop-reply.logs c.ask_tree.new.self c.loop-reply.invariant.quiet
+    (but_none (λ log. g.B.Logs.quiet log c.loop-reply.logs c.ask_tree.new.self) (LogName.OfTree c.args.owner.now) (tells_io c.ask_tree.result ≡ true) c.ask_tree.ensures.quiet
+    (not_said c.ask_tree.result (turn.Missing c.in-Missing.missing) c.in-Missing.is refl)))
+    c.gather_round.ensures.quiet)
 
 pub returns-in_err-gather_round-in-Missing-clause-tie : goal.returns-in_err-gather_round-in-Missing-clause-tie
 returns-in_err-gather_round-in-Missing-clause-tie g c =
@@ -159,6 +181,12 @@ returns-in-Wanting-clause-wanting g c =
     let d = g.B.Logs.views c.ask_tree.new.self in
     let told = subst (TreeTold (g.B.Logs.rises (LogName.OfTree c.args.owner.now) c.loop-reply.logs c.ask_tree.new.self) b d c.args.owner.now q c.loop-reply.loaded c.loop-reply.fetched c.args.now) c.in-Wanting.is c.ask_tree.ensures.told in
     stays_trans None a b d c.loop-reply.invariant.own (own_quiet b d c.args.owner.now told.v told.w told.before told.after (g.met.B.Logs.stays who c.loop-reply.logs c.ask_tree.new.self c.ask_tree.ensures.tie) told.told)
+
+pub returns-in-Wanting-clause-calm : goal.returns-in-Wanting-clause-calm
+returns-in-Wanting-clause-calm g c =
+    all_joined g.B.Logs.quiet g.met.B.Logs.quiet_joined c.args.logs.now c.loop-reply.logs c.ask_tree.new.self c.loop-reply.invariant.quiet
+    (but_none (λ log. g.B.Logs.quiet log c.loop-reply.logs c.ask_tree.new.self) (LogName.OfTree c.args.owner.now) (tells_io c.ask_tree.result ≡ true) c.ask_tree.ensures.quiet
+    (not_said c.ask_tree.result turn.Wanting c.in-Wanting.is refl))
 
 pub returns-in-Wanting-clause-tie : goal.returns-in-Wanting-clause-tie
 returns-in-Wanting-clause-tie g c =

@@ -1,6 +1,7 @@
 use Rattle.std.proofs.Common.{◌≡◌, ◌∙◌, ap, sym, subst, Some}
 use Rattle.up_calls.proofs.CameLemmas.{nothing_bare}
 use Rattle.up_calls.proofs.ReadLemmas.{route_read}
+use Rattle.up_calls.proofs.ShownLemmas.{all_shown}
 use Rattle.up_calls.specs.Routes.{LogName, Question, log_asked, log_by}
 use Rattle.up_calls.specs.declared.service.Service.{Service}
 use Rattle.up_calls.specs.declared.service.Service.TheVariants as service
@@ -26,3 +27,9 @@ returns-in-Err-clause-came g c =
     let logs = c.args.logs.now in
     nothing_bare g.L.Loader g.met.L.Loader.same (g.B.Logs.operator_of logs) (λ log n. g.B.Logs.left log n logs logs) (λ log. g.B.Logs.rises log logs logs) (g.B.Logs.views logs) q
     c.args.loader.now c.bare.result c.args.now c.bare.ensures
+
+pub returns-in-Err-clause-quiet : goal.returns-in-Err-clause-quiet
+returns-in-Err-clause-quiet g c =
+    let q : Question = record { user = c.args.user.now; request = c.args.request.now } in
+    let logs = c.args.logs.now in
+    all_shown (λ log. g.B.Logs.quiet log logs logs) q c.bare.result (λ log. g.met.B.Logs.quiet_same log logs)

@@ -18,6 +18,9 @@ returns-clause-leaves g c = c.ask_by.ensures.came.leaves
 pub returns-clause-risen : goal.returns-clause-risen
 returns-clause-risen g c = c.ask_by.ensures.came.risen
 
+pub returns-clause-quiet : goal.returns-clause-quiet
+returns-clause-quiet g c = c.ask_by.ensures.quiet
+
 pub returns-clause-rounds : goal.returns-clause-rounds
 returns-clause-rounds g c = c.ask_by.ensures.came.rounds
 

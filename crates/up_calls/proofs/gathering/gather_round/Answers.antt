@@ -3,6 +3,7 @@ use Rattle.std.specs.Option.{option_copied}
 use Rattle.up_calls.proofs.AsksLemmas.{Tries-Asks, Tries-trans}
 use Rattle.up_calls.proofs.GatherLemmas.{adds_of, gathered_adds, gathered_none, gathered_trans}
 use Rattle.up_calls.proofs.RoundLemmas.{adds_next, adds_none, missing_still, new_still}
+use Rattle.up_calls.proofs.ShownLemmas.{all_joined}
 use Rattle.up_calls.specs.Loads.{group_answer, group_question, load_failed}
 use Rattle.up_calls.specs.Rounds.{IsMissing}
 use Rattle.up_calls.proofs.gathering.gather_round.Goals as goal
@@ -12,6 +13,7 @@ loop-i-init g c = record {
   gathered = gathered_none g.L.Loader (g.B.Logs.operator_of c.args.logs.now) g.met.L.Loader.same (g.B.Logs.views c.args.logs.now) (g.B.Logs.views c.args.logs.now) (IsMissing c.args.missing.now) c.args.loader.now c.args.loaded.now;
   adds = adds_none c.args.missing.now c.args.loaded.now;
   few = c.requires.few;
+  quiet = record { all = λ log. g.met.B.Logs.quiet_same log c.args.logs.now };
   tie = g.met.B.Logs.same c.args.logs.now;
 }
 
@@ -25,6 +27,10 @@ gather_new-requires-clause-new g c =
 
 pub returns-in_err-gather_new-clause-tie : goal.returns-in_err-gather_new-clause-tie
 returns-in_err-gather_new-clause-tie g c = g.met.B.Logs.joined None c.args.logs.now c.loop-i.logs c.gather_new.new.logs c.loop-i.invariant.tie c.gather_new.ensures.tie
+
+pub returns-in_err-gather_new-clause-quiet : goal.returns-in_err-gather_new-clause-quiet
+returns-in_err-gather_new-clause-quiet g c =
+    all_joined g.B.Logs.quiet g.met.B.Logs.quiet_joined c.args.logs.now c.loop-i.logs c.gather_new.new.logs c.loop-i.invariant.quiet c.gather_new.ensures.quiet
 
 pub returns-in_err-gather_new-clause-tried : goal.returns-in_err-gather_new-clause-tried
 returns-in_err-gather_new-clause-tried g c =
@@ -52,5 +58,6 @@ loop-i-preserved g c =
           (missing_still names c.loop-i.i c.in-Some.name.now c.args.loaded.now c.loop-i.loaded c.len-count.ensures.names c.requires.new c.loop-i.invariant.adds at) one);
       adds = adds_next names c.loop-i.i c.in-Some.name.now one.answer c.args.loaded.now c.loop-i.loaded c.gather_new.new.loaded at one.whole c.loop-i.invariant.adds;
       few = omega (arith, long, full, c.loop-i.invariant.few);
+      quiet = all_joined g.B.Logs.quiet g.met.B.Logs.quiet_joined c.args.logs.now c.loop-i.logs c.gather_new.new.logs c.loop-i.invariant.quiet c.gather_new.ensures.quiet;
       tie = g.met.B.Logs.joined None c.args.logs.now c.loop-i.logs c.gather_new.new.logs c.loop-i.invariant.tie c.gather_new.ensures.tie;
     }

@@ -15,7 +15,7 @@ use Rattle.std.specs.Prelude.{length}
 use Rattle.up_calls.proofs.steps.try_tree.Goals as goal
 
 pub returns-in_default-clause-tried : goal.returns-in_default-clause-tried
-returns-in_default-clause-tried g c = record { log = refl; stands = inl refl }
+returns-in_default-clause-tried g c = record { log = refl; stands = inl refl; quiet = refl }
 
 pub returns-then-not-is_enough-clause-tried : goal.returns-then-not-is_enough-clause-tried
 returns-then-not-is_enough-clause-tried g c =
@@ -41,7 +41,7 @@ returns-clause-tried g c =
     (is_whole c.in-Ok.missing (needs (log_of old) c.args.loaded.now c.args.user.now c.args.request.now) c.args.loaded.now missing (sym c.is_enough.ensures ∙ c.if-not-is_enough.false))
     c.position-position.ensures.count
     (steps_asked g.D.Disk old new c.step_asked-reply.result c.args.loaded.now c.args.fetched.now c.args.user.now c.args.now c.args.request.now c.args.asked.now c.requires.read c.step_asked-reply.ensures.steps)
-    c.position-position.ensures.log)
+    c.position-position.ensures.log c.step_asked-reply.ensures.quiet)
 
 pub returns-clause-kept : goal.returns-clause-kept
 returns-clause-kept g c =

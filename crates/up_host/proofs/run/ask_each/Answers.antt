@@ -19,7 +19,7 @@ loop-call-preserved g c = record {
   history = subst (λ (events : List Event). IsHistory g.D.Disk g.L.Loader c.args.host.now c.args.loader.now (take (c.loop-call.call-index + 1) c.args.calls.now) c.ask-event.new.self c.ask-event.new.loader events) (sym c.push_reserved.ensures.items)
       (history_taken g.D.Disk g.L.Loader c.args.host.now c.loop-call.host c.ask-event.new.self c.args.loader.now c.loop-call.loader c.ask-event.new.loader c.args.calls.now c.loop-call.call-index c.call-item.result c.loop-call.events.items c.ask-event.result
       c.loop-call.invariant.history c.loop-call-test.true c.call-item.is
-      (record { asked = c.ask-event.ensures.asked; alone = c.ask-event.ensures.alone; counts = c.ask-event.ensures.counts; stays = c.ask-event.ensures.stays; operator = c.ask-event.ensures.operator }) c.ask-event.ensures.moment);
+      (record { asked = c.ask-event.ensures.asked; alone = c.ask-event.ensures.alone; counts = c.ask-event.ensures.counts; quiet = c.ask-event.ensures.quiet; stays = c.ask-event.ensures.stays; operator = c.ask-event.ensures.operator }) c.ask-event.ensures.moment);
   room = omega (arith, c.loop-call.invariant.room, c.push_reserved.ensures.len, c.push_reserved.ensures.capacity);
 }
 

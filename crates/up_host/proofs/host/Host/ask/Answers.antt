@@ -3,7 +3,7 @@ use Rattle.up_calls.specs.Alike.{TellsNoMore}
 use Rattle.up_calls.specs.Calls.{Asked}
 use Rattle.up_calls.specs.Routes.{Question}
 use Rattle.up_host.proofs.AskedLemmas.{alone_by, counts_of}
-use Rattle.up_host.specs.Alone.{IsAlone, views}
+use Rattle.up_host.specs.Alone.{IsAlone, RisesAsShown, views}
 use Rattle.up_names.specs.Texts.{UserName}
 use Rattle.up_host.proofs.host.Host.ask.Goals as goal
 
@@ -22,6 +22,10 @@ pub returns-clause-counts : goal.returns-clause-counts
 returns-clause-counts g c =
     let q : Question = record { user = c.user.result.now; request = c.args.request.now } in
     counts_of g.D.Disk g.L.Loader c.args.self.now c.ask.new.logs c.args.loader.now c.ask.new.loader q c.ask.result c.ask.ensures.tie.counts c.ask.ensures.asked.loads.some c.ask.ensures.risen
+
+pub returns-clause-quiet : goal.returns-clause-quiet
+returns-clause-quiet g c =
+    subst (λ (u : UserName). RisesAsShown (views g.D.Disk c.args.self.now) (views g.D.Disk c.ask.new.logs) (record { user = u; request = c.args.request.now }) c.ask.result) c.user.ensures c.ask.ensures.quiet
 
 pub returns-clause-tie : goal.returns-clause-tie
 returns-clause-tie g c = c.ask.ensures.loader

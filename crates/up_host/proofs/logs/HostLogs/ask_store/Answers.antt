@@ -1,7 +1,9 @@
-use Rattle.std.proofs.Common.{◌≤◌, Some, ap, arith, length, sym}
+use Rattle.std.proofs.Common.{◌≡◌, ◌≤◌, Some, ap, arith, length, sym}
 use Rattle.up_calls.specs.Routes.{Question}
+use Rattle.up_host.proofs.TiedLemmas.{quiet_store_now}
 use Rattle.up_host.proofs.TurnedLemmas.{asked_store, store_tied}
 use Rattle.up_lists.proofs.BeginsLemmas.{length-Begins}
+use Rattle.up_wire.specs.declared.replies.Reply.TheVariants as reply
 use Rattle.up_host.proofs.logs.HostLogs.ask_store.Goals as goal
 
 pub returns-clause-told : goal.returns-clause-told
@@ -27,3 +29,7 @@ invariant_of-self g c =
       keys_base = c.self.invariant.keys_base;
       room = c.self.invariant.room;
     }
+
+pub returns-clause-quiet : goal.returns-clause-quiet
+returns-clause-quiet g c =
+    quiet_store_now g.D.Disk _ c.try_store.new.state c.try_store.ensures.grows c.self.invariant.store_base c.args.self.now c.self.view_is (c.try_store.result.0 ≡ reply.Io) c.try_store.ensures.tried.quiet

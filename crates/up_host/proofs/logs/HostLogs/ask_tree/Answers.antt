@@ -1,8 +1,11 @@
-use Rattle.std.proofs.Common.{◌≡◌, ◌<◌, ◌≤◌, Some, length, arith, sym, ap, ◌∙◌, slice_get}
+use Rattle.std.proofs.Common.{◌≡◌, ◌<◌, ◌≤◌, Some, true, length, arith, sym, ap, ◌∙◌, slice_get}
 use Rattle.std.specs.Prelude.{position}
 use Rattle.std.proofs.lemmas.Option.{slice_get-get_or}
 use Rattle.up_host.proofs.PlaceLemmas.{base_at, bases_set, length_set, position-place}
+use Rattle.up_host.proofs.TiedLemmas.{quiet_tree_now}
 use Rattle.up_host.proofs.TurnedLemmas.{kept_there, nowhere, tree_kept, tree_left, tree_tied, tree_told}
+use Rattle.up_calls.proofs.ShownLemmas.{tried_quiet}
+use Rattle.up_calls.specs.Told.{tells_io}
 use Rattle.up_host.specs.Alone.{is_of}
 use Rattle.up_lists.proofs.BeginsLemmas.{length-Begins}
 use Rattle.up_host.proofs.logs.HostLogs.ask_tree.Goals as goal
@@ -72,3 +75,12 @@ returns-clause-kept g c =
     slice_get-get_or c.self.inside.trees.items c.in-Some.place c.index_mut-held.result.now (position-place (is_of c.args.owner.now) c.self.inside.trees.items c.in-Some.place at).1 ∙ ap Some (sym c.index_mut-held.ensures.value) in
     let fits : c.index_mut-held.result.now.base ≤ length c.index_mut-held.result.now.state.log = base_at c.self.inside.trees.items c.in-Some.place c.index_mut-held.result.now c.self.invariant.trees_base there in
     tree_kept g.D.Disk _ c.args.owner.now c.in-Some.place c.index_mut-held.result.now c.try_tree.new.state at there c.try_tree.ensures.grows fits (record { user = c.args.user.now; request = c.args.request.now }) c.args.loaded.now c.args.fetched.now c.args.now c.try_tree.result c.try_tree.ensures.tried c.args.self.now c.self.view_is c.try_tree.new.kept c.try_tree.ensures.kept
+
+pub returns-clause-quiet : goal.returns-clause-quiet
+returns-clause-quiet g c =
+    let at : position (is_of c.args.owner.now) c.self.inside.trees.items ≡ Some c.in-Some.place = sym (ap (position (is_of c.args.owner.now)) c.deref.ensures.value) ∙ sym c.place_of.ensures ∙ c.in-Some.is in
+    let there : slice_get c.self.inside.trees.items c.in-Some.place ≡ Some c.index_mut-held.result.now =
+    slice_get-get_or c.self.inside.trees.items c.in-Some.place c.index_mut-held.result.now (position-place (is_of c.args.owner.now) c.self.inside.trees.items c.in-Some.place at).1 ∙ ap Some (sym c.index_mut-held.ensures.value) in
+    let fits : c.index_mut-held.result.now.base ≤ length c.index_mut-held.result.now.state.log = base_at c.self.inside.trees.items c.in-Some.place c.index_mut-held.result.now c.self.invariant.trees_base there in
+    quiet_tree_now g.D.Disk _ c.args.owner.now c.in-Some.place c.index_mut-held.result.now c.try_tree.new.state at there c.try_tree.ensures.grows fits c.args.self.now c.self.view_is (tells_io c.try_tree.result ≡ true)
+    (tried_quiet g.D.Disk (record { user = c.args.user.now; request = c.args.request.now }) c.args.loaded.now c.args.fetched.now c.args.now c.index_mut-held.result.now.state c.try_tree.new.state c.try_tree.result c.try_tree.ensures.tried)

@@ -1,4 +1,6 @@
-use Rattle.std.proofs.Common.{◌≤◌, arith, length}
+use Rattle.std.proofs.Common.{◌≡◌, ◌≤◌, Ok, arith, length}
+use Rattle.up_entry.specs.declared.fetch.Fetch.TheVariants as fetch
+use Rattle.up_host.proofs.TiedLemmas.{quiet_store_now}
 use Rattle.up_host.proofs.TurnedLemmas.{read_failed, read_given, read_tied}
 use Rattle.up_lists.proofs.BeginsLemmas.{length-Begins}
 use Rattle.up_host.proofs.logs.HostLogs.block.Goals as goal
@@ -25,3 +27,7 @@ invariant_of-self g c =
       keys_base = c.self.invariant.keys_base;
       room = c.self.invariant.room;
     }
+
+pub returns-clause-quiet : goal.returns-clause-quiet
+returns-clause-quiet g c =
+    quiet_store_now g.D.Disk _ c.read_block.new.state c.read_block.ensures.grows c.self.invariant.store_base c.args.self.now c.self.view_is (c.read_block.result ≡ Ok fetch.Failed) c.read_block.ensures.quiet
