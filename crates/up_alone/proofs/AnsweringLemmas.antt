@@ -1,11 +1,11 @@
 -- A host that is not shared challenges, and is seen on a connection.
 use Rattle.std.proofs.Common.{◌≡◌, ℕ, List, Option, Some, refl, sym, subst}
 use Rattle.up_alone.specs.Alone.{HostAlone, LooksAlone, alone_at, host_alone}
-use Rattle.up_alone.proofs.ThroughLemmas.{completes_through, order_within, talks_through, through}
 use Rattle.up_ends.specs.Telling.{Coming, Gives}
 use Rattle.up_host.specs.Alone.{HostState}
 use Rattle.up_keys.specs.Records.{record_in}
 use Rattle.up_names.specs.Texts.{UserName}
+use Rattle.up_talk.proofs.ImageLemmas.{completes_through, order_within, talks_through, through}
 use Rattle.up_talk.specs.Around.{Ends, Parties, World}
 use Rattle.up_talk.specs.Challenges.{Draws, signing_of}
 use Rattle.up_talk.specs.Completing.{Completes, IsInOrder, asks_all}

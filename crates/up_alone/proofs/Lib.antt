@@ -5,4 +5,3 @@ pub mod SizeLemmas
 pub mod ReplyLemmas
 pub mod CallLemmas
 mod AnsweringLemmas
-mod ThroughLemmas

@@ -9,7 +9,6 @@ use Rattle.std.specs.Option.{option_and_then}
 use Rattle.std.specs.Prelude.{◌==◌, if◌then◌else◌, nat_lt, slice_get}
 use Rattle.std.specs.Str.{bytes_eq}
 use Rattle.up_audit.proofs.ChangeLemmas as changes
-use Rattle.up_audit.proofs.ChangeLemmas.{put_by}
 use Rattle.up_audit.proofs.ListLemmas.{alike, any_at, any_flat, any_map, found_in, found_listed, listed_found}
 use Rattle.up_audit.specs.Audits.{Ref, is_among, is_snap, references_of, shown_trees, tree_references, used_in}
 use Rattle.up_audit.specs.Marks.{gone_at, gone_by, is_position, last_snap, put_references, snap_after, standing_at, stands_at, told_at, told_by}
@@ -21,6 +20,8 @@ use Rattle.up_log_tree.proofs.Trees.{tree_sorted}
 use Rattle.up_log_tree.specs.Changes.{change_before, last_change, path_of_change, positions_of, record_at}
 use Rattle.up_log_tree.specs.Trees.{Tree, node_at, tree_at, tree_of}
 use Rattle.up_log_tree.specs.declared.node.Node.{Node}
+use Rattle.up_snap.proofs.OldLemmas as old
+use Rattle.up_snap.specs.Standing.{put_by}
 
 -- ---- tests
 
@@ -112,9 +113,9 @@ module _ (records : List Rec) (r : Ref) where
   names_tree n among =
       let found = found_in (λ (item : PathName × Node). is_among (references_of item.1.entry) r) (tree_at records n) (sym (among_tree (tree_at records n)) ∙ among) in
       let there : node_at (tree_at records n) found.item.0 ≡ Some found.item.1 = listed_found (tree_at records n) found.place found.item (tree_sorted (take n records)) found.there in
-      go found.item.0 found.item.1 found.passes (changes.Last records found.item.0 n) refl (sym (changes.left_is records found.item.0 n) ∙ there)
+      go found.item.0 found.item.1 found.passes (changes.Last records found.item.0 n) refl (sym (old.left_is records found.item.0 n) ∙ there)
     where
-      go : (path : PathName) (node : Node) → is_among (references_of node.entry) r ≡ true → (last : Option ℕ) → changes.Last records path n ≡ last → changes.left records path last ≡ Some node → Names n
+      go : (path : PathName) (node : Node) → is_among (references_of node.entry) r ≡ true → (last : Option ℕ) → changes.Last records path n ≡ last → old.left records path last ≡ Some node → Names n
       go path node named None is left = absurd (some_none node (sym left))
       go path node named (Some at) is left = record { path = path; at = at; last = is; named = put_named (record_at records at) r node left named }
 
@@ -122,7 +123,7 @@ module _ (records : List Rec) (r : Ref) where
   unfolding node_at
   tree_names n names =
       let put = named_put (record_at records names.at) r names.named in
-      let there : node_at (tree_at records n) names.path ≡ Some put.0 = changes.left_is records names.path n ∙ ap (changes.left records names.path) names.last ∙ put.1 in
+      let there : node_at (tree_at records n) names.path ≡ Some put.0 = old.left_is records names.path n ∙ ap (old.left records names.path) names.last ∙ put.1 in
       let listed = found_listed names.path (tree_at records n) put.0 there in
       among_tree (tree_at records n) ∙ any_at (λ (item : PathName × Node). is_among (references_of item.1.entry) r) (tree_at records n) listed.place (listed.key, put.0) listed.there put.2
 
@@ -244,7 +245,7 @@ module _ (records : List Rec) (r : Ref) where
             record {
               path = on.0;
               at = before;
-              last = changes.last_kept records on.0 snap.place (i - snap.place) before (ap (changes.Last records on.0) (sym more) ∙ on.1) (omega (arith, above, place));
+              last = old.last_kept records on.0 snap.place (i - snap.place) before (ap (changes.Last records on.0) (sym more) ∙ on.1) (omega (arith, above, place));
               named = named;
             },
           )
@@ -286,7 +287,7 @@ module _ (records : List Rec) (r : Ref) where
   -- what stands is told where it was put
   standing_told : (names : Names whole) → (i : ℕ) × (i < whole) × (is_among (told_at records (suc i)) r ≡ true)
   standing_told names =
-      let last = changes.last_is records names.path whole names.at names.last in
+      let last = old.last_is records names.path whole names.at names.last in
       let place = last.position in
       let on = changes.changed records names.path last.rec last.one in
       let now : last_change records names.path ≡ Some (suc last.place) = ap (λ rs. last_change rs names.path) (sym (take_all whole records (omega arith))) ∙ names.last ∙ ap Some place in
@@ -311,7 +312,7 @@ module _ (records : List Rec) (r : Ref) where
       gone : (followed : changes.Followed records names.path n names.at) → n < followed.place → is_among (gone_at records (last_snap records followed.place) (suc followed.place)) r ≡ true
       gone followed above =
           let snap = last_snap_from followed.place n snapped above in
-          let within = (changes.last_is records names.path n names.at names.last).within in
+          let within = (old.last_is records names.path n names.at names.last).within in
           ap (λ o. is_among (gone_by records (last_snap records followed.place) o) r) followed.before
           ∙ ap (λ b. is_among (if b then put_references (record_at records names.at) else []) r) (lt-ltb names.at (last_snap records followed.place) (omega (arith, snap, within)))
           ∙ names.named

@@ -1,20 +1,16 @@
 -- How an audit is printed.
-use Rattle.std.proofs.Common.{◌≡◌, ◌∙◌, ℕ, zero, suc, ◌+◌, ◌<◌, ◌≤◌, List, [], ◌∷◌, ◌++◌, length, map, drop, Option, Result, Ok, Err, sym, ap, subst, arith, append_assoc, append-nil}
+use Rattle.std.proofs.Common.{◌≡◌, ◌∙◌, ℕ, zero, suc, ◌+◌, ◌<◌, ◌≤◌, List, [], ◌∷◌, ◌++◌, length, map, drop, Option, sym, ap, subst, arith, append_assoc, append-nil}
 use Rattle.std.proofs.Math.ListN.{get_or}
 use Rattle.std.proofs.lemmas.List.{drop_all}
 use Rattle.std.specs.Io.KnownBytes.{Appends}
 use Rattle.std.specs.List.{flat_map}
-use Rattle.std.specs.Prelude.{IsErrOf}
 use Rattle.up_audit.specs.Audits.{Ref, audit_of}
 use Rattle.up_audit.specs.Texts.{audit_answer, audit_text, held_line, loose_line}
 use Rattle.up_audit.specs.declared.audit.Audit.{Audit}
 use Rattle.up_blocks.specs.declared.record.BlockRecord.{BlockRecord}
-use Rattle.up_command.specs.declared.output.Stop.{Stop}
-use Rattle.up_command.specs.declared.output.Stop.TheVariants as out
 use Rattle.up_ends.proofs.Going.{Going-all, Going-more, WritesPart-none, WritesPart-step}
 use Rattle.up_ends.specs.Writing.{Going, WritesPart}
 use Rattle.up_journal.specs.Logs.{LogState}
-use Rattle.up_lists.specs.Counts.{StaysUnless}
 use Rattle.up_names.specs.Texts.{Text}
 use Rattle.up_reports.proofs.TellLemmas.{told_part, told_wanting, told_whole}
 use Rattle.up_reports.specs.Telling.{AnswersOne}
@@ -22,13 +18,6 @@ use Rattle.up_tree.specs.States as tree
 
 pub nothing_written : (held : Option Text) (all : Text) → WritesPart held held all
 nothing_written held all = WritesPart-none held all
-
--- a write that did not fail left the count as it was
-not_both : {X : Type 0} {x : X} {e : Stop} → ◌≡◌ {A = Result X Stop} (Ok x) (Err e) → ⊥
-not_both both = absurd (cc)
-
-pub still_written : {X : Type 0} {x : X} (before mid now : ℕ) (result : Result X Stop) → result ≡ Ok x → StaysUnless mid now (IsErrOf result out.WriteFault) → mid ≡ before → now ≡ before
-still_written before mid now result was quiet same = quiet.stays (λ bad. not_both (sym was ∙ bad)) ∙ same
 
 -- ---- the lines of loose blocks
 

@@ -19,7 +19,8 @@ use Rattle.up_names.specs.Texts.{Text, UserName}
 use Rattle.up_wire.specs.declared.replies.Reply.{Reply}
 use Rattle.up_wire.specs.declared.requests.Request.{Request}
 use Rattle.up_cache.specs.Caching.{CachedAnswers, Caching, caching}
-use Rattle.up_cache.specs.Copying.{PathResult, Copied, CopiedOver, PathDid, Ends, PathCame, PathDoes, PlainDid, PlainlyCopied, copy_capacity, counts_line, result_of_get, is_cut, printed, did_text}
+use Rattle.up_command.specs.Statuses.{is_cut}
+use Rattle.up_cache.specs.Copying.{PathResult, Copied, CopiedOver, PathDid, Ends, PathCame, PathDoes, PlainDid, PlainlyCopied, copy_capacity, counts_line, result_of_get, printed, did_text}
 use Rattle.up_cache.specs.Printing.{FileCopied, PrintedAs, Running, Stopped, StopsBy, PrintedResult, WordCopied, WrittenBy, code_by}
 use Rattle.up_cache.specs.Steady.{IsSteady, Leads}
 use Rattle.up_cache.specs.declared.stop.Stop.{Stop}

@@ -1,5 +1,5 @@
 -- What `upspin copy` does and prints. This project's own.
-use Rattle.std.specs.Prelude.{◌≡◌, ◌≢◌, ℕ, Bool, ◌==◌, ◌&&◌, ◌||◌, nat_le, false, true, List, [], ◌∷◌, ◌++◌, drop, length, codes, bytes_eq}
+use Rattle.std.specs.Prelude.{◌≡◌, ◌≢◌, ℕ, ◌&&◌, nat_le, false, true, List, [], ◌∷◌, ◌++◌, drop, length, codes, bytes_eq}
 use Rattle.std.specs.Prelude.{decimal, if◌then◌else◌, Option, Some, None, Result, Ok, Err}
 use Rattle.std.specs.List.{AllZip, flat_map}
 use Rattle.std.specs.Result.{result_ok}
@@ -11,6 +11,7 @@ use Rattle.up_client.specs.Talks.{Held}
 use Rattle.up_client.specs.declared.fault.ClientFault.{ClientFault}
 use Rattle.up_client.specs.declared.fault.ClientFault.TheVariants as client
 use Rattle.up_command.specs.Printed.{ended, got_lines}
+use Rattle.up_command.specs.Statuses.{is_cut}
 use Rattle.up_names.specs.PathNames.{PathName, path_of}
 use Rattle.up_names.specs.Texts.{Text, UserName}
 use Rattle.up_names.specs.UserNames.{user_of}
@@ -85,10 +86,6 @@ abbrev pub PathDoes : {S : Type 0} → (S → Request → Option Reply → S →
 PathDoes answers a word did b = PathCame answers a word (Ok did) b
 
 -- ---- the run
-
--- a write fault or want of memory cut the text short
-abbrev pub is_cut : ℕ → Bool
-is_cut status = (status == 3) || (status == 4)
 
 -- How a run ends behind the words that were done, by those that are left: its status, what is written last, and the state it leaves.
 pub data Ends {S : Type 0} (answers : S → Request → Option Reply → S → Type 0)

@@ -9,6 +9,7 @@ use up_disk::MemDisk;
 use up_journal::Limits;
 use up_lists::Items;
 use up_names::{Path, User};
+use up_policy::owns_snapshots;
 use up_tree::TreeState;
 
 /// Limits that no case comes to which names none.
@@ -27,15 +28,6 @@ pub fn owner_of(alloc: Global, word: &str) -> Result<User, Fault>
         return Err(Fault::BadLine);
     }
     Ok(owner)
-}
-
-fn owns_snapshots(owner: &User) -> bool
-    ensures { result ≡ owns_snapshots owner.now }
-{
-    match owner.suffix() {
-        Some(suffix) => suffix == "snapshot",
-        None => false,
-    }
 }
 
 /// A tree of this owner over an empty disk, with limits that no case comes to.

@@ -22,7 +22,7 @@ pub use frames::Streams;
 pub use messages::Messages;
 pub use names::Names;
 pub use patterns::Patterns;
-pub use peers::PeerLines;
+pub use peers::{PeerLines, add_calls, ask_peer_all};
 pub use references::References;
 pub use replies::Replies;
 pub use requests::Requests;

@@ -239,7 +239,8 @@ fn refuses_line(alloc: Global, words: Words<'_>, answer: &mut Answer) -> Result<
     Ok(())
 }
 
-fn ask_peer_all<P: Peer>(alloc: Global, peer: &mut P, words: Words<'_>) -> Result<(), Fault> {
+/// Asks a peer what the words of a line say, one after the other: the name of a group, or the digits of a reference.
+pub fn ask_peer_all<P: Peer>(alloc: Global, peer: &mut P, words: Words<'_>) -> Result<(), Fault> {
     for question in words.some()?.split(' ') {
         ask_peer(alloc, peer, question)?;
     }
@@ -260,7 +261,8 @@ fn load_of<P: Peer>(alloc: Global, peer: &mut P, name: &str) -> Result<(), Fault
     Ok(())
 }
 
-fn add_calls(calls: &[PeerCall], answer: &mut Answer) {
+/// What a peer was asked, with its answers.
+pub fn add_calls(calls: &[PeerCall], answer: &mut Answer) {
     for call in calls {
         answer.part();
         add_question(&call.question, answer);

@@ -1,3 +1,4 @@
 pub mod AskLemmas
 pub mod CrashLemmas
 pub mod FormLemmas
+pub mod QuietLemmas

@@ -14,6 +14,7 @@ use up_entry::{Block, Entry, EntryFault, Location, is_control_file};
 use up_list::{ReadRequest, asked_of};
 use up_lists::Items;
 use up_names::User;
+use up_policy::owns_snapshots;
 use up_wire::{Reply, Request};
 
 /// Where a request goes.
@@ -62,16 +63,6 @@ pub fn log_owner(owner: &User) -> Result<User, AllocError>
         owner.base()
     } else {
         owner.clone()
-    }
-}
-
-/// Whether the tree of this owner is a snapshot tree.
-pub(crate) fn owns_snapshots(owner: &User) -> bool
-    ensures { result ≡ owns_snapshots owner.now }
-{
-    match owner.suffix() {
-        Some(suffix) => suffix == "snapshot",
-        None => false,
     }
 }
 

@@ -5,13 +5,13 @@ use Rattle.std.proofs.lemmas.Bool.{lt-ltb, true≢false}
 use Rattle.std.specs.Io.KnownBytes.{Appends}
 use Rattle.up_ends.specs.Writing.{Going, WritesPart}
 use Rattle.up_ends.proofs.Going.{Going-all, Going-more, Going-none, WritesPart-all, WritesPart-none, WritesPart-step}
-use Rattle.up_command.specs.Statuses.{IsOneOf, input_limit, is_cut_short}
+use Rattle.up_command.specs.Statuses.{IsOneOf, code_by, input_limit, is_cut_short}
 use Rattle.up_command.specs.declared.output.Stop.{Stop}
 use Rattle.up_command.specs.declared.output.Stop.TheVariants as stop
 use Rattle.up_command.specs.declared.status.Status.{Status}
 use Rattle.up_names.specs.Texts.{Text}
 use Rattle.up_text.specs.Lines.{script_lines}
-use Rattle.up_explain_can.specs.Explaining.{Explains, ExplainsInput, Explanation, InputMeans, IsOneLine, TellsWhy, Told, bad_from, code_behind, code_by, explained, number_if, stands, status_for}
+use Rattle.up_explain_can.specs.Explaining.{Explains, ExplainsInput, Explanation, InputMeans, IsOneLine, TellsWhy, Told, bad_from, code_behind, explained, number_if, stands, status_for}
 
 -- ---- texts that explain
 

@@ -1,12 +1,8 @@
 -- Which lines of a script are malformed, by their numbers, and what is printed of them. This project's own.
 use Rattle.std.specs.Prelude.{◌≡◌, ℕ, ◌+◌, nat_lt, Bool, true, false, List, [], ◌∷◌, ◌++◌, length, codes, decimal, Option, Some, None}
-use Rattle.std.specs.Prelude.{Result, Ok, Err}
 use Rattle.std.specs.List.{list_any}
 use Rattle.up_command.specs.Printed.{ended}
-use Rattle.up_command.specs.Statuses.{Answer, AnswersWith, code_of, input_limit}
-use Rattle.up_command.specs.declared.output.Stop.{Stop}
-use Rattle.up_command.specs.declared.output.Stop.TheVariants as stop
-use Rattle.up_command.specs.declared.status.Status.{Status}
+use Rattle.up_command.specs.Statuses.{Answer, AnswersWith, input_limit}
 use Rattle.up_names.specs.Texts.{Text}
 use Rattle.up_text.specs.Lines.{is_line_end, script_lines}
 
@@ -67,12 +63,6 @@ abbrev pub ExplainsInput : {S : Type 0} → (S → Text → Option S) → S → 
 ExplainsInput step first input old new status = InputMeans (nat_lt input_limit (length input)) step first input old new status
 
 -- ---- a line of it
-
--- the status of lines that were explained to their end, or not
-abbrev pub code_by : Result Status Stop → ℕ
-code_by (Ok status) = code_of status
-code_by (Err stop.WriteFault) = 3
-code_by (Err stop.OutOfMemory) = 4
 
 -- the status behind a line that is good or not
 abbrev pub code_behind : ℕ → Bool → ℕ

@@ -2,8 +2,8 @@
 ghost use Rattle.std.specs.Prelude.{◌≡◌, ◌+◌, ◌-◌, ◌<◌, ◌≤◌, ◌^◌, ◌∷◌, [], IfOk, IfSome, IsErrOf, OnOk};
 ghost use Rattle.std.specs.Io.KnownBytes.{IsAtEnd};
 ghost use Rattle.up_lists.specs.Counts.{Rose, StaysUnless};
-ghost use Rattle.up_command.specs.Statuses.{IsOneOf, code_of, input_limit};
-ghost use Rattle.up_explain_can.specs.Explaining.{Explanation, ExplainsInput, TellsWhy, Told, bad_from, code_behind, code_by};
+ghost use Rattle.up_command.specs.Statuses.{IsOneOf, code_by, code_of, input_limit};
+ghost use Rattle.up_explain_can.specs.Explaining.{Explanation, ExplainsInput, TellsWhy, Told, bad_from, code_behind};
 ghost use Rattle.up_text.specs.Lines.{script_lines};
 
 use crate::judge::Judge;

@@ -3,7 +3,8 @@ use crate::hosts::{has_host, has_tree};
 use std::alloc::Global;
 use up_explain_can::{Flaw, Why, bad_word};
 use up_names::User;
-use up_script_lines::{NewHost, owns_snapshots};
+use up_policy::owns_snapshots;
+use up_script_lines::NewHost;
 
 /// How many trees a host may have.
 const MOST_TREES: usize = 8;

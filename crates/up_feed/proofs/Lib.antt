@@ -4,5 +4,3 @@ mod MessageLemmas
 mod FrontLemmas
 mod LeadingLemmas
 mod CellLemmas
-mod AnsweringLemmas
-mod ThroughLemmas

@@ -1,5 +1,4 @@
 pub mod BatchLemmas
 pub mod PullLemmas
 pub mod TakingLemmas
-pub mod QuietLemmas
 pub mod ReadLemmas

@@ -1,6 +1,6 @@
 -- A request that only looks leads to no record, and its answer is no position.
 use Rattle.std.proofs.Common.{◌≡◌, ◌≢◌, ℕ, Bool, true, false, not, List, [], ◌∷◌, ◌++◌, refl, sym, ap, subst, ◌∙◌, ◌⊎◌, inl, inr, ⊎_elim, Result, Ok, Err}
-use Rattle.std.specs.Prelude.{if◌then◌else◌, nat_lt, int_le, negsuc}
+use Rattle.std.specs.Prelude.{if◌then◌else◌, int_le, negsuc}
 use Rattle.std.specs.Prelude as std
 use Rattle.std.specs.Str.{bytes_eq}
 use Rattle.std.proofs.lemmas.Bool.{false≢true}
@@ -20,7 +20,7 @@ use Rattle.up_list.specs.Asking.{asked_of, owner_asked, pattern_or_fault}
 use Rattle.up_list.specs.Changes.{added_by, answer_of}
 use Rattle.up_list.specs.Looks.{look_now}
 use Rattle.up_answers.specs.SnapshotTrees.{snapshot_look}
-use Rattle.up_follow.proofs.QuietLemmas.{access_quiet, glob_quiet, lookup_quiet, tells_position, text_quiet, watch_quiet}
+use Rattle.up_dir.proofs.QuietLemmas.{access_quiet, glob_quiet, is_odd, lookup_quiet, no_position, text_quiet, watch_quiet}
 use Rattle.up_list.specs.declared.asking.ReadRequest.{ReadRequest}
 use Rattle.up_list.specs.declared.asking.ReadRequest.TheVariants.{Lookup, WhichAccess, GroupText, Delete, Put, Glob, Watch}
 use Rattle.up_policy.specs.Loadings.{Loading}
@@ -28,7 +28,6 @@ use Rattle.up_policy.specs.Trees.{owns_snapshots}
 use Rattle.up_log_tree.specs.Logs.{Log}
 use Rattle.up_log_tree.specs.Rights.{is_group}
 use Rattle.up_tree.specs.States.{State, log_of}
-use Rattle.up_wire.specs.Bounds.{bounded, reply_size}
 use Rattle.up_wire.specs.declared.replies.Done.TheVariants as done
 use Rattle.up_wire.specs.declared.replies.Reply.{Reply}
 use Rattle.up_wire.specs.declared.replies.Reply.TheVariants as reply
@@ -76,25 +75,25 @@ look_read user (request.KeyPut card) asked read h = absurd (false≢true read)
 -- a request leads to such a reply
 abbrev pub IsQuiet : Result Rec Reply → Type 0
 IsQuiet (Ok rec) = ⊥
-IsQuiet (Err given) = tells_position given ≡ false
+IsQuiet (Err given) = is_odd false given ≡ false
 
 module _ (log : Log) (loaded : Loading) (fetched : Fetched) (user : List ℕ) (now : ℕ) where
   look_tree : (asked : ReadRequest) → Looks asked → IsQuiet (tree_outcome log loaded fetched user asked)
   unfolding tree_outcome
-  look_tree (Lookup path) looks = lookup_quiet (look_now log loaded user) path
-  look_tree (WhichAccess path) looks = access_quiet (look_now log loaded user) path
-  look_tree (GroupText path) looks = text_quiet (look_now log loaded user) path
-  look_tree (Glob pattern) looks = glob_quiet (look_now log loaded user) pattern
-  look_tree (Watch path sequence) looks = watch_quiet log loaded user path sequence
+  look_tree (Lookup path) looks = lookup_quiet false (look_now log loaded user) path
+  look_tree (WhichAccess path) looks = access_quiet false (look_now log loaded user) path
+  look_tree (GroupText path) looks = text_quiet false (look_now log loaded user) path
+  look_tree (Glob pattern) looks = glob_quiet false (look_now log loaded user) pattern
+  look_tree (Watch path sequence) looks = watch_quiet false log loaded user path sequence
   look_tree (Delete path) looks = absurd (false≢true looks)
   look_tree (Put put) looks = absurd (false≢true looks)
 
   look_snapshots : (asked : ReadRequest) → Looks asked → IsQuiet (snapshot_outcome log user asked now)
   unfolding snapshot_outcome
-  look_snapshots (Lookup path) looks = lookup_quiet (snapshot_look log user) path
-  look_snapshots (WhichAccess path) looks = access_quiet (snapshot_look log user) path
-  look_snapshots (GroupText path) looks = text_quiet (snapshot_look log user) path
-  look_snapshots (Glob pattern) looks = glob_quiet (snapshot_look log user) pattern
+  look_snapshots (Lookup path) looks = lookup_quiet false (snapshot_look log user) path
+  look_snapshots (WhichAccess path) looks = access_quiet false (snapshot_look log user) path
+  look_snapshots (GroupText path) looks = text_quiet false (snapshot_look log user) path
+  look_snapshots (Glob pattern) looks = glob_quiet false (snapshot_look log user) pattern
   look_snapshots (Watch path sequence) looks = refl
   look_snapshots (Delete path) looks = absurd (false≢true looks)
   look_snapshots (Put put) looks = absurd (false≢true looks)
@@ -112,7 +111,7 @@ module _ (log : Log) (loaded : Loading) (fetched : Fetched) (user : List ℕ) (n
   led (Ok asked) = asked_outcome log loaded fetched user asked now
   led (Err fault) = Err (fault_reply fault)
 
-  fault_quiet : (fault : EntryFault) → tells_position (fault_reply fault) ≡ false
+  fault_quiet : (fault : EntryFault) → is_odd false (fault_reply fault) ≡ false
   fault_quiet (fault.Invalid what) = refl
   fault_quiet fault.OutOfMemory = refl
 
@@ -125,30 +124,6 @@ module _ (log : Log) (loaded : Loading) (fetched : Fetched) (user : List ℕ) (n
       go (Err fault) is = fault_quiet fault
 
 -- ---- a reply that is no position
-
-no_position : (given : Reply) → tells_position given ≡ false → is_changed (bounded given) ≡ false
-no_position (reply.Ok d) h = go (nat_lt 67108864 (reply_size (reply.Ok d)))
-  where
-    go : (b : Bool) → is_changed (if b then reply.TooLarge (reply_size (reply.Ok d)) else reply.Ok d) ≡ false
-    go true = refl
-    go false = h
-no_position (reply.Invalid what) h = refl
-no_position reply.WrongHost h = refl
-no_position (reply.FollowLink entry) h = refl
-no_position reply.Private h = refl
-no_position (reply.Permission right) h = refl
-no_position reply.NotExist h = refl
-no_position reply.NotDir h = refl
-no_position reply.IsDir h = refl
-no_position reply.Exist h = refl
-no_position (reply.BadSequence n) h = refl
-no_position reply.NotEmpty h = refl
-no_position (reply.BadBlock reference) h = refl
-no_position (reply.BadText line) h = refl
-no_position (reply.TooLarge size) h = refl
-no_position (reply.Full n) h = refl
-no_position reply.Io h = refl
-no_position reply.OutOfMemory h = refl
 
 told_by : (log : Log) (leads : Result Rec Reply) → IsQuiet leads → (added_by log leads ≡ []) × (is_changed (answer_of log leads) ≡ false)
 unfolding added_by answer_of

@@ -2,31 +2,23 @@
 use Rattle.std.proofs.Common.{◌≡◌, ◌+◌, ℕ, true, false, List, [], ◌∷◌, ◌++◌, length, inl, inr, IfOk, OnOk, Option, Result, Ok, Err, refl, sym, ap, subst, ◌∙◌, append_assoc, append-nil, length-append, arith}
 use Rattle.std.proofs.lemmas.Grind.{flat_map-append}
 use Rattle.std.specs.Io.KnownBytes.{Appends}
-use Rattle.std.specs.Prelude.{IsErrOf}
-use Rattle.up_lists.specs.Counts.{StaysUnless}
-use Rattle.up_command.specs.Statuses.{code_of}
+use Rattle.up_command.proofs.GatherLemmas.{all-more, going-more, part-more}
+use Rattle.up_command.specs.Statuses.{code_by, code_of, is_cut}
 use Rattle.up_command.specs.declared.output.Stop.{Stop}
 use Rattle.up_command.specs.declared.output.Stop.TheVariants as out
 use Rattle.up_command.specs.declared.status.Status.{Status}
 use Rattle.up_disk.specs.declared.disk.Disk as disk
 use Rattle.up_ends.specs.Writing.{Going, WritesPart}
-use Rattle.up_ends.proofs.Going.{Going-all, Going-more, Going-none, WritesPart-all, WritesPart-none}
+use Rattle.up_ends.proofs.Going.{Going-none, WritesPart-all, WritesPart-none}
 use Rattle.up_follow.specs.declared.feed.Feed as feed
 use Rattle.up_lists.proofs.RunLemmas.{Run-snoc}
 use Rattle.up_lists.specs.Runs.{Run}
 use Rattle.up_names.specs.Texts.{Text}
 use Rattle.up_following.proofs.StayLemmas.{line_stays, stays_same, stays_then}
-use Rattle.up_following.specs.FollowRuns.{Ends, Followed, LineDoes, Stays, code_by, is_cut, printed, stop_code, stop_text}
+use Rattle.up_following.specs.FollowRuns.{Ends, Followed, LineDoes, Stays, printed, stop_code, stop_text}
 use Rattle.up_following.specs.FollowTurns.{LineResult, LineDid, LineCame, LineGathered, World, did_text}
 use Rattle.up_following.specs.declared.stop.LineStop.{LineStop}
 use Rattle.up_following.specs.declared.stop.LineStop.TheVariants as stop
-
--- a write that did not fail left the count as it was
-not_both : {X : Type 0} {x : X} {e : Stop} → ◌≡◌ {A = Result X Stop} (Ok x) (Err e) → ⊥
-not_both both = absurd (cc)
-
-pub still_written : {X : Type 0} {x : X} (before mid now : ℕ) (result : Result X Stop) → result ≡ Ok x → StaysUnless mid now (IsErrOf result out.WriteFault) → mid ≡ before → now ≡ before
-still_written before mid now result was quiet same = quiet.stays (λ bad. not_both (sym was ∙ bad)) ∙ same
 
 module _ {D F : Type 0} (disks : disk.Ghosts D) (feeds : feed.Ghosts F) where
   -- Some first lines were done, and what they print was written, but for what is gathered.
@@ -52,23 +44,6 @@ module _ {D F : Type 0} (disks : disk.Ghosts D) (feeds : feed.Ghosts F) where
 
   printed-more : (dids : List LineDid) (did : LineDid) → printed (dids ++ did ∷ []) ≡ printed dids ++ did_text did
   printed-more dids did = flat_map-append did_text dids (did ∷ []) ∙ ap (λ xs. printed dids ++ xs) (append-nil (did_text did))
-
-  -- what was gathered, and a text behind it, are a part of the whole; this much of them is gathered still
-  going-more : (old mid now : Option Text) (gathered kept text all : Text) → Going old mid gathered all → Going mid now kept (gathered ++ text) → Going old now kept (all ++ text)
-  going-more old mid now gathered kept text all before more =
-      let regroup : more.front ++ kept ≡ gathered ++ text = more.whole in
-      let whole : before.front ++ (more.front ++ kept) ≡ all ++ text =
-      ap (λ xs. before.front ++ xs) regroup ∙ (sym (append_assoc before.front gathered text) ∙ ap (λ xs. xs ++ text) before.whole) in
-      let start : Going old mid (more.front ++ kept) (all ++ text) = record { front = before.front; written = before.written; whole = whole } in
-      Going-more more.front kept start more.written
-
-  part-more : (old mid now : Option Text) (gathered text all : Text) → Going old mid gathered all → WritesPart mid now (gathered ++ text) → WritesPart old now (all ++ text)
-  part-more old mid now gathered text all before part = (part.0, going-more old mid now gathered part.0 text all before part.1)
-
-  all-more : (old mid now : Option Text) (gathered text all : Text) → Going old mid gathered all → Appends mid now (gathered ++ text) → Appends old now (all ++ text)
-  all-more old mid now gathered text all before whole =
-      let done : Going mid now [] (gathered ++ text) = record { front = gathered ++ text; written = whole; whole = append-nil (gathered ++ text) } in
-      Going-all (going-more old mid now gathered [] text all before done)
 
   -- a line was done
   Running-more : (old mid now : Option Text) (gathered kept : Text) (a b c : World D F) (lines : List Text) (line : Text) (more : List Text) (number : ℕ) (did : LineDid)

@@ -1,12 +1,9 @@
 -- What a whole input means: what each line did, one after the other, what is printed, and how it ends. This project's own.
-use Rattle.std.specs.Prelude.{◌≡◌, ℕ, ◌+◌, ◌==◌, ◌||◌, Bool, false, List, [], ◌∷◌, ◌++◌, length, Option, IfSome, Result, Ok, Err}
+use Rattle.std.specs.Prelude.{◌≡◌, ℕ, ◌+◌, false, List, [], ◌∷◌, ◌++◌, length, Option, IfSome, Ok, Err}
 use Rattle.std.specs.List.{flat_map}
 use Rattle.std.specs.Io.KnownBytes.{Appends}
 use Rattle.up_command.specs.Printed.{bad_line}
-use Rattle.up_command.specs.Statuses.{code_of}
-use Rattle.up_command.specs.declared.output.Stop.{Stop}
-use Rattle.up_command.specs.declared.output.Stop.TheVariants as out
-use Rattle.up_command.specs.declared.status.Status.{Status}
+use Rattle.up_command.specs.Statuses.{is_cut}
 use Rattle.up_disk.specs.declared.disk.Disk as disk
 use Rattle.up_ends.specs.Growing.{OnlyGrows}
 use Rattle.up_ends.specs.Writing.{WritesPart}
@@ -32,16 +29,6 @@ stop_code stop.OutOfMemory = 4
 abbrev pub stop_text : ℕ → LineStop → Text
 stop_text number stop.Malformed = bad_line number
 stop_text number stop.OutOfMemory = []
-
--- a write fault or want of memory cut the text short
-abbrev pub is_cut : ℕ → Bool
-is_cut status = (status == 3) || (status == 4)
-
--- the status of lines that were run to an end, or not
-abbrev pub code_by : Result Status Stop → ℕ
-code_by (Ok status) = code_of status
-code_by (Err out.WriteFault) = 3
-code_by (Err out.OutOfMemory) = 4
 
 module _ {D F : Type 0} (disks : disk.Ghosts D) (feeds : feed.Ghosts F) where
   -- a line did something, and did not end the run

@@ -1,10 +1,10 @@
 //! The lines of an input, one after the other.
 ghost use Rattle.std.specs.Prelude.{◌≡◌, ◌≢◌, ◌≤◌, ◌++◌, ◌∷◌, [], IfOk, IsErrOf, OnOk};
 ghost use Rattle.std.specs.Io.KnownBytes.{Appends};
-ghost use Rattle.up_command.specs.Statuses.{IsOneOf, code_of};
+ghost use Rattle.up_command.specs.Statuses.{IsOneOf, code_by, code_of};
 ghost use Rattle.up_ends.specs.Writing.{WritesPart};
 ghost use Rattle.up_follow.specs.declared.feed.Feed as feeds;
-ghost use Rattle.up_following.specs.FollowRuns.{Followed, code_by, stop_code, stop_text};
+ghost use Rattle.up_following.specs.FollowRuns.{Followed, stop_code, stop_text};
 ghost use Rattle.up_following.specs.FollowTurns.{world};
 ghost use Rattle.up_lists.specs.Counts.{Rose, StaysUnless};
 ghost use Rattle.up_text.specs.Lines.{script_lines};

@@ -11,3 +11,4 @@ pub mod HandingLemmas
 pub mod OldTextLemmas
 pub mod PeerLemmas
 pub mod ShareLemmas
+pub mod CountLemmas

@@ -28,7 +28,8 @@ use Rattle.up_edits.specs.declared.routes.Route.{Route}
 use Rattle.up_edits.specs.declared.routes.Route.TheVariants.{Refused, Tree}
 use Rattle.up_commit.specs.Steps.{Steps, is_changed}
 use Rattle.up_laws.specs.Turns.{IsMade, added_in, answer_in, any_failed, fetch_failed, is_hindered, stops}
-use Rattle.up_laws.proofs.QuietLemmas.{asked_quiet, failed_adds_none, is_odd, leads_odd}
+use Rattle.up_dir.proofs.QuietLemmas.{is_odd, leads_odd, no_position}
+use Rattle.up_laws.proofs.QuietLemmas.{asked_quiet, failed_adds_none}
 
 -- ---- where the blocks of a request have to be fetched
 
@@ -93,30 +94,6 @@ led_no_io log (Ok rec) h k = go (nat_lt log.limits.largest (size_of rec)) (is_fu
     go true b k = absurd (cc)
     go false true k = absurd (cc)
     go false false k = absurd (cc)
-
-no_position : (given : Reply) → is_odd false given ≡ false → is_changed (bounded given) ≡ false
-no_position (reply.Ok d) h = go (nat_lt 67108864 (reply_size (reply.Ok d)))
-  where
-    go : (b : Bool) → is_changed (if b then reply.TooLarge (reply_size (reply.Ok d)) else reply.Ok d) ≡ false
-    go true = refl
-    go false = h
-no_position (reply.Invalid what) h = refl
-no_position reply.WrongHost h = refl
-no_position (reply.FollowLink entry) h = refl
-no_position reply.Private h = refl
-no_position (reply.Permission right) h = refl
-no_position reply.NotExist h = refl
-no_position reply.NotDir h = refl
-no_position reply.IsDir h = refl
-no_position reply.Exist h = refl
-no_position (reply.BadSequence n) h = refl
-no_position reply.NotEmpty h = refl
-no_position (reply.BadBlock reference) h = refl
-no_position (reply.BadText line) h = refl
-no_position (reply.TooLarge size) h = refl
-no_position (reply.Full n) h = refl
-no_position reply.Io h = refl
-no_position reply.OutOfMemory h = refl
 
 -- a position adds its record, and nothing else adds one
 led_adds : (log : Log) (led : Result Rec Reply) → leads_odd false led ≡ false → (if is_changed (answer_of log led) then added_by log led else []) ≡ added_by log led

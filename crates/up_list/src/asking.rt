@@ -13,6 +13,7 @@ use std::alloc::Global;
 use up_entry::{Checked, EntryFault, What, check_entry};
 use up_names::{Control, NameFault, Path, User, parse_path};
 use up_pattern::{Pattern, PatternFault, parse_pattern};
+use up_policy::owns_snapshots;
 use up_wire::Request;
 
 /// A request to a directory whose texts were read.
@@ -147,15 +148,5 @@ fn is_group(path: &Path) -> bool
     match path.control_kind() {
         Control::Group => true,
         Control::Access | Control::Ordinary => false,
-    }
-}
-
-/// Whether the tree of this owner is a snapshot tree.
-fn owns_snapshots(owner: &User) -> bool
-    ensures { result ≡ owns_snapshots owner.now }
-{
-    match owner.suffix() {
-        Some(suffix) => suffix == "snapshot",
-        None => false,
     }
 }

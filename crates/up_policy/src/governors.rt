@@ -9,7 +9,7 @@ use up_access::AccessText;
 use up_names::{Path, User};
 
 /// Whether the tree of this owner is a snapshot tree.
-pub(crate) fn owns_snapshots(owner: &User) -> bool
+pub fn owns_snapshots(owner: &User) -> bool
     ensures { result ≡ owns_snapshots owner.now }
 {
     match owner.suffix() {

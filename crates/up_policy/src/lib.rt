@@ -25,6 +25,7 @@ mod needed_groups;
 mod verdicts;
 
 pub use facts::Facts;
+pub use governors::owns_snapshots;
 pub use load_answer::LoadAnswer;
 pub use loaded::Loaded;
 pub use map_facts::MapFacts;

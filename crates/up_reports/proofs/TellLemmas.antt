@@ -56,7 +56,7 @@ only_4 : (n : ℕ) → IsOneOf (3 ∷ 4 ∷ 4 ∷ []) n → IsOneOf (3 ∷ 4 ∷
 only_4 n is = grind (arith)
 
 -- it is that of the answer, unless it is 3 or 4
-is_answer : (held held_now : Option Text) (answer : Answer) (status : ℕ) → AnswersOne held held_now answer status → is_cut_short status ≡ false → status ≡ answer.status
+pub is_answer : (held held_now : Option Text) (answer : Answer) (status : ℕ) → AnswersOne held held_now answer status → is_cut_short status ≡ false → status ≡ answer.status
 is_answer held held_now answer status one fine = (one.answers.whole fine).1
 
 pub refused_codes : (held held_now : Option Text) (refused : Refused) (status : ℕ) → AnswersOne held held_now (told_of refused) status → IsOneOf (3 ∷ 4 ∷ 6 ∷ 8 ∷ []) status

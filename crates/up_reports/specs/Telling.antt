@@ -1,4 +1,4 @@
--- What is printed of a log that does not open, and the status that goes with it: the same as `upspin serve` prints. This project's own.
+-- What is printed of a log that does not open, by a report and by `upspin serve`, and the status that goes with it. This project's own.
 -- A log is named by its place among the logs, from 0.
 use Rattle.std.specs.Prelude.{◌≡◌, ℕ, List, [], ◌∷◌, ◌++◌, codes, decimal, Option, Result, Ok, Err, IfOk}
 use Rattle.std.specs.declared.alloc.AllocError.{AllocError}

@@ -5,6 +5,7 @@ ghost use Rattle.up_reports.specs.Owners.{if_owner, owner_in};
 
 use std::alloc::{AllocError, Global};
 use up_names::{NameFault, User, parse_user};
+use up_policy::owns_snapshots;
 
 /// The owner that a text names, as it stands: a user who is no snapshot user. `None` exactly where it names none.
 pub fn owner_in(alloc: Global, text: &[u8]) -> Result<Option<User>, AllocError>
@@ -28,15 +29,5 @@ fn if_owner(user: User) -> Option<User>
         None
     } else {
         Some(user)
-    }
-}
-
-/// Whether a user is a snapshot user.
-pub fn owns_snapshots(user: &User) -> bool
-    ensures { result ≡ owns_snapshots user.now }
-{
-    match user.suffix() {
-        Some(suffix) => suffix == "snapshot",
-        None => false,
     }
 }

@@ -14,9 +14,9 @@ use up_refs::Reference;
 
 /// A line to be printed, and the status that goes with it.
 #[derive(Drop)]
-pub(crate) struct Last {
-    pub(crate) line: Vec<u8>,
-    pub(crate) status: Status,
+pub struct Last {
+    pub line: Vec<u8>,
+    pub status: Status,
 }
 
 /// Prints the line of a log that does not open, and answers the status with which a report ends then: 8 where a line was printed, 6 where
@@ -32,9 +32,9 @@ pub fn tell_refused<K: Sink>(alloc: Global, sink: &mut K, refused: Refused) -> u
     tell(sink, last)
 }
 
-// Prints a last line, and answers its status; or 3 where the sink failed, and 4 where there was no memory for the line.
+/// Prints a last line, and answers its status; or 3 where the sink failed, and 4 where there was no memory for the line.
 #[tactic(auto, using(crate::proofs::TellLemmas::tellings))]
-fn tell<K: Sink>(sink: &mut K, last: Result<Last, AllocError>) -> u8
+pub fn tell<K: Sink>(sink: &mut K, last: Result<Last, AllocError>) -> u8
     requires { IfOk last (λ last. code_of last.status ≡ 3 → ⊥) }
     ensures tells { TellsLast (K.held sink.old) (K.held sink.new) last result }
     ensures cause { result ≡ 3 → Rose (K.faults sink.old) (K.faults sink.new) }
@@ -63,8 +63,8 @@ fn refused_line(alloc: Global, which: u64, why: OpenWhy) -> Result<Last, AllocEr
     }
 }
 
-// Nothing is printed.
-fn silent(alloc: Global, status: Status) -> Last
+/// Nothing is printed, and this is the status.
+pub fn silent(alloc: Global, status: Status) -> Last
     ensures line { result.line.items ≡ [] }
     ensures status { result.status ≡ status }
 {
@@ -74,8 +74,8 @@ fn silent(alloc: Global, status: Status) -> Last
     }
 }
 
-// `damaged I P`
-fn damaged_line(alloc: Global, which: u64, place: u64) -> Result<Last, AllocError>
+/// `damaged I P`: the log at place I is damaged at byte P.
+pub fn damaged_line(alloc: Global, which: u64, place: u64) -> Result<Last, AllocError>
     ensures { IsLast result (damaged_at which place) }
 {
     let mut line = Vec::new(alloc);
@@ -122,8 +122,8 @@ fn old_line(alloc: Global, which: u64) -> Result<Last, AllocError>
     })
 }
 
-// Adds words and a number to a line.
-fn add_number(line: &mut Vec<u8>, words: &[u8], number: u64) -> Result<(), AllocError>
+/// Adds words and a number to a line.
+pub fn add_number(line: &mut Vec<u8>, words: &[u8], number: u64) -> Result<(), AllocError>
     ensures { OnOk result (line.new.items ≡ line.old.items ++ (words.now ++ decimal number)) }
 {
     let digits = number.to_string(*line.allocator())?;

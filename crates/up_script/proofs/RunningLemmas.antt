@@ -3,10 +3,8 @@ use Rattle.std.proofs.Common.{◌≡◌, ◌≤◌, ◌<◌, ◌-◌, ◌^◌, �
 use Rattle.std.proofs.lemmas.Grind.{flat_map-append}
 use Rattle.std.proofs.lemmas.List.Sums.{sum_by-append, sum_by-cons}
 use Rattle.std.specs.Io.KnownBytes.{Appends}
-use Rattle.std.specs.Prelude.{IsErrOf}
-use Rattle.up_lists.specs.Counts.{StaysUnless}
 use Rattle.up_ends.specs.Writing.{Going, WritesPart}
-use Rattle.up_ends.proofs.Going.{Going-all, Going-more, Going-none, WritesPart-all, WritesPart-none}
+use Rattle.up_ends.proofs.Going.{Going-none, WritesPart-all, WritesPart-none}
 use Rattle.up_lists.proofs.Causes.{Rose-after}
 use Rattle.up_lists.specs.Runs.{Run}
 use Rattle.up_lists.proofs.RunLemmas.{Run-snoc}
@@ -17,23 +15,16 @@ use Rattle.up_sessions.specs.Fitting.{IsFit}
 use Rattle.up_sessions.specs.Keeping.{AllStayIn}
 use Rattle.up_sessions.specs.Worlds.{Parties, World, faults_in, faults_of}
 use Rattle.up_script.specs.Facts.{Facts}
-use Rattle.up_script.specs.ScriptAnswers.{code_by}
 use Rattle.up_script.proofs.FactLemmas.{line_facts}
-use Rattle.up_script.specs.ScriptRuns.{Ends, LineDoes, Scripted, LineGathered, io_lines, is_cut, printed, stop_code, stop_text}
+use Rattle.up_script.specs.ScriptRuns.{Ends, LineDoes, Scripted, LineGathered, io_lines, printed, stop_code, stop_text}
 use Rattle.up_script.specs.Scripts.{LineResult, LineDid, LineCame, io_in, did_text}
-use Rattle.up_command.specs.Statuses.{code_of}
+use Rattle.up_command.proofs.GatherLemmas.{all-more, going-more, part-more}
+use Rattle.up_command.specs.Statuses.{code_by, code_of, is_cut}
 use Rattle.up_command.specs.declared.output.Stop.{Stop}
 use Rattle.up_command.specs.declared.output.Stop.TheVariants as out
 use Rattle.up_command.specs.declared.status.Status.{Status}
 use Rattle.up_script.specs.declared.stop.LineStop.{LineStop}
 use Rattle.up_script.specs.declared.stop.LineStop.TheVariants as stop
-
--- a write that did not fail left the count as it was
-not_both : {X : Type 0} {x : X} {e : Stop} → ◌≡◌ {A = Result X Stop} (Ok x) (Err e) → ⊥
-not_both both = absurd (cc)
-
-pub still_written : {X : Type 0} {x : X} (before mid now : ℕ) (result : Result X Stop) → result ≡ Ok x → StaysUnless mid now (IsErrOf result out.WriteFault) → mid ≡ before → now ≡ before
-still_written before mid now result was quiet same = quiet.stays (λ bad. not_both (sym was ∙ bad)) ∙ same
 
 module _ {D P V C N : Type 0} (who : Parties D P V C N) (limits : Limits) where
   -- Some first lines were done, and what they print was written, but for what is gathered.
@@ -75,23 +66,6 @@ module _ {D P V C N : Type 0} (who : Parties D P V C N) (limits : Limits) where
       let all = sum_by-append io_in dids (did ∷ []) in
       let one = sum_by-cons io_in did [] in
       omega (arith, all, one)
-
-  -- what was gathered, and a text behind it, are a part of the whole; this much of them is gathered still
-  going-more : (old mid now : Option Text) (gathered kept text all : Text) → Going old mid gathered all → Going mid now kept (gathered ++ text) → Going old now kept (all ++ text)
-  going-more old mid now gathered kept text all before more =
-      let regroup : more.front ++ kept ≡ gathered ++ text = more.whole in
-      let whole : before.front ++ (more.front ++ kept) ≡ all ++ text =
-      ap (λ xs. before.front ++ xs) regroup ∙ (sym (append_assoc before.front gathered text) ∙ ap (λ xs. xs ++ text) before.whole) in
-      let start : Going old mid (more.front ++ kept) (all ++ text) = record { front = before.front; written = before.written; whole = whole } in
-      Going-more more.front kept start more.written
-
-  part-more : (old mid now : Option Text) (gathered text all : Text) → Going old mid gathered all → WritesPart mid now (gathered ++ text) → WritesPart old now (all ++ text)
-  part-more old mid now gathered text all before part = (part.0, going-more old mid now gathered part.0 text all before part.1)
-
-  all-more : (old mid now : Option Text) (gathered text all : Text) → Going old mid gathered all → Appends mid now (gathered ++ text) → Appends old now (all ++ text)
-  all-more old mid now gathered text all before whole =
-      let done : Going mid now [] (gathered ++ text) = record { front = gathered ++ text; written = whole; whole = append-nil (gathered ++ text) } in
-      Going-all (going-more old mid now gathered [] text all before done)
 
   -- a line was done
   pub Running-more : (old mid now : Option Text) (gathered kept : Text) (a b c : World D P V C N) (lines : List Text) (line : Text) (more : List Text) (number : ℕ) (did : LineDid)

@@ -15,9 +15,9 @@ use Rattle.up_disk.specs.Leaving.{IsBlank}
 use Rattle.up_sessions.specs.Worlds.{Around, Hosts, Parties, World, faults_in}
 use Rattle.up_text.specs.Lines.{script_lines}
 use Rattle.up_script.specs.ScriptAnswers.{Means, among}
-use Rattle.up_script.specs.ScriptRuns.{Scripted, is_cut}
+use Rattle.up_script.specs.ScriptRuns.{Scripted}
 use Rattle.up_script.specs.Standing.{at_first}
-use Rattle.up_command.specs.Statuses.{IsOneOf}
+use Rattle.up_command.specs.Statuses.{IsOneOf, is_cut}
 use Rattle.up_script.proofs.FreeLemmas.{rest_free}
 use Rattle.up_script.proofs.RunningLemmas.{Running-none, Scripted-cut}
 

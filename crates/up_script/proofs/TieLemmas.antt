@@ -21,7 +21,8 @@ use Rattle.up_names.proofs.CutLemmas.{list_any-placed}
 use Rattle.up_names.specs.Texts.{Text, UserName}
 use Rattle.up_script.specs.ScriptAnswers.{Means, among}
 use Rattle.up_command.specs.Users.{has_user}
-use Rattle.up_script.specs.ScriptRuns.{Ends, LineDoes, Scripted, is_cut, printed}
+use Rattle.up_command.specs.Statuses.{is_cut}
+use Rattle.up_script.specs.ScriptRuns.{Ends, LineDoes, Scripted, printed}
 use Rattle.up_script.specs.Scripts.{AskCame, CallCame, CallDone, LineResult, LineDid, EnrolCame, HostCame, LineCame, OpenCame, SaysCame, result_of_get, place_of, result_of_put, result_of_reply}
 use Rattle.up_script.specs.Scripts as script
 use Rattle.up_script.specs.Standing.{at_first}

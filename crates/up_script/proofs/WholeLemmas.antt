@@ -3,7 +3,7 @@ use Rattle.std.proofs.Common.{◌≡◌, ◌⊎◌, ◌+◌, ℕ, zero, suc, fal
 use Rattle.std.specs.List.{sum_by}
 use Rattle.std.specs.Prelude.{◌<◌}
 use Rattle.std.specs.Io.KnownBytes.{Appends}
-use Rattle.up_command.specs.Statuses.{IsOneOf, input_limit}
+use Rattle.up_command.specs.Statuses.{IsOneOf, input_limit, is_cut}
 use Rattle.up_journal.specs.declared.limits.Limits.{Limits}
 use Rattle.up_lists.specs.Counts.{Rose}
 use Rattle.up_lists.specs.Runs.{Run}
@@ -12,7 +12,7 @@ use Rattle.up_sessions.specs.Worlds.{Around, Parties, World}
 use Rattle.up_text.specs.Lines.{script_lines}
 use Rattle.up_script.specs.ScriptAnswers.{Means, among}
 use Rattle.up_script.specs.ScriptEnds.{EndsAtFirst}
-use Rattle.up_script.specs.ScriptRuns.{Ends, LineDoes, is_cut, printed}
+use Rattle.up_script.specs.ScriptRuns.{Ends, LineDoes, printed}
 use Rattle.up_script.specs.Standing.{at_first}
 use Rattle.up_script.specs.WholeRuns.{EndsWhole, IsGoodScript, NoFault, RunsWhole}
 use Rattle.up_script.specs.declared.stop.LineStop.TheVariants as stop

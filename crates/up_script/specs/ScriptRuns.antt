@@ -1,5 +1,5 @@
 -- What a whole script means: from one world to another, what each line did there, what is printed, and how it ends. This project's own.
-use Rattle.std.specs.Prelude.{◌≡◌, ◌<◌, ◌-◌, ◌^◌, ◌≤◌, ◌⊎◌, ℕ, ◌+◌, ◌==◌, ◌||◌, Bool, false, List, [], ◌∷◌, ◌++◌, length, Option, Result}
+use Rattle.std.specs.Prelude.{◌≡◌, ◌<◌, ◌-◌, ◌^◌, ◌≤◌, ◌⊎◌, ℕ, ◌+◌, false, List, [], ◌∷◌, ◌++◌, length, Option, Result}
 use Rattle.std.specs.Prelude.{Ok, Err}
 use Rattle.std.specs.List.{AllByRecursion, flat_map, sum_by}
 use Rattle.std.specs.Io.KnownBytes.{Appends}
@@ -12,6 +12,7 @@ use Rattle.up_names.specs.Texts.{Text}
 use Rattle.up_sessions.specs.Keeping.{AllStayIn}
 use Rattle.up_sessions.specs.Worlds.{Parties, World, faults_in, faults_of}
 use Rattle.up_command.specs.Printed.{bad_line}
+use Rattle.up_command.specs.Statuses.{is_cut}
 use Rattle.up_script.specs.Scripts.{LineResult, LineDid, LineCame, io_in, did_text}
 use Rattle.up_script.specs.declared.stop.LineStop.{LineStop}
 use Rattle.up_script.specs.declared.stop.LineStop.TheVariants as stop
@@ -35,10 +36,6 @@ stop_code stop.OutOfMemory = 4
 abbrev pub stop_text : ℕ → LineStop → Text
 stop_text number stop.Malformed = bad_line number
 stop_text number why = []
-
--- a write fault or want of memory cut the text short
-abbrev pub is_cut : ℕ → Bool
-is_cut status = (status == 3) || (status == 4)
 
 module _ {D P V C N : Type 0} (who : Parties D P V C N) (limits : Limits) where
   -- a line did something, and did not end the run

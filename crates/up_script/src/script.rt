@@ -7,11 +7,11 @@ ghost use Rattle.up_ends.specs.Writing.{WritesPart};
 ghost use Rattle.up_sessions.specs.Fitting.{IsFit};
 ghost use Rattle.up_disk.specs.Leaving.{IsBlank};
 ghost use Rattle.up_text.specs.Lines.{script_lines};
-ghost use Rattle.up_script.specs.ScriptAnswers.{Means, code_by, is_script};
+ghost use Rattle.up_script.specs.ScriptAnswers.{Means, is_script};
 ghost use Rattle.up_script.specs.ScriptRuns.{Scripted, stop_code, stop_text};
 ghost use Rattle.up_script.specs.Standing.{AreHostLimits, around, parties, script_limits, world};
 ghost use Rattle.up_script.specs.WholeRuns.{EndsWhole, IsGoodScript, NoFault};
-ghost use Rattle.up_command.specs.Statuses.{IsOneOf, code_of, input_limit, usage_line};
+ghost use Rattle.up_command.specs.Statuses.{IsOneOf, code_by, code_of, input_limit, usage_line};
 
 use crate::stop::LineStop;
 use crate::turns::run_line;

@@ -6,6 +6,4 @@
 
 mod script_lines;
 
-pub use script_lines::{
-    NewHost, NewSession, NewUser, ScriptLine, owns_snapshots, script_line, session_named,
-};
+pub use script_lines::{NewHost, NewSession, NewUser, ScriptLine, script_line, session_named};

@@ -16,6 +16,7 @@ use up_bytes::Bytes;
 use up_command::{is, key_named, user_named, words_of};
 use up_lists::Items;
 use up_names::User;
+use up_policy::owns_snapshots;
 use up_sign::HostName;
 use up_text::{
     ClientLine, cut_word, is_request, is_silent, read_client_line, read_num, read_word, three_words,
@@ -312,16 +313,6 @@ fn are_plain(owners: &[User]) -> bool
     ensures { result ≡ list_all (λ owner. not (owns_snapshots owner)) owners.now }
 {
     owners.iter().all(|owner| !owns_snapshots(owner))
-}
-
-/// Whether a user is a snapshot user.
-pub fn owns_snapshots(owner: &User) -> bool
-    ensures { result ≡ owns_snapshots owner.now }
-{
-    match owner.suffix() {
-        Some(suffix) => suffix == "snapshot",
-        None => false,
-    }
 }
 
 /// Whether no user stands twice; it compares each with all behind it, so the list has to be short.

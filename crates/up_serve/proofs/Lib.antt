@@ -3,7 +3,6 @@ mod ReadLemmas
 mod DifferentLemmas
 mod EnrolLemmas
 mod TellLemmas
-mod CountLemmas
 mod OpenLemmas
 mod ServeLemmas
 mod MoveLemmas

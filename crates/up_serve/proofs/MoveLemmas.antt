@@ -7,9 +7,10 @@ use Rattle.up_journal.specs.declared.fault.MoveWhy.TheVariants as move
 use Rattle.up_journal.specs.declared.limits.Limits.{Limits}
 use Rattle.up_journal.specs.declared.moves.Moved.{Moved}
 use Rattle.up_names.specs.Texts.{Text}
-use Rattle.up_serve.proofs.TellLemmas.{is_answer}
+use Rattle.up_reports.proofs.TellLemmas.{is_answer}
+use Rattle.up_reports.specs.Telling.{AnswersOne}
 use Rattle.up_serve.specs.Moves.{IsMove, Moves}
-use Rattle.up_serve.specs.Telling.{AnswersOne, moved_by}
+use Rattle.up_serve.specs.Telling.{moved_by}
 
 -- ---- which statuses come
 

@@ -7,6 +7,7 @@ use Rattle.up_command.specs.Statuses.{IsOneOf, input_limit}
 use Rattle.up_disk.specs.Spare.{Spared}
 use Rattle.up_disk.specs.declared.disk.Disk.{Ghosts}
 use Rattle.up_ends.proofs.Going.{WritesPart-none}
+use Rattle.up_host.proofs.CountLemmas.{host_faults, opens_calm, opens_later, refuses_calm, refuses_counts}
 use Rattle.up_host.specs.Alone.{HostState, disk_faults}
 use Rattle.up_host.specs.Opens.{IsRefusedAs, OpensHost, OpensTrees, RefusesHost, WereOpened, disks_of, logs_of}
 use Rattle.up_calls.specs.Routes.{LogName}
@@ -22,11 +23,13 @@ use Rattle.up_journal.specs.declared.limits.Limits.{Limits}
 use Rattle.up_keys.specs.Records as keys
 use Rattle.up_lists.specs.Counts.{Rose, StaysUnless}
 use Rattle.up_names.specs.Texts.{Text, UserName}
-use Rattle.up_serve.proofs.CountLemmas.{host_faults, opens_calm, opens_later, refuses_calm, refuses_counts}
-use Rattle.up_serve.proofs.TellLemmas.{refused_codes, refused_six, stopped_codes, stopped_six}
+use Rattle.up_reports.proofs.TellLemmas.{refused_codes, refused_complete, refused_six}
+use Rattle.up_reports.specs.Telling.{AnswersOne, Stays, refused_by}
+use Rattle.up_reports.specs.declared.refused.Refused.{Refused}
+use Rattle.up_serve.proofs.TellLemmas.{stopped_codes, stopped_six}
 use Rattle.up_serve.specs.Enrolling.{EnrolsUsers, KeepsHost, enrolment, is_cut}
-use Rattle.up_serve.specs.Serving.{AreServed, HasCauses, IsInput, IsServed, Reads, Serves, Stays, disks_after, result_code}
-use Rattle.up_serve.specs.Telling.{AnswersOne, refused_by, stopped_by}
+use Rattle.up_serve.specs.Serving.{AreServed, HasCauses, IsInput, IsServed, Reads, Serves, disks_after, result_code}
+use Rattle.up_serve.specs.Telling.{stopped_by}
 use Rattle.up_serve.specs.declared.enrolling.EnrolStop.{EnrolStop}
 use Rattle.up_serve.specs.declared.enrolling.EnrolStop.TheVariants as stop
 use Rattle.up_serve.specs.declared.plan.ServePlan.{ServePlan}
@@ -59,6 +62,10 @@ from_stopped code one = grind (arith)
 apart : {X : Type 0} (value : X) (code : ℕ) → ◌≡◌ {A = Result X ℕ} (Ok value) (Err code) → ⊥
 apart value code bad = absurd (cc)
 
+-- the log at this place was refused for this
+abbrev refusal : ℕ → OpenWhy → Refused
+refusal which reason = record { which = which; why = reason }
+
 -- ---- what the status says of source and sink
 
 module _ (given given_now read read_now wrote wrote_now : ℕ) (left : Option Text) where
@@ -66,7 +73,7 @@ module _ (given given_now read read_now wrote wrote_now : ℕ) (left : Option Te
   pub causes_refused : (held held_now : Option Text) (which : ℕ) (reason : OpenWhy) (status : ℕ) → AnswersOne held held_now (refused_by which reason) status → given_now ≡ given → read_now ≡ read → (status ≡ 3 → Rose wrote wrote_now) → wrote ≤ wrote_now
       → HasCauses status given given_now read read_now wrote wrote_now left
   causes_refused held held_now which reason status one same_given same_read cause later =
-      let code = refused_codes held held_now which reason status one in
+      let code = refused_codes held held_now (refusal which reason) status one in
       record {
         read_fault = λ is. absurd (two status code is);
         write_fault = cause;
@@ -147,7 +154,7 @@ module _ {D : Type 0} (disks : Ghosts D) (limits : Limits) (plan : ServePlan) (g
 
   pub statuses : (result : Result (HostState D) (ServeFault D)) → Serves disks limits plan given unasked left held held_now result → IfErr result (λ fault. IsOneOf (2 ∷ 3 ∷ 4 ∷ 6 ∷ 7 ∷ 8 ∷ 10 ∷ 12 ∷ []) fault.status)
   statuses (Ok host) serves = tt
-  statuses (Err fault) (Serves.refused {fault = log} refuses back quiet one) = from_refused fault.status (refused_codes held held_now log.which log.why fault.status one)
+  statuses (Err fault) (Serves.refused {fault = log} refuses back quiet one) = from_refused fault.status (refused_codes held held_now (refusal log.which log.why) fault.status one)
   statuses (Err fault) (Serves.unread opens back code same) = from_unread fault.status code
   statuses (Err fault) (Serves.stopped {why = reason} opens input users back one) = from_stopped fault.status (stopped_codes held held_now reason fault.status one)
 
@@ -177,7 +184,7 @@ module _ {D : Type 0} (disks : Ghosts D) (limits : Limits) (plan : ServePlan) (g
   pub rose : (result : Result (HostState D) (ServeFault D)) → Serves disks limits plan given unasked left held held_now result → result_code result ≡ 6 → Rose (sum_by disks.faults given) (sum_by disks.faults (disks_after result))
   rose (Ok after) serves six below = absurd (let bad : 0 ≡ 6 = six in cc)
   rose (Err fault) (Serves.refused {fault = log} refuses back quiet one) six below =
-      let rises = (refuses_counts disks limits plan.trees given log refuses).1 (refused_six held held_now log.which log.why fault.status one six) below in
+      let rises = (refuses_counts disks limits plan.trees given log refuses).1 (refused_six held held_now (refusal log.which log.why) fault.status one six) below in
       let same = ap (sum_by disks.faults) back in
       omega (arith, rises, same)
   rose (Err fault) (Serves.unread opens back code same) six below = absurd (not_unread fault.status code six)
@@ -287,17 +294,10 @@ module _ {D : Type 0} (disks : Ghosts D) (limits : Limits) (plan : ServePlan) (g
   went_on : (text : Text) (host after : HostState D) (reason : EnrolStop) → (enrolment host.keys.state.limits host.keys.state.log text).stop ≡ None → EnrolsUsers disks text host after (Err reason) → is_cut (Err reason) ≡ false → ⊥
   went_on text host after reason none users fine = let bad : Some reason ≡ None = sym (ap (λ e. e.stop) (users.exact fine)) ∙ none in absurd (cc)
 
-  by_refusal : (held held_now : Option Text) (which : ℕ) (reason : OpenWhy) (status : ℕ) → AnswersOne held held_now (refused_by which reason) status → ((damaged : Damage) → reason ≡ why_of damaged → ⊥) → (status ≡ 3 → ⊥) → (status ≡ 6 → ⊥) → IsOneOf (0 ∷ 4 ∷ []) status
-  by_refusal held held_now which (why.Damaged gate) status one well write disk = absurd (well (damage.Damaged gate) refl)
-  by_refusal held held_now which (why.Chain gate wanted got) status one well write disk = absurd (well (damage.Chain gate wanted got) refl)
-  by_refusal held held_now which why.OldFormat status one well write disk = absurd (well damage.OldFormat refl)
-  by_refusal held held_now which why.Fault status one well write disk = six status one.one write disk
-  by_refusal held held_now which why.OutOfMemory status one well write disk = four status one.one write disk
-
   pub complete : (text : Text) (result : Result (HostState D) (ServeFault D)) → Serves disks limits plan given unasked left held held_now result → left ≡ Some text → AreServed disks limits text (logs_of plan.trees) given
       → (result_code result ≡ 2 → ⊥) → (result_code result ≡ 3 → ⊥) → (result_code result ≡ 6 → ⊥) → (result_code result ≡ 7 → ⊥) → IsOneOf (0 ∷ 4 ∷ []) (result_code result)
   complete text (Ok host) serves told served read write disk long = refl
-  complete text (Err fault) (Serves.refused {fault = log} refuses back quiet one) told served read write disk long = by_refusal held held_now log.which log.why fault.status one (opens_well text log served refuses) write disk
+  complete text (Err fault) (Serves.refused {fault = log} refuses back quiet one) told served read write disk long = refused_complete held held_now (refusal log.which log.why) fault.status one (opens_well text log served refuses) write disk
   complete text (Err fault) (Serves.unread opens back code same) told served read write disk long = unread_four fault.status code read long
   complete text (Err fault) (Serves.stopped {host = host} {after = after} {text = seen} {why = reason} opens input users back one) told served read write disk long =
       let same : seen ≡ text = subst (λ l. IfSome l (λ bytes. seen ≡ bytes)) told input.told in

@@ -15,7 +15,8 @@ use Rattle.up_journal.specs.declared.moves.Moved.{Moved}
 use Rattle.up_journal.specs.declared.moves.Moved.TheVariants as moved
 use Rattle.up_lists.specs.Counts.{StaysUnless}
 use Rattle.up_names.specs.Texts.{Text}
-use Rattle.up_serve.specs.Telling.{AnswersOne, moved_by}
+use Rattle.up_reports.specs.Telling.{AnswersOne}
+use Rattle.up_serve.specs.Telling.{moved_by}
 
 -- What a move of a log came to: the new disk has one already; or so many records were copied; or the old one is damaged at a place; or so
 -- many of its records keep the limits, and more are there; each exactly where it is so. A fault comes only where a disk's count rose, and

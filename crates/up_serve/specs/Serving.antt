@@ -13,8 +13,9 @@ use Rattle.up_journal.specs.declared.limits.Limits.{Limits}
 use Rattle.up_keys.specs.Records as keys
 use Rattle.up_lists.specs.Counts.{Rose}
 use Rattle.up_names.specs.Texts.{Text}
+use Rattle.up_reports.specs.Telling.{AnswersOne, refused_by}
 use Rattle.up_serve.specs.Enrolling.{EnrolsUsers, enrolment}
-use Rattle.up_serve.specs.Telling.{AnswersOne, refused_by, stopped_by}
+use Rattle.up_serve.specs.Telling.{stopped_by}
 use Rattle.up_serve.specs.declared.enrolling.EnrolStop.{EnrolStop}
 use Rattle.up_serve.specs.declared.plan.ServePlan.{ServePlan}
 use Rattle.up_serve.specs.declared.serve.ServeFault.{ServeFault}
@@ -103,7 +104,3 @@ module _ {D : Type 0} (disks : Ghosts D) (limits : Limits) (text : Text) where
   AreServed (log ∷ logs) (disk ∷ more) = IsServed log disk × AreServed logs more
   AreServed [] (disk ∷ more) = ⊥
   AreServed (log ∷ logs) [] = ⊥
-
--- a count did not rise
-abbrev pub Stays : ℕ → ℕ → Type 0
-Stays before now = Rose before now → ⊥

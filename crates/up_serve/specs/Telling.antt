@@ -1,47 +1,14 @@
--- What is printed where a server does not listen or a log is not moved, and the status that goes with it. This project's own. A log
--- is named by its place among the logs of the server, from 0: those of the trees in their order, that of the store, that of the keys.
-use Rattle.std.specs.Prelude.{◌≡◌, ℕ, List, [], ◌∷◌, ◌++◌, codes, decimal, Option, Result, Ok, Err, IfOk}
-use Rattle.std.specs.declared.alloc.AllocError.{AllocError}
+-- What is printed where enrolling stops or a log is not moved, and the status that goes with it; what is printed of a log that does not
+-- open stands in `up_reports`. This project's own. A log is named by its place among the logs of the server, from 0: those of the trees
+-- in their order, that of the store, that of the keys.
+use Rattle.std.specs.Prelude.{ℕ, ◌++◌, codes, decimal}
 use Rattle.up_command.specs.Printed.{bad_line, ended}
-use Rattle.up_command.specs.Statuses.{Answer, AnswersWith, IsOneOf, code_of}
+use Rattle.up_command.specs.Statuses.{Answer}
 use Rattle.up_journal.specs.declared.fault.MoveWhy.{MoveWhy}
 use Rattle.up_journal.specs.declared.fault.MoveWhy.TheVariants as move
-use Rattle.up_journal.specs.declared.fault.OpenWhy.{OpenWhy}
-use Rattle.up_journal.specs.declared.fault.OpenWhy.TheVariants as why
-use Rattle.up_names.specs.Texts.{Text}
-use Rattle.up_refs.specs.References.{text_of}
+use Rattle.up_reports.specs.Telling.{damaged_at, nothing_with}
 use Rattle.up_serve.specs.declared.enrolling.EnrolStop.{EnrolStop}
 use Rattle.up_serve.specs.declared.enrolling.EnrolStop.TheVariants as stop
-use Rattle.up_serve.specs.declared.telling.Last.{Last}
-
--- nothing is printed, and this is the status
-abbrev pub nothing_with : ℕ → Answer
-nothing_with status = record { text = []; status = status }
-
--- `damaged I P`: the log at place I is damaged at byte P
-abbrev pub damaged_at : ℕ → ℕ → Answer
-damaged_at which place = record { text = ended (codes "damaged " ++ decimal which ++ codes " " ++ decimal place); status = 8 }
-
--- `chain I P WANTED GOT`: in the log at place I the record at byte P has to carry the first digest, and carries the second
-abbrev pub chain_at : ℕ → ℕ → List ℕ → List ℕ → Answer
-chain_at which gate wanted got =
-    record {
-      text = ended
-          (codes "chain " ++ decimal which ++ codes " " ++ decimal gate ++ codes " " ++ text_of wanted ++ codes " " ++ text_of got);
-      status = 8;
-    }
-
--- `oldformat I`: the log at place I is one of the first format
-abbrev pub old_format_at : ℕ → Answer
-old_format_at which = record { text = ended (codes "oldformat " ++ decimal which); status = 8 }
-
--- what is printed of a log that does not open
-abbrev pub refused_by : ℕ → OpenWhy → Answer
-refused_by which (why.Damaged gate) = damaged_at which gate
-refused_by which (why.Chain gate wanted got) = chain_at which gate wanted got
-refused_by which why.OldFormat = old_format_at which
-refused_by which why.Fault = nothing_with 6
-refused_by which why.OutOfMemory = nothing_with 4
 
 -- `enrol full N`: the log of keys has N records and takes no more
 abbrev pub full_with : ℕ → Answer
@@ -64,19 +31,3 @@ moved_by which (move.Old place) = damaged_at which place
 moved_by which (move.Full records) = full_log_at which records
 moved_by which move.Fault = nothing_with 6
 moved_by which move.OutOfMemory = nothing_with 4
-
--- An answer was printed, and this is its status; or 3, and a front of it was printed; or 4, for want of memory.
-pub record AnswersOne (held held_now : Option Text) (answer : Answer) (status : ℕ) : Type 0 where
-  pub one : IsOneOf (3 ∷ 4 ∷ answer.status ∷ []) status
-  pub answers : AnswersWith held held_now answer status
-
--- ---- on the way
-
--- what is to be printed is that answer, or there was no memory to make it
-abbrev pub IsLast : Result Last AllocError → Answer → Type 0
-IsLast result answer = IfOk result (λ last. (last.line.items ≡ answer.text) × (code_of last.status ≡ answer.status))
-
--- The answer was printed as it was made; nothing was, where there was no memory to make it.
-abbrev pub TellsLast : Option Text → Option Text → Result Last AllocError → ℕ → Type 0
-TellsLast old new (Ok last) status = AnswersOne old new (record { text = last.line.items; status = code_of last.status }) status
-TellsLast old new (Err e) status = (status ≡ 4) × (new ≡ old)

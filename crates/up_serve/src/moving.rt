@@ -4,14 +4,16 @@ ghost use Rattle.up_command.specs.Statuses.{IsOneOf};
 ghost use Rattle.up_journal.specs.Journal.{AreLimits};
 ghost use Rattle.up_journal.specs.declared.fault.MoveWhy.TheVariants as move_why;
 ghost use Rattle.up_lists.specs.Counts.{Rose, StaysUnless};
+ghost use Rattle.up_reports.specs.Telling.{AnswersOne};
 ghost use Rattle.up_serve.specs.Moves.{Moves};
-ghost use Rattle.up_serve.specs.Telling.{AnswersOne, moved_by};
+ghost use Rattle.up_serve.specs.Telling.{moved_by};
 
-use crate::telling::{tell, unmoved_line};
+use crate::telling::unmoved_line;
 use std::alloc::Global;
 use up_disk::Disk;
 use up_ends::Sink;
 use up_journal::{Limits, MoveWhy, Moved, migrate};
+use up_reports::tell;
 
 /// Moves the log of a disk of the first format to a new disk, which is to be opened from then on, and is left alone where it begins with
 /// the name of the second format. The log is that at place `which` of a server's logs, from 0.

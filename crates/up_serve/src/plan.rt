@@ -15,6 +15,7 @@ use up_command::are_different;
 use up_entry::is_address;
 use up_lists::Items;
 use up_names::{NameFault, User, parse_user};
+use up_policy::owns_snapshots;
 use up_sign::HostName;
 use up_text::read_num;
 
@@ -260,15 +261,6 @@ fn are_plain(owners: &[User]) -> bool
     ensures { result ≡ list_all (λ owner. not (owns_snapshots owner)) owners.now }
 {
     owners.iter().all(|owner| !owns_snapshots(owner))
-}
-
-fn owns_snapshots(owner: &User) -> bool
-    ensures { result ≡ owns_snapshots owner.now }
-{
-    match owner.suffix() {
-        Some(suffix) => suffix == "snapshot",
-        None => false,
-    }
 }
 
 // The peers.

@@ -6,13 +6,14 @@ ghost use Rattle.up_command.specs.Statuses.{IsOneOf, input_limit, usage_line};
 ghost use Rattle.up_ends.specs.Writing.{WritesPart};
 ghost use Rattle.up_host.specs.Opens.{OpensHost, RefusesHost, disks_of, logs_of};
 ghost use Rattle.up_lists.specs.Counts.{Rose, StaysUnless};
+ghost use Rattle.up_reports.specs.Telling.{AnswersOne, Stays, refused_by};
 ghost use Rattle.up_serve.specs.Plans.{IsPlan, plan_of};
-ghost use Rattle.up_serve.specs.Serving.{AreServeLimits, AreServed, HasCauses, Serves, Stays, disks_after, result_code, serve_limits};
-ghost use Rattle.up_serve.specs.Telling.{AnswersOne, refused_by, stopped_by};
+ghost use Rattle.up_serve.specs.Serving.{AreServeLimits, AreServed, HasCauses, Serves, disks_after, result_code, serve_limits};
+ghost use Rattle.up_serve.specs.Telling.{stopped_by};
 
 use crate::enrolling::{EnrolStop, enrol_users};
 use crate::plan::{ServePlan, serve_words};
-use crate::telling::{refused_line, stopped_line, tell};
+use crate::telling::stopped_line;
 use std::alloc::Global;
 use std::hash::RandomState;
 use up_command::{Status, read_script, usage};
@@ -20,6 +21,7 @@ use up_disk::{Disk, Disks};
 use up_ends::{Sink, Source};
 use up_host::{Host, HostFault};
 use up_journal::{Limits, OpenWhy};
+use up_reports::{Refused, tell, tell_refused};
 use up_sign::HostName;
 
 /// The limits of a server's trees and keys.
@@ -236,7 +238,6 @@ fn open_host<D: Disk + Drop>(
 }
 
 // Prints what is wrong with the log that was refused, and hands all disks back.
-#[tactic(auto, using(crate::proofs::TellLemmas::tellings))]
 fn refuse<D: Disk + Drop, K: Sink>(
     alloc: Global,
     sink: &mut K,
@@ -250,8 +251,7 @@ fn refuse<D: Disk + Drop, K: Sink>(
     ensures quiet { StaysUnless (K.faults sink.old) (K.faults sink.new) (result.status ≡ 3) }
 {
     let HostFault { disks, which, why } = fault;
-    let last = refused_line(alloc, which, why);
-    let status = tell(sink, last);
+    let status = tell_refused(alloc, sink, Refused { which, why });
     ServeFault { status, disks }
 }
 

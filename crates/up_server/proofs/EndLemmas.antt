@@ -1,10 +1,10 @@
 -- With which statuses the parts of a server end, and what that says of the sink's count.
-use Rattle.std.proofs.Common.{◌≡◌, ◌∙◌, ℕ, [], ◌∷◌, Option, Some, None, Result, Ok, Err, is_some, true, refl, sym, ap, subst, arith}
+use Rattle.std.proofs.Common.{◌≡◌, ◌∙◌, ℕ, [], ◌∷◌, Option, Some, None, Result, Ok, is_some, true, sym, ap, arith}
 use Rattle.up_command.specs.Statuses.{IsOneOf, code_of}
 use Rattle.up_command.specs.declared.status.Status.{Status}
 use Rattle.up_command.specs.declared.status.Status.TheVariants.{ListenFault}
 use Rattle.up_lists.specs.Counts.{StaysUnless}
-use Rattle.up_server.specs.Endings.{ended_with, stopped_with}
+use Rattle.up_server.specs.Endings.{ended_with}
 
 -- ---- the statuses of a part are among those of the whole
 
@@ -70,26 +70,6 @@ not_three bad = grind (arith)
 pub went_on : {X : Type 0} {x : X} (before mid now : ℕ) (result : Result X ℕ) → result ≡ Ok x
     → StaysUnless mid now (ended_with result ≡ 3) → mid ≡ before → now ≡ before
 went_on before mid now result was quiet same = quiet.stays (λ bad. not_three (sym (ap ended_with was) ∙ bad)) ∙ same
-
--- whatever the status is of what came after it
-pub went_on_to : {X : Type 0} {x : X} (before now : ℕ) (result : Result X ℕ) (fault : Type 0) → result ≡ Ok x
-    → StaysUnless before now (ended_with result ≡ 3) → StaysUnless before now fault
-went_on_to before now result fault was quiet = record { stays = λ other. went_on before before now result was quiet refl }
-
-pub listened : {X : Type 0} {x : X} (before now : ℕ) (result : Result X Status) (fault : Type 0) → result ≡ Ok x
-    → StaysUnless before now (stopped_with result ≡ 3) → StaysUnless before now fault
-listened before now result fault was quiet =
-    record { stays = λ other. quiet.stays (λ bad. not_three (sym (ap stopped_with was) ∙ bad)) }
-
--- the status is handed on
-pub handed_on : (before now m n : ℕ) → m ≡ n → StaysUnless before now (m ≡ 3) → StaysUnless before now (n ≡ 3)
-handed_on before now m n same quiet = record { stays = λ other. quiet.stays (λ three. other (sym same ∙ three)) }
-
--- one part after another that went on
-pub then_ended : {X : Type 0} {x : X} (before mid now n : ℕ) (result : Result X ℕ) → result ≡ Ok x
-    → StaysUnless before mid (ended_with result ≡ 3) → StaysUnless mid now (n ≡ 3) → StaysUnless before now (n ≡ 3)
-then_ended before mid now n result was one two =
-    record { stays = λ other. two.stays other ∙ went_on before before mid result was one refl }
 
 pub ruleset ends = (
   usage_codes,

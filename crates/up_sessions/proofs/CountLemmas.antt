@@ -1,22 +1,18 @@
 -- How the counts of disks and peers rise over each kind of line.
-use Rattle.std.proofs.Common.{◌≡◌, ◌≤◌, ◌<◌, ◌+◌, ◌-◌, ◌^◌, ℕ, ℤ, zero, suc, List, [], ◌∷◌, Option, Some, None, Result, Ok, Err, inl, inr, refl, sym, ap, subst, ◌∙◌, arith}
+use Rattle.std.proofs.Common.{◌≡◌, ◌≤◌, ◌+◌, ℕ, ℤ, zero, suc, List, [], ◌∷◌, Option, Some, None, Result, Ok, Err, refl, ap, ◌∙◌, arith}
 use Rattle.std.proofs.lemmas.List.Sums.{sum_by-append, sum_by-cons}
 use Rattle.std.specs.List.{sum_by}
 use Rattle.std.specs.Prelude.{slice_get}
 use Rattle.std.specs.Prelude as std
 use Rattle.up_client.specs.declared.fault.ClientFault.{ClientFault}
 use Rattle.up_disk.specs.declared.disk.Disk.{Ghosts}
-use Rattle.up_lists.specs.Counts.{HasCause, Rose}
+use Rattle.up_lists.specs.Counts.{Rose}
+use Rattle.up_host.proofs.CountLemmas.{opens_later, refuses_counts}
 use Rattle.up_host.specs.Alone.{HostState, disk_faults, io_of}
-use Rattle.up_host.specs.Opens.{IsRefusedAs, OpensHost, OpensTrees, RefusesHost, WasOpenedAs, WereOpened}
-use Rattle.up_host.specs.Routes.{LogName, Question}
+use Rattle.up_host.specs.Routes.{Question}
 use Rattle.up_calls.specs.declared.event.Event.{Event}
-use Rattle.up_host.specs.declared.fault.HostFault.{HostFault}
-use Rattle.up_host.specs.declared.held.Held.{Held}
 use Rattle.up_journal.specs.declared.fault.AppendWhy.{AppendWhy}
 use Rattle.up_journal.specs.declared.fault.AppendWhy.TheVariants as append
-use Rattle.up_journal.specs.declared.fault.OpenFault.{OpenFault}
-use Rattle.up_journal.specs.declared.fault.OpenWhy.TheVariants as reason
 use Rattle.up_journal.specs.declared.limits.Limits.{Limits}
 use Rattle.up_names.specs.PathNames.{PathName}
 use Rattle.up_names.specs.Texts.{UserName}
@@ -30,7 +26,6 @@ use Rattle.up_sessions.specs.Talking.{TalksAt, io_in}
 use Rattle.up_sessions.specs.Worlds.{AtHost, Hosts, Parties, RosePerIo, World, faults_in, faults_of}
 use Rattle.up_sessions.specs.declared.fault.LineFault.{LineFault}
 use Rattle.up_sessions.specs.declared.fault.LineFault.TheVariants as line
-use Rattle.up_tree.specs.States as tree
 use Rattle.up_client.specs.Getting.{get_talk}
 use Rattle.up_client.specs.Putting.{put_talk}
 use Rattle.up_client.specs.Talks.{Talking}
@@ -45,88 +40,17 @@ one_of f (y ∷ xs) zero x is = let same : f y ≡ f x = ap f (let e : y ≡ x =
 one_of f (y ∷ xs) (suc i) x is = let rest = one_of f xs i x is in let c = sum_by-cons f y xs in omega (arith, rest, c)
 
 module _ {D : Type 0} (disks : Ghosts D) (limits : Limits) where
-  -- ---- disks that are opened
-
-  trees_later : (owners : List UserName) (used : List D) (trees : List (Held (tree.State D))) → OpensTrees disks limits owners used trees
-      → sum_by disks.faults used ≤ sum_by (λ (held : Held (tree.State D)). disks.faults held.state.disk) trees
-  trees_later [] [] [] all = omega arith
-  trees_later (o ∷ os) (d ∷ ds) (h ∷ hs) all =
-      let one = all.0.log.counts.later in
-      let rest = trees_later os ds hs all.1 in
-      let a = sum_by-cons disks.faults d ds in
-      let b = sum_by-cons (λ (held : Held (tree.State D)). disks.faults held.state.disk) h hs in
-      omega (arith, one, rest, a, b)
-  trees_later [] [] (h ∷ hs) all = absurd all
-  trees_later [] (d ∷ ds) [] all = absurd all
-  trees_later [] (d ∷ ds) (h ∷ hs) all = absurd all
-  trees_later (o ∷ os) [] [] all = absurd all
-  trees_later (o ∷ os) [] (h ∷ hs) all = absurd all
-  trees_later (o ∷ os) (d ∷ ds) [] all = absurd all
-
-  opens_later : (name : List ℕ) (operator : UserName) (owners : List UserName) (given : List D) (host : HostState D) → OpensHost disks limits name operator owners given host
-      → sum_by disks.faults given ≤ disk_faults disks host
-  opens_later name operator owners given host opens =
-      let logs = opens.logs in
-      let trees = trees_later owners logs.of_trees host.trees logs.trees_are in
-      let store = logs.store_is.log.counts.later in
-      let key_log = logs.keys_are.log.counts.later in
-      let whole = ap (sum_by disks.faults) logs.given_is ∙ sum_by-append disks.faults logs.of_trees (logs.of_store ∷ logs.of_keys ∷ []) in
-      let two = sum_by-cons disks.faults logs.of_store (logs.of_keys ∷ []) in
-      let one = sum_by-cons disks.faults logs.of_keys [] in
-      omega (arith, trees, store, key_log, whole, two, one)
-
-  pub was_later : (log : LogName) (disk after : D) → WasOpenedAs disks limits log disk after → disks.faults disk ≤ disks.faults after
-  was_later (LogName.OfTree owner) disk after was = subst (λ d. disks.faults disk ≤ disks.faults d) was.disk_is was.opened.counts.later
-  was_later LogName.OfStore disk after was = subst (λ d. disks.faults disk ≤ disks.faults d) was.disk_is was.opened.counts.later
-  was_later LogName.OfKeys disk after was = subst (λ d. disks.faults disk ≤ disks.faults d) was.disk_is was.opened.counts.later
-
-  were_later : (logs : List LogName) (used opened : List D) → WereOpened disks limits logs used opened → sum_by disks.faults used ≤ sum_by disks.faults opened
-  were_later [] [] [] all = omega arith
-  were_later (l ∷ ls) (d ∷ ds) (o ∷ os) all =
-      let one = was_later l d o all.0 in
-      let rest = were_later ls ds os all.1 in
-      let a = sum_by-cons disks.faults d ds in
-      let b = sum_by-cons disks.faults o os in
-      omega (arith, one, rest, a, b)
-  were_later [] [] (o ∷ os) all = absurd all
-  were_later [] (d ∷ ds) [] all = absurd all
-  were_later [] (d ∷ ds) (o ∷ os) all = absurd all
-  were_later (l ∷ ls) [] [] all = absurd all
-  were_later (l ∷ ls) [] (o ∷ os) all = absurd all
-  were_later (l ∷ ls) (d ∷ ds) [] all = absurd all
-
-  refused_counts : (log : LogName) (disk : D) (fault : OpenFault D) → IsRefusedAs disks limits log disk fault → HasCause (disks.faults disk) (disks.faults fault.disk) (fault.why ≡ reason.Fault)
-  refused_counts (LogName.OfTree owner) disk fault refused = refused.counts
-  refused_counts LogName.OfStore disk fault refused = refused.counts
-  refused_counts LogName.OfKeys disk fault refused = refused.counts
-
-  -- disks that are handed back: the sum never falls, and rose for a fault
-  refuses_counts : (owners : List UserName) (given : List D) (fault : HostFault D) → RefusesHost disks limits owners given fault
-      → (sum_by disks.faults given ≤ sum_by disks.faults fault.disks.disks) × (fault.why ≡ reason.Fault → sum_by disks.faults given < 2 ^ 64 - 1 → sum_by disks.faults given < sum_by disks.faults fault.disks.disks)
-  refuses_counts owners given fault (inl none) =
-      let same = ap (sum_by disks.faults) none.handed in
-      (omega (arith, same), λ is. absurd (let e : reason.OutOfMemory ≡ reason.Fault = sym none.why_is ∙ is in cc))
-  refuses_counts owners given fault (inr one) =
-      let counts = refused_counts one.log one.disk one.refused one.was_refused in
-      let later = counts.later in
-      let were = were_later one.before one.used one.opened one.were_opened in
-      let a = ap (sum_by disks.faults) one.given_is ∙ sum_by-append disks.faults one.used (one.disk ∷ one.rest) in
-      let b = sum_by-cons disks.faults one.disk one.rest in
-      let c = ap (sum_by disks.faults) one.handed ∙ sum_by-append disks.faults one.opened (one.refused.disk ∷ one.rest) in
-      let d = sum_by-cons disks.faults one.refused.disk one.rest in
-      (omega (arith, later, were, a, b, c, d), λ is below. let rose = counts.rose (sym one.why_is ∙ is) (omega (arith, a, b, below)) in omega (arith, rose, were, a, b, c, d))
-
   -- ---- a host is opened or refused
 
   pub next_later : (name : List ℕ) (operator : UserName) (owners : List UserName) (a b : Hosts D) (result : Result (Unit {0}) LineFault) → OpensNext disks limits name operator owners a result b → faults_in disks a ≤ faults_in disks b
   next_later name operator owners a b (Ok done) adds =
-      let opened = opens_later name operator owners adds.given adds.host adds.opens in
+      let opened = opens_later disks limits name operator owners adds.given adds.host adds.opens in
       let free = ap (sum_by disks.faults) adds.free_is ∙ sum_by-append disks.faults adds.given b.free in
       let more = ap (sum_by (disk_faults disks)) adds.hosts_are ∙ sum_by-append (disk_faults disks) a.hosts (adds.host ∷ []) in
       let one = sum_by-cons (disk_faults disks) adds.host [] in
       omega (arith, opened, free, more, one)
   next_later name operator owners a b (Err why) refuses =
-      let back = (refuses_counts owners refuses.given refuses.refused refuses.refuses).0 in
+      let back = (refuses_counts disks limits owners refuses.given refuses.refused refuses.refuses).0 in
       let free = ap (sum_by disks.faults) refuses.free_is ∙ sum_by-append disks.faults refuses.given refuses.rest in
       let after = ap (λ (h : Hosts D). sum_by disks.faults h.free) refuses.whole ∙ sum_by-append disks.faults refuses.refused.disks.disks refuses.rest in
       let same = ap (λ (h : Hosts D). sum_by (disk_faults disks) h.hosts) refuses.whole in
@@ -135,7 +59,7 @@ module _ {D : Type 0} (disks : Ghosts D) (limits : Limits) where
   pub next_rose : (name : List ℕ) (operator : UserName) (owners : List UserName) (a b : Hosts D) → OpensNext disks limits name operator owners a (Err line.Fault) b → Rose (faults_in disks a) (faults_in disks b)
   next_rose name operator owners a b refuses below =
       let free = ap (sum_by disks.faults) refuses.free_is ∙ sum_by-append disks.faults refuses.given refuses.rest in
-      let rose = (refuses_counts owners refuses.given refuses.refused refuses.refuses).1 refuses.why_is (omega (arith, free, below)) in
+      let rose = (refuses_counts disks limits owners refuses.given refuses.refused refuses.refuses).1 refuses.why_is (omega (arith, free, below)) in
       let after = ap (λ (h : Hosts D). sum_by disks.faults h.free) refuses.whole ∙ sum_by-append disks.faults refuses.refused.disks.disks refuses.rest in
       let same = ap (λ (h : Hosts D). sum_by (disk_faults disks) h.hosts) refuses.whole in
       omega (arith, rose, free, after, same)

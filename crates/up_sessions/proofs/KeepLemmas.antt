@@ -24,7 +24,7 @@ use Rattle.up_journal.specs.declared.fault.OpenFault.{OpenFault}
 use Rattle.up_journal.specs.declared.limits.Limits.{Limits}
 use Rattle.up_names.specs.PathNames.{PathName}
 use Rattle.up_names.specs.Texts.{UserName}
-use Rattle.up_sessions.proofs.CountLemmas.{was_later}
+use Rattle.up_host.proofs.CountLemmas.{was_later}
 use Rattle.up_sessions.proofs.KeptLemmas.{as_many}
 use Rattle.up_sessions.specs.Keeping.{AllStayIn, Place, StaysIn, all_places, place_of, place_of_tree, places_of}
 use Rattle.up_sessions.specs.Lines.{EnrolLine, GetLine, HostLine, OpenLine, PutLine, RequestLine}

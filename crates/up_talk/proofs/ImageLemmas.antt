@@ -1,4 +1,4 @@
--- The same connection, seen of who answers through a part of it.
+-- The same connection, seen of who answers through a part of it, and what its client gets.
 use Rattle.std.proofs.Common.{ℕ, List, ap, inl, inr}
 use Rattle.up_lists.proofs.RunLemmas.{Run-image}
 use Rattle.up_names.specs.Texts.{UserName}
@@ -6,6 +6,7 @@ use Rattle.up_sign.specs.SigningOn.{Signing}
 use Rattle.up_ends.specs.declared.verifier.Verdict.{Verdict}
 use Rattle.up_talk.specs.Around.{Around, Parties, World}
 use Rattle.up_talk.specs.Challenges.{Greets, Unmet}
+use Rattle.up_talk.specs.Completing.{Completes, IsInOrder}
 use Rattle.up_talk.specs.Messages.{ToClient}
 use Rattle.up_talk.specs.Talks.{CountsSame, EndsBy, Talks, bytes_from}
 use Rattle.up_talk.specs.Transcripts.{Answered, IsChallenged, IsJudged, IsRefused, Standing, Transcript}
@@ -114,3 +115,32 @@ module _ {A B V C N Q R : Type 0} (f : A → B) (tied : A → A → Type 0) (who
     part = t.part;
     counts = record { reads = t.counts.reads; writes = t.counts.writes; verdicts = t.counts.verdicts; quiet = λ fine. same_through a b (t.counts.quiet fine) };
   }
+
+  -- a client that is in order by the part is so by the whole
+  pub order_within : (a b : World A V C N) (text signature : List ℕ) (questions : List Q) (last : List (FromClient Q)) → IsInOrder who (part_in a) (part_in b) text signature questions last → IsInOrder through a b text signature questions last
+  order_within a b text signature questions last order = record {
+    last_is = order.last_is;
+    told = order.told;
+    few = order.few;
+    fits = order.fits;
+    user = order.user;
+    user_is = order.user_is;
+    known = λ c looked. order.known (f c) looked;
+    verdicts = order.verdicts;
+    no_read_failed = order.no_read_failed;
+    no_write_failed = order.no_write_failed;
+    no_verdict_failed = order.no_verdict_failed;
+  }
+
+  -- and gets all its answers
+  pub completes_through : (a b : World A V C N) (asked : List (FromClient Q)) (end : TalkEnd) → Completes through a b asked end → Completes who (part_in a) (part_in b) asked end
+  unfolding talks_through
+  completes_through a b asked talk.Ended c = (talks_through a b talk.Ended c.0, c.1)
+  completes_through a b asked (talk.Cut n) c = absurd c
+  completes_through a b asked (talk.BadFrame place) c = absurd c
+  completes_through a b asked talk.NotSigned c = absurd c
+  completes_through a b asked talk.HelperFault c = absurd c
+  completes_through a b asked talk.ReadFault c = absurd c
+  completes_through a b asked talk.WriteFault c = absurd c
+  completes_through a b asked talk.TurnsSpent c = absurd c
+  completes_through a b asked talk.OutOfMemory c = tt

@@ -5,7 +5,7 @@ use Rattle.std.specs.List.{AllByRecursion, after_first, before_first, list_any, 
 use Rattle.std.proofs.lemmas.Bool.{cases_eq, ne_eqb}
 use Rattle.std.proofs.lemmas.List.Sums.{prefix_len-le-length}
 use Rattle.std.proofs.lemmas.List.Splits.{slice_split-cons_no, slice_split-cons_yes}
-use Rattle.up_command.specs.Statuses.{IsOneOf}
+use Rattle.up_command.specs.Statuses.{IsOneOf, is_cut}
 use Rattle.up_lists.specs.Counts.{HasCause, Rose}
 use Rattle.up_lists.proofs.Causes.{HasCause-weaker}
 use Rattle.up_names.specs.Texts.{Text, UserName}
@@ -15,7 +15,7 @@ use Rattle.up_wire.specs.declared.requests.Request.{Request}
 use Rattle.up_terminal.proofs.InputLemmas.{Means-none}
 use Rattle.up_terminal.proofs.CutLemmas.{IsUnbroken, before_is_unbroken, before_none, cut_at, length-before, lines_cons, lines_front, lines_last, lines_none, no_cut, unbroken_append}
 use Rattle.up_terminal.specs.Lines.{IsGoodLine, IsLine, cut_text, line_of, lines_text}
-use Rattle.up_terminal.specs.Runs.{Ends, Means, Ran, is_cut, read_limit}
+use Rattle.up_terminal.specs.Runs.{Ends, Means, Ran, read_limit}
 use Rattle.up_terminal.specs.Sessions.{code_by, stopped_code}
 use Rattle.up_terminal.specs.declared.stop.LineStop.TheVariants as stops
 use Rattle.up_terminal.specs.declared.stop.Stop.{Stop}

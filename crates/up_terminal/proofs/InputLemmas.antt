@@ -9,7 +9,8 @@ use Rattle.up_wire.specs.declared.replies.Reply.{Reply}
 use Rattle.up_wire.specs.declared.requests.Request.{Request}
 use Rattle.up_terminal.proofs.SessionLemmas.{Ran-end, Running-none, Running-read, closed_text, uncut_is_absurd}
 use Rattle.up_terminal.specs.Lines.{IsLine}
-use Rattle.up_terminal.specs.Runs.{Ends, Means, Ran, is_cut, read_limit}
+use Rattle.up_command.specs.Statuses.{is_cut}
+use Rattle.up_terminal.specs.Runs.{Ends, Means, Ran, read_limit}
 use Rattle.up_terminal.specs.Sessions.{Closes, Goes, Running, code_by, stopped_code}
 use Rattle.up_terminal.specs.declared.stop.Stop.{Stop}
 use Rattle.up_terminal.specs.declared.stop.Stop.TheVariants as stop

@@ -9,7 +9,7 @@ use Rattle.up_ends.specs.Writing.{WritesPart}
 use Rattle.up_ends.proofs.Going.{WritesPart-all, WritesPart-none}
 use Rattle.up_lists.proofs.RunLemmas.{Run-snoc}
 use Rattle.up_command.specs.Printed.{bad_line, ended}
-use Rattle.up_command.specs.Statuses.{input_limit}
+use Rattle.up_command.specs.Statuses.{input_limit, is_cut}
 use Rattle.up_names.specs.Texts.{Text, UserName}
 use Rattle.up_text.specs.Lines.{is_line_end, script_lines}
 use Rattle.up_wire.specs.declared.replies.Reply.{Reply}
@@ -17,7 +17,7 @@ use Rattle.up_wire.specs.declared.requests.Request.{Request}
 use Rattle.up_terminal.proofs.CutLemmas.{IsUnbroken, before_cons, before_none, each-snoc, lines_front, lines_last, lines_none, lines_text-snoc}
 use Rattle.up_terminal.specs.Answers.{LineDid, LineCame, did_text}
 use Rattle.up_terminal.specs.Lines.{IsLine, cut_text, line_of, lines_text}
-use Rattle.up_terminal.specs.Runs.{Ends, LineDoes, Ran, is_cut, printed, stop_code}
+use Rattle.up_terminal.specs.Runs.{Ends, LineDoes, Ran, printed, stop_code}
 use Rattle.up_terminal.specs.Sessions.{Closes, Goes, LineRan, Reading, Running, behind, stopped_code}
 use Rattle.up_terminal.specs.declared.stop.LineStop.{LineStop}
 use Rattle.up_terminal.specs.declared.stop.LineStop.TheVariants as stops

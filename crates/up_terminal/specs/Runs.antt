@@ -1,12 +1,12 @@
 -- What a session at the terminal means: what each line did, what is printed, and how it ends. This project's own.
-use Rattle.std.specs.Prelude.{◌≡◌, ◌≤◌, ◌<◌, ◌+◌, ◌^◌, ℕ, ◌==◌, ◌||◌, Bool, true, false, List, [], ◌∷◌, ◌++◌, length, Option, None, Ok, Err}
+use Rattle.std.specs.Prelude.{◌≡◌, ◌≤◌, ◌<◌, ◌+◌, ◌^◌, ℕ, Bool, true, false, List, [], ◌∷◌, ◌++◌, length, Option, None, Ok, Err}
 use Rattle.std.specs.List.{AllByRecursion, before_first, flat_map}
 use Rattle.std.specs.Io.KnownBytes.{Appends, Consumes, IsAtEnd}
 use Rattle.up_ends.specs.Writing.{WritesPart}
 use Rattle.up_lists.specs.Counts.{count_after}
 use Rattle.up_lists.specs.Runs.{Run}
 use Rattle.up_command.specs.Printed.{bad_line}
-use Rattle.up_command.specs.Statuses.{input_limit}
+use Rattle.up_command.specs.Statuses.{input_limit, is_cut}
 use Rattle.up_names.specs.Texts.{Text, UserName}
 use Rattle.up_text.specs.Lines.{is_line_end}
 use Rattle.up_wire.specs.declared.replies.Reply.{Reply}
@@ -24,10 +24,6 @@ printed dids = flat_map did_text dids
 abbrev pub stop_code : LineStop → ℕ
 stop_code stop.AskFault = 11
 stop_code stop.OutOfMemory = 4
-
--- a write fault or want of memory cut the text short
-abbrev pub is_cut : ℕ → Bool
-is_cut status = (status == 3) || (status == 4)
 
 -- how many bytes a run reads at the least that was read for as often as a run may
 abbrev pub read_limit : ℕ

@@ -13,6 +13,7 @@ use Rattle.up_shared.specs.Sharing.{EachPair, SeatsLater, TreeSeatLater}
 use Rattle.up_shared.specs.declared.shared.Seats.{Seats}
 use Rattle.up_shared.specs.declared.shared.Shared.{Shared}
 use Rattle.up_sign.specs.SigningOn.{Signing}
+use Rattle.up_talk.proofs.ImageLemmas.{completes_through, order_within, talks_through, through}
 use Rattle.up_talk.specs.Around.{Ends, Parties, World}
 use Rattle.up_talk.specs.Challenges.{Draws, signing_of}
 use Rattle.up_talk.specs.Completing.{Completes, IsInOrder, asks_all}
@@ -20,7 +21,6 @@ use Rattle.up_talk.specs.Talks.{Talks}
 use Rattle.up_talk.specs.Turns.{around, world}
 use Rattle.up_talk.specs.declared.end.TalkEnd.{TalkEnd}
 use Rattle.up_talk.specs.declared.message.FromClient.{FromClient}
-use Rattle.up_together.proofs.ThroughLemmas.{completes_through, order_within, talks_through, through}
 use Rattle.up_together.specs.Together.{HostTogether, LooksTogether, host_together, together_at}
 use Rattle.up_wire.specs.declared.keys.KeyRecord.{KeyRecord}
 

@@ -1,4 +1,3 @@
-mod AnsweringLemmas
+pub mod AnsweringLemmas
 mod HoldingLemmas
 pub mod SittingLemmas
-mod ThroughLemmas

@@ -7,6 +7,7 @@ ghost use Rattle.up_policy.specs.Trees.{owns_snapshots};
 use crate::host_cases::words::cut;
 use std::alloc::Global;
 use std::hash::RandomState;
+use up_case_asks::owner_of;
 use up_case_lines::{Answer, Fault, Words, number_of, user_of};
 use up_case_logs::add_open_fault;
 use up_disk::{Disk, Disks, MemDisk};
@@ -209,21 +210,12 @@ fn add_owner(alloc: Global, owners: &mut Items<User>, name: &str) -> Result<(), 
     ensures distinct { IsDistinct bytes_eq owners.new }
     ensures plain { AllByRecursion (λ owner. owns_snapshots owner ≡ false) owners.new }
 {
-    let owner = user_of(alloc, name)?;
-    if owns_snapshots(&owner) || owners.as_slice().contains(&owner) {
+    let owner = owner_of(alloc, name)?;
+    if owners.as_slice().contains(&owner) {
         return Err(Fault::BadLine);
     }
     owners.push(owner)?;
     Ok(())
-}
-
-fn owns_snapshots(owner: &User) -> bool
-    ensures { result ≡ owns_snapshots owner.now }
-{
-    match owner.suffix() {
-        Some(suffix) => suffix == "snapshot",
-        None => false,
-    }
 }
 
 // The empty disks of a host of these owners. A word `PLACE:CALL,CALL` has these calls of the disk at this place fail.

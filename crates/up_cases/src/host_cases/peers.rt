@@ -4,13 +4,13 @@ use crate::host_cases::served::Served;
 use crate::host_cases::words::cut;
 use std::alloc::Global;
 use up_bytes::Bytes;
-use up_case_lines::{Answer, Fault, Words, bytes_of, number_of, path_of, user_of};
+use up_case_lines::{Answer, Fault, Words, bytes_of, number_of, user_of};
+use up_case_texts::{add_calls, ask_peer_all};
 use up_disk::MemDisk;
 use up_host::TreePeer;
 use up_lists::Items;
 use up_names::User;
-use up_peer::{ListPeer, Loader, Peer, PeerAnswer, PeerCall, PeerQuestion, Peers, RefusingPeer};
-use up_refs::Reference;
+use up_peer::{ListPeer, Loader, Peer, PeerAnswer, Peers, RefusingPeer};
 
 /// A peer as a word tells it.
 #[derive(Drop)]
@@ -276,56 +276,9 @@ pub fn ask_peer(
     words: Words<'_>,
     answer: &mut Answer,
 ) -> Result<(), Fault> {
-    ask_each(alloc, peer, words.some()?)?;
+    ask_peer_all(alloc, peer, words)?;
     add_calls(peer.calls(), answer);
     answer.part();
     answer.number(peer.faults());
     Ok(())
-}
-
-fn ask_each<P: Peer>(alloc: Global, peer: &mut P, questions: &str) -> Result<(), Fault> {
-    for question in questions.split(' ') {
-        ask_one(alloc, peer, question)?;
-    }
-    Ok(())
-}
-
-fn ask_one<P: Peer>(alloc: Global, peer: &mut P, question: &str) -> Result<(), Fault> {
-    match Reference::parse(question.as_bytes()) {
-        Some(reference) => drop(peer.fetch(alloc, &reference)?),
-        None => load(alloc, peer, question)?,
-    }
-    Ok(())
-}
-
-fn load<P: Peer>(alloc: Global, peer: &mut P, name: &str) -> Result<(), Fault> {
-    let name = path_of(alloc, name)?;
-    drop(peer.load(alloc, &name)?);
-    Ok(())
-}
-
-fn add_calls(calls: &[PeerCall], answer: &mut Answer) {
-    for call in calls {
-        answer.part();
-        add_question(&call.question, answer);
-        add_told(&call.answer, answer);
-    }
-}
-
-fn add_question(question: &PeerQuestion, answer: &mut Answer) {
-    match question {
-        PeerQuestion::Group(path) => answer.coded(path.as_str().as_bytes()),
-        PeerQuestion::Block(reference) => answer.digits(reference.bytes()),
-    }
-}
-
-fn add_told(told: &PeerAnswer, answer: &mut Answer) {
-    match told {
-        PeerAnswer::Got(bytes) => {
-            answer.word("got");
-            answer.coded(bytes.as_slice());
-        }
-        PeerAnswer::Nothing => answer.word("nothing"),
-        PeerAnswer::Failed => answer.word("failed"),
-    }
 }

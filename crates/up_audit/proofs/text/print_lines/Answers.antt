@@ -1,5 +1,6 @@
 use Rattle.std.proofs.Common.{◌++◌, arith, refl}
-use Rattle.up_audit.proofs.TextLemmas.{line_next, line_part, lines, lines_all, lines_part, still_written}
+use Rattle.up_command.proofs.GatherLemmas.{still_written}
+use Rattle.up_audit.proofs.TextLemmas.{line_next, line_part, lines, lines_all, lines_part}
 use Rattle.up_audit.proofs.text.print_lines.Goals as goal
 use Rattle.up_ends.proofs.Going.{Going-none}
 

@@ -1,11 +1,11 @@
 -- Each exit of the loop, by the invariant and what the last call wrote.
 use Rattle.std.proofs.Common.{◌≡◌, ℕ, ◌+◌, List, [], ◌∷◌, refl, sym, ap, subst, ◌∙◌, append-nil, arith}
 use Rattle.std.proofs.lemmas.Result.{err_from_is_err_and}
-use Rattle.up_command.specs.Statuses.{IsOneOf, code_of}
+use Rattle.up_command.specs.Statuses.{IsOneOf, code_by, code_of}
 use Rattle.up_ends.proofs.Going.{WritesPart-none}
 use Rattle.up_ends.specs.Writing.{WritesPart}
 use Rattle.up_text.specs.Lines.{script_lines}
-use Rattle.up_explain_can.specs.Explaining.{bad_from, code_by}
+use Rattle.up_explain_can.specs.Explaining.{bad_from}
 use Rattle.up_explain_can.proofs.TellingLemmas.{Telling, Telling-none, bad_nil, cut_by, cut_short, ended_well, flushed, kind_behind, told}
 use Rattle.up_explain_can.proofs.explaining.explain_lines.Goals as goal
 

@@ -6,7 +6,7 @@ use Rattle.up_feed.specs.declared.talking.Leading.{Leading}
 use Rattle.up_shared.specs.Callers.{sits_later}
 use Rattle.up_shared.specs.Sharing.{SeatsLater, views_of}
 use Rattle.up_talk.specs.Turns.{ends}
-use Rattle.up_feed.proofs.AnsweringLemmas.{ends_well, talks_seen}
+use Rattle.up_together.proofs.AnsweringLemmas.{ends_well, talks_seen}
 use Rattle.up_together.proofs.SittingLemmas.{marks_by_sits}
 
 pub invariant_of-leading : goal.invariant_of-leading

@@ -3,7 +3,8 @@ use Rattle.std.proofs.Common.{◌≡◌, [], ◌∷◌, subst, ap, arith, refl}
 use Rattle.std.proofs.lemmas.Result.{err_from_is_err_and}
 use Rattle.up_text.specs.Lines.{script_lines}
 use Rattle.up_following.specs.FollowTurns.{world}
-use Rattle.up_following.proofs.RunLemmas.{Followed-end, Followed-fault, Followed-turned, Followed-unwritten, Running, Running-none, Running-turned, still_written}
+use Rattle.up_command.proofs.GatherLemmas.{still_written}
+use Rattle.up_following.proofs.RunLemmas.{Followed-end, Followed-fault, Followed-turned, Followed-unwritten, Running, Running-none, Running-turned}
 use Rattle.up_following.proofs.run.run_each.Goals as goal
 
 pub loop-line-init : goal.loop-line-init

@@ -3,7 +3,8 @@ use Rattle.std.proofs.Common.{◌≡◌, [], ◌∷◌, subst, ap, arith, refl}
 use Rattle.std.proofs.lemmas.Result.{err_from_is_err_and}
 use Rattle.up_text.specs.Lines.{script_lines}
 use Rattle.up_script.specs.Standing.{parties, world}
-use Rattle.up_script.proofs.RunningLemmas.{Running, Running-none, Running-turned, Scripted-end, Scripted-fault, Scripted-turned, Scripted-unwritten, still_written}
+use Rattle.up_command.proofs.GatherLemmas.{still_written}
+use Rattle.up_script.proofs.RunningLemmas.{Running, Running-none, Running-turned, Scripted-end, Scripted-fault, Scripted-turned, Scripted-unwritten}
 use Rattle.up_script.proofs.script.run_each.Goals as goal
 
 pub loop-line-init : goal.loop-line-init

@@ -4,7 +4,7 @@ use Rattle.up_feed.proofs.LeadingLemmas.{looks_own}
 use Rattle.up_feed.proofs.talking.LeadingAnswers.challenge.Goals as goal
 use Rattle.up_feed.specs.declared.talking.Leading.{Leading}
 use Rattle.up_shared.specs.Records.{IsKeyOf}
-use Rattle.up_feed.proofs.AnsweringLemmas.{draws_only, draws_unheld, looks_later}
+use Rattle.up_together.proofs.AnsweringLemmas.{draws_only, draws_unheld, looks_later}
 use Rattle.up_together.proofs.SittingLemmas.{sits_by_marks}
 
 pub key_record-requires : goal.key_record-requires

@@ -92,7 +92,7 @@ module _ {D : Type 0} (disks : Ghosts D) (limits : Limits) where
       let one = sum_by-cons disks.faults logs.of_keys [] in
       omega (arith, trees, store, key_log, whole, two, one)
 
-  was_later : (log : LogName) (disk after : D) → WasOpenedAs disks limits log disk after → disks.faults disk ≤ disks.faults after
+  pub was_later : (log : LogName) (disk after : D) → WasOpenedAs disks limits log disk after → disks.faults disk ≤ disks.faults after
   was_later (LogName.OfTree owner) disk after was = subst (λ d. disks.faults disk ≤ disks.faults d) was.disk_is was.opened.counts.later
   was_later LogName.OfStore disk after was = subst (λ d. disks.faults disk ≤ disks.faults d) was.disk_is was.opened.counts.later
   was_later LogName.OfKeys disk after was = subst (λ d. disks.faults disk ≤ disks.faults d) was.disk_is was.opened.counts.later
