@@ -12,7 +12,7 @@ use up_lists::Items;
 use up_names::{Path, User};
 use up_policy::{LoadAnswer, Loaded};
 use up_refs::Reference;
-use up_text::{ClientLine, read_client_line, read_request};
+use up_text::{ClientLine, LineWords};
 use up_wire::Request;
 
 /// The first moment that is none of a request.
@@ -63,10 +63,10 @@ impl Given {
         user: &User,
         words: Words<'_>,
     ) -> Result<Request, Fault> {
-        let line = words_of(alloc, words.some()?)?;
-        match read_request(alloc, line.as_slice(), user)? {
+        let line = LineWords::new(words_of(alloc, words.some()?)?);
+        match line.request(alloc, user)? {
             Some(request) => Ok(request),
-            None => self.put_request(alloc, user, line.as_slice()),
+            None => self.put_request(alloc, user, &line),
         }
     }
 
@@ -74,9 +74,9 @@ impl Given {
         &mut self,
         alloc: Global,
         user: &User,
-        words: &[Bytes],
+        line: &LineWords,
     ) -> Result<Request, Fault> {
-        match read_client_line(alloc, words)? {
+        match line.client_line(alloc)? {
             Some(ClientLine::Put(path, time, sequence, bytes)) => {
                 let put = put_of(alloc, user, path, time, sequence, bytes.as_slice())?;
                 note(alloc, &mut self.fetched, bytes)?;
@@ -105,8 +105,8 @@ pub fn is_in_calendar(now: u64) -> bool
 }
 
 // The words of a line, each as it stands.
-fn words_of(alloc: Global, rest: &str) -> Result<Vec<Bytes>, AllocError> {
-    let mut words = Vec::new(alloc);
+fn words_of(alloc: Global, rest: &str) -> Result<Items<Bytes>, AllocError> {
+    let mut words = Items::new(alloc);
     for word in rest.split(' ') {
         words.push(copy_of(alloc, word.as_bytes())?)?;
     }

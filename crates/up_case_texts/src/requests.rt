@@ -6,7 +6,7 @@ use up_bytes::Bytes;
 use up_case_lines::{Answer, Fault, Topic, Words, user_of};
 use up_lists::Items;
 use up_names::User;
-use up_text::{ClientLine, is_request, read_client_line, read_request};
+use up_text::{ClientLine, LineWords};
 use up_wire::Request;
 
 /// Lines about the lines of a script. They keep nothing.
@@ -27,8 +27,8 @@ impl Topic for Requests {
 // they are said to be no line.
 fn ask_line(alloc: Global, mut words: Words<'_>, answer: &mut Answer) -> Result<(), Fault> {
     let user = user_of(alloc, words.word()?)?;
-    let line = words_of(alloc, words.rest())?;
-    add_asked(alloc, &user, line.as_slice(), answer)
+    let line = LineWords::new(words_of(alloc, words.rest())?);
+    add_asked(alloc, &user, &line, answer)
 }
 
 // The words of a line, each as it stands.
@@ -42,33 +42,33 @@ fn words_of(alloc: Global, rest: Option<&str>) -> Result<Items<Bytes>, Fault> {
 fn add_asked(
     alloc: Global,
     user: &User,
-    words: &[Bytes],
+    line: &LineWords,
     answer: &mut Answer,
 ) -> Result<(), Fault> {
-    let asked = read_request(alloc, words, user)?;
-    add_meant(alloc, &asked, words, answer)
+    let asked = line.request(alloc, user)?;
+    add_meant(alloc, &asked, line, answer)
 }
 
 fn add_meant(
     alloc: Global,
     asked: &Option<Request>,
-    words: &[Bytes],
+    line: &LineWords,
     answer: &mut Answer,
 ) -> Result<(), Fault> {
     match asked {
         Some(asked) => add_request(alloc, asked, answer),
-        None => add_client_line(alloc, words, answer)?,
+        None => add_client_line(alloc, line, answer)?,
     }
-    if !is_request(words) {
+    if !line.is_request() {
         answer.word("malformed");
     }
     Ok(())
 }
 
-fn add_client_line(alloc: Global, words: &[Bytes], answer: &mut Answer) -> Result<(), AllocError> {
-    let line = read_client_line(alloc, words)?;
-    if let Some(line) = &line {
-        add_client(line, answer);
+fn add_client_line(alloc: Global, line: &LineWords, answer: &mut Answer) -> Result<(), AllocError> {
+    let call = line.client_line(alloc)?;
+    if let Some(call) = &call {
+        add_client(call, answer);
     }
     Ok(())
 }

@@ -1,3 +1,4 @@
+pub mod SayLemmas
 pub mod WordLemmas
 pub mod UserLemmas
 pub mod GatherLemmas

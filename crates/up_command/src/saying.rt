@@ -7,7 +7,7 @@ ghost use Rattle.up_text.specs.Replies.{reply_lines};
 use std::alloc::{AllocError, Global};
 use up_bytes::Bytes;
 use up_client::ClientFault;
-use up_text::{fault_lines, reply_lines};
+use up_text::{fault_lines, push_reply};
 use up_wire::Reply;
 
 /// A line of two words.
@@ -56,8 +56,17 @@ pub fn say_reply(
     ensures { OnOk result (out.new.items ≡ out.old.items
         ++ all_numbered number (reply_lines reply.now)) }
 {
-    let lines = reply_lines(alloc, reply)?;
-    say_all(out, number, lines.as_slice())
+    let front = front_of(alloc, number)?;
+    push_reply(out, front.as_slice(), reply)
+}
+
+// What stands before each line about a session: its number and a space.
+fn front_of(alloc: Global, number: u64) -> Result<Vec<u8>, AllocError>
+    ensures { IfOk result (λ front. front.items ≡ decimal number ++ codes " ") }
+{
+    let mut front = number.to_string(alloc)?.into_bytes();
+    front.push(b' ')?;
+    Ok(front)
 }
 
 /// The lines of why a session's put or get failed.

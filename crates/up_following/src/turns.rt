@@ -9,12 +9,11 @@ ghost use Rattle.up_text.specs.Replies.{reply_lines};
 use crate::line::{FollowLine, follow_line};
 use crate::stop::LineStop;
 use std::alloc::{AllocError, Global};
-use up_bytes::Bytes;
 use up_command::{say, say_count};
 use up_disk::Disk;
 use up_follow::{Feed, FollowWhy, Follower};
 use up_names::User;
-use up_text::reply_lines;
+use up_text::push_reply;
 use up_wire::{Reply, Request};
 
 /// Does what a line says, and gathers what it prints.
@@ -102,7 +101,7 @@ fn ask<D: Disk>(
 {
     match follower.answer(alloc, user, request) {
         Some(reply) => {
-            let said = say_reply_result(alloc, out, &reply);
+            let said = say_reply_result(out, &reply);
             drop(reply);
             said
         }
@@ -111,38 +110,18 @@ fn ask<D: Disk>(
 }
 
 // What is said of a reply.
-fn say_reply_result(alloc: Global, out: &mut Vec<u8>, reply: &Reply) -> Result<(), LineStop>
+fn say_reply_result(out: &mut Vec<u8>, reply: &Reply) -> Result<(), LineStop>
     ensures { LineGathered (λ came. came ≡ result_of_reply reply.now) out.old.items result out.new.items }
 {
     if let Reply::OutOfMemory = reply {
         return Err(LineStop::OutOfMemory);
     }
-    Ok(say_reply(alloc, out, reply)?)
+    Ok(say_reply(out, reply)?)
 }
 
-// The lines of a reply.
-fn say_reply(alloc: Global, out: &mut Vec<u8>, reply: &Reply) -> Result<(), AllocError>
+// The lines of a reply, each with its LF.
+fn say_reply(out: &mut Vec<u8>, reply: &Reply) -> Result<(), AllocError>
     ensures { OnOk result (out.new.items ≡ out.old.items ++ flat_map ended (reply_lines reply.now)) }
 {
-    let lines = reply_lines(alloc, reply)?;
-    say_lines(out, lines.as_slice())
-}
-
-// Lines, each with its LF.
-fn say_lines(out: &mut Vec<u8>, lines: &[Bytes]) -> Result<(), AllocError>
-    ensures { OnOk result (out.new.items ≡ out.old.items ++ flat_map ended lines.now) }
-{
-    for line in lines {
-        say_line(out, line.as_slice())?;
-    }
-    Ok(())
-}
-
-// A line, with its LF.
-fn say_line(out: &mut Vec<u8>, line: &[u8]) -> Result<(), AllocError>
-    ensures { OnOk result (out.new.items ≡ out.old.items ++ ended line.now) }
-{
-    out.extend_from_slice(line)?;
-    out.push(b'\n')?;
-    Ok(())
+    push_reply(out, b"", reply)
 }

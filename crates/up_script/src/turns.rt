@@ -28,7 +28,7 @@ use up_peer::Loader;
 use up_script_lines::{NewHost, NewSession, NewUser, ScriptLine, script_line};
 use up_sessions::{LineFault, Sessions};
 use up_sign::HostName;
-use up_text::{ClientLine, read_request};
+use up_text::{ClientLine, LineWords};
 use up_wire::{Done, Reply};
 
 /// How many hosts a script may have.
@@ -87,7 +87,7 @@ fn do_line<D: Disk + Drop, P: Loader, V: Verifier, C: Clock, N: Nonces>(
         ScriptLine::Enrol(user) => enrol(alloc, sessions, user, out),
         ScriptLine::Open(session) => sign_on(alloc, sessions, verifier, nonces, &session, out),
         ScriptLine::Request(number, words) => {
-            ask(alloc, sessions, peers, clock, number, words.as_slice(), out)
+            ask(alloc, sessions, peers, clock, number, &words, out)
         }
         ScriptLine::Client(number, call) => {
             call_client(alloc, sessions, peers, clock, number, &call, out)
@@ -252,7 +252,7 @@ fn ask<D: Disk, P: Loader, C: Clock>(
     peers: &mut P,
     clock: &mut C,
     number: u64,
-    words: &[Bytes],
+    words: &LineWords,
     out: &mut Vec<u8>,
 ) -> Result<(), LineStop>
     requires words { AskSomething words.now }
@@ -263,7 +263,7 @@ fn ask<D: Disk, P: Loader, C: Clock>(
     let Some(user) = sessions.user(number) else {
         return Ok(say_numbered(out, number, b"nosession")?);
     };
-    let Some(request) = read_request(alloc, words, user)? else {
+    let Some(request) = words.request(alloc, user)? else {
         unreachable!()
     };
     let now = clock.now();

@@ -18,9 +18,7 @@ use up_lists::Items;
 use up_names::User;
 use up_policy::owns_snapshots;
 use up_sign::HostName;
-use up_text::{
-    ClientLine, cut_word, is_request, is_silent, read_client_line, read_num, read_word, three_words,
-};
+use up_text::{ClientLine, LineWords, cut_word, is_silent, read_num, read_word, three_words};
 
 /// How many trees a host may have.
 const MOST_TREES: u64 = 8;
@@ -40,7 +38,7 @@ pub enum ScriptLine {
     /// `open N NAME USER PROOF` signs a user on.
     Open(NewSession),
     /// `N` and the words of a request, in that session.
-    Request(u64, Items<Bytes>),
+    Request(u64, LineWords),
     /// `N put ..` or `N get ..`: what the client does in that session.
     Client(u64, ClientLine),
 }
@@ -227,11 +225,11 @@ fn session_line(
     let Some(number) = session_named(word) else {
         return Ok(None);
     };
-    let words = words_of(alloc, words)?;
-    if let Some(call) = read_client_line(alloc, words.as_slice())? {
+    let words = LineWords::new(words_of(alloc, words)?);
+    if let Some(call) = words.client_line(alloc)? {
         return Ok(Some(ScriptLine::Client(number, call)));
     }
-    if !is_request(words.as_slice()) {
+    if !words.is_request() {
         return Ok(None);
     }
     Ok(Some(ScriptLine::Request(number, words)))

@@ -18,7 +18,7 @@ use up_bytes::Bytes;
 use up_client::{Ask, ClientFault, Failed, get, put};
 use up_command::call_path;
 use up_names::{Path, User};
-use up_text::{ClientLine, fault_lines, reply_lines};
+use up_text::{ClientLine, fault_lines, push_reply};
 use up_wire::{Done, Reply, Request};
 
 /// Does what a line says, and gathers what it prints.
@@ -60,22 +60,18 @@ fn request_made<A: Ask>(
     ensures tie { A.tied ask.old ask.new }
 {
     let given = ask.ask(alloc, request);
-    say_request_result(alloc, out, given)
+    say_request_result(out, given)
 }
 
 // What came of a request.
-fn say_request_result(
-    alloc: Global,
-    out: &mut Vec<u8>,
-    given: Result<Reply, Failed>,
-) -> Result<(), LineStop>
+fn say_request_result(out: &mut Vec<u8>, given: Result<Reply, Failed>) -> Result<(), LineStop>
     ensures said { LineGathered (λ came. came ≡ result_of_answer (result_ok given))
         out.old.items result out.new.items }
     ensures failed { IsErrOf result LineStop.AskFault ↔ IsErr given }
 {
     match given {
         Ok(reply) => {
-            let said = say_reply_result(alloc, out, &reply);
+            let said = say_reply_result(out, &reply);
             drop(reply);
             said
         }
@@ -84,7 +80,7 @@ fn say_request_result(
 }
 
 // What is said of a reply.
-fn say_reply_result(alloc: Global, out: &mut Vec<u8>, reply: &Reply) -> Result<(), LineStop>
+fn say_reply_result(out: &mut Vec<u8>, reply: &Reply) -> Result<(), LineStop>
     ensures said { LineGathered (λ came. came ≡ result_of_answer (Some reply.now))
         out.old.items result out.new.items }
     ensures answered { IsErrOf result LineStop.AskFault → ⊥ }
@@ -92,7 +88,7 @@ fn say_reply_result(alloc: Global, out: &mut Vec<u8>, reply: &Reply) -> Result<(
     if let Reply::OutOfMemory = reply {
         return Err(LineStop::OutOfMemory);
     }
-    Ok(say_reply(alloc, out, reply)?)
+    Ok(say_reply(out, reply)?)
 }
 
 // What the client does.
@@ -158,7 +154,7 @@ fn say_put_result(
     ensures failed { IsErrOf result LineStop.AskFault ↔ IsErrOf outcome ClientFault.Failed }
 {
     match outcome {
-        Ok(position) => Ok(say_call_done(alloc, out, Done::Changed(position))?),
+        Ok(position) => Ok(say_call_done(out, Done::Changed(position))?),
         Err(fault) => {
             let said = say_call_failed(alloc, out, &fault);
             drop(fault);
@@ -177,7 +173,7 @@ fn say_get_result(
     ensures failed { IsErrOf result LineStop.AskFault ↔ IsErrOf outcome ClientFault.Failed }
 {
     match outcome {
-        Ok(bytes) => Ok(say_call_done(alloc, out, Done::Bytes(bytes))?),
+        Ok(bytes) => Ok(say_call_done(out, Done::Bytes(bytes))?),
         Err(fault) => {
             let said = say_call_failed(alloc, out, &fault);
             drop(fault);
@@ -187,12 +183,12 @@ fn say_get_result(
 }
 
 // What was done.
-fn say_call_done(alloc: Global, out: &mut Vec<u8>, done: Done) -> Result<(), AllocError>
+fn say_call_done(out: &mut Vec<u8>, done: Done) -> Result<(), AllocError>
     ensures { OnOk result (out.new.items
         ≡ out.old.items ++ lines_text (reply_lines (replies.Ok done))) }
 {
     let reply = Reply::Ok(done);
-    let said = say_reply(alloc, out, &reply);
+    let said = say_reply(out, &reply);
     drop(reply);
     said
 }
@@ -215,13 +211,12 @@ fn say_call_failed(alloc: Global, out: &mut Vec<u8>, fault: &ClientFault) -> Res
     }
 }
 
-// The lines of a reply.
-fn say_reply(alloc: Global, out: &mut Vec<u8>, reply: &Reply) -> Result<(), AllocError>
+// The lines of a reply, each with its LF.
+fn say_reply(out: &mut Vec<u8>, reply: &Reply) -> Result<(), AllocError>
     ensures { OnOk result (out.new.items
         ≡ out.old.items ++ lines_text (reply_lines reply.now)) }
 {
-    let lines = reply_lines(alloc, reply)?;
-    say_lines(out, lines.as_slice())
+    push_reply(out, b"", reply)
 }
 
 // Lines, each with its LF.

@@ -5,7 +5,7 @@ ghost use Rattle.up_terminal.specs.Lines.{line_of};
 use std::alloc::{AllocError, Global};
 use up_command::words_of;
 use up_names::User;
-use up_text::{ClientLine, is_silent, read_client_line, read_request};
+use up_text::{ClientLine, LineWords, is_silent};
 use up_wire::Request;
 
 /// What a line at the terminal says.
@@ -31,11 +31,11 @@ pub(crate) fn terminal_line(
     if is_silent(line) {
         return Ok(Some(TerminalLine::Silent));
     }
-    let words = words_of(alloc, Some(line))?;
-    if let Some(call) = read_client_line(alloc, words.as_slice())? {
+    let words = LineWords::new(words_of(alloc, Some(line))?);
+    if let Some(call) = words.client_line(alloc)? {
         return Ok(Some(TerminalLine::Client(call)));
     }
-    let Some(request) = read_request(alloc, words.as_slice(), user)? else {
+    let Some(request) = words.request(alloc, user)? else {
         return Ok(None);
     };
     Ok(Some(TerminalLine::Request(request)))

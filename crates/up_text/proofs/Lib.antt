@@ -14,4 +14,5 @@ pub mod EntryTold
 pub mod KeyTold
 pub mod ReplyTold
 pub mod ReplyLines
+pub mod PushLemmas
 mod Examples

@@ -1,5 +1,5 @@
 -- The lines that tell a reply, each without the session's number and its LF. This project's own.
-use Rattle.std.specs.Prelude.{Bool, true, false, List, [], ◌∷◌, length, map, Option, Some, None, codes, decimal}
+use Rattle.std.specs.Prelude.{Bool, true, false, List, [], ◌∷◌, ◌++◌, length, map, Option, Some, None, codes, decimal}
 use Rattle.up_names.specs.Texts.{Text}
 use Rattle.up_entry.specs.declared.entries.Entry.{Entry}
 use Rattle.up_entry.specs.declared.what.What.{What}
@@ -113,3 +113,12 @@ reply_words reply.OutOfMemory = []
 -- the lines of a reply, each of its words
 unfoldable pub reply_lines : Reply → List Text
 reply_lines given = map (λ words. spaced words) (reply_words given)
+
+-- the text of the first of some lines of words
+abbrev pub first_text : List (List Text) → Text
+first_text [] = []
+first_text (words ∷ more) = spaced words
+
+-- a line of output behind a front, with its LF
+abbrev pub line_behind : Text → Text → Text
+line_behind front text = front ++ (text ++ codes "\n")

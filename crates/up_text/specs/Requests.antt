@@ -133,6 +133,11 @@ kind_of word =
     else if bytes_eq word (codes "text") then Some kinds.Text
     else other_kind_of word
 
+-- the kind of line that words begin
+abbrev pub kind_in : List Text → Option LineKind
+kind_in [] = None
+kind_in (keyword ∷ words) = kind_of keyword
+
 -- what a line of a kind asks, by the words that it takes; none where these are malformed, and for the client's lines
 unfoldable pub kind_request : UserName → LineKind → List Text → Option Request
 kind_request user kinds.Lookup words = option_map (λ path. request.Lookup path) (one_text words)

@@ -6,7 +6,7 @@ ghost use Rattle.up_text.specs.ClientFaults.{fault_lines, fault_words};
 ghost use Rattle.up_text.specs.Lines.{spaced};
 
 use crate::entries::{add_num, add_reference};
-use crate::replies::{add_counted, add_line, add_lines, add_word};
+use crate::replies::{add_line, add_lines, tell_counted};
 use std::alloc::{AllocError, Global};
 use up_bytes::Bytes;
 use up_client::ClientFault;
@@ -43,6 +43,29 @@ fn add_fault(alloc: Global, lines: &mut Vec<Bytes>, fault: &ClientFault) -> Resu
         ClientFault::Odd => add_word(alloc, lines, b"odd"),
         ClientFault::Failed | ClientFault::OutOfMemory => Ok(()),
     }
+}
+
+/// Adds a line of this word alone.
+fn add_word(alloc: Global, lines: &mut Vec<Bytes>, word: &[u8]) -> Result<(), AllocError>
+    ensures { OnOk result (lines.new.items ≡ lines.old.items ++ spaced (word.now ∷ []) ∷ []) }
+{
+    let line = Vec::from_slice(alloc, word)?;
+    add_line(lines, line)
+}
+
+/// Adds a line of a word and a number.
+fn add_counted(
+    alloc: Global,
+    lines: &mut Vec<Bytes>,
+    word: &[u8],
+    number: u64,
+) -> Result<(), AllocError>
+    ensures { OnOk result (lines.new.items ≡ lines.old.items
+        ++ spaced (word.now ∷ decimal number ∷ []) ∷ []) }
+{
+    let mut line = Vec::new(alloc);
+    tell_counted(&mut line, word, number)?;
+    add_line(lines, line)
 }
 
 /// Adds the line of a block of another size.

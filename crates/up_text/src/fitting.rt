@@ -3,25 +3,26 @@
 ghost use Rattle.std.specs.Prelude.{◌≡◌, ◌||◌, ℕ, is_some};
 ghost use Rattle.up_names.specs.Texts.{UserName};
 ghost use Rattle.up_text.specs.Numbers.{int_of};
-ghost use Rattle.up_text.specs.Requests.{byte_of, client_line_of, file_line, kind_client, kind_request, link_line, mkdir_line, one_text, plain_entry, put_line, request_of, setkey_line, watch_line};
+ghost use Rattle.up_text.specs.Requests.{byte_of, client_line_of, file_line, kind_client, kind_in, kind_request, link_line, mkdir_line, one_text, plain_entry, put_line, request_of, setkey_line, watch_line};
 
 use crate::lists::{is_blocks, is_endpoints};
 use crate::numbers::{read_int, read_num};
-use crate::requests::{LineKind, kind_of};
+use crate::requests::LineKind;
 use crate::words::is_word;
 use up_bytes::Bytes;
 
-/// Whether the words of a line, those behind the session's number, ask something of a server or have the client do something; for
-/// whichever user. The line is malformed exactly where they do not. It takes no memory.
+/// Whether words of which the kind is known ask something of a server or have the client do something; for whichever user. It takes no
+/// memory.
 #[tactic(auto, unfolding(crate::specs::Requests::request_of, crate::specs::Requests::client_line_of))]
-pub fn is_request(words: &[Bytes]) -> bool
+pub(crate) fn is_request(kind: Option<LineKind>, words: &[Bytes]) -> bool
+    requires { kind ≡ kind_in words.now }
     ensures { (user : UserName) → result
         ≡ (is_some (request_of user words.now) || is_some (client_line_of words.now)) }
 {
-    let Some((keyword, arguments)) = words.split_first() else {
+    let Some((_, arguments)) = words.split_first() else {
         return false;
     };
-    match kind_of(keyword.as_slice()) {
+    match kind {
         Some(kind) => fits(kind, arguments),
         None => false,
     }

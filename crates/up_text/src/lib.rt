@@ -4,11 +4,12 @@
 //! value; what [`write_word`] gives is read again as the text (`read_again`). [`next_line`], [`cut_word`] and their kin give
 //! exactly the lines and words of the definitions.
 //!
-//! [`read_request`] gives exactly what the words of a line ask, and [`read_client_line`] what they have the client do;
-//! [`is_request`] says whether they are such a line at all, which does not depend on who asks.
+//! [`read_request`] gives exactly what the words of a line ask. [`LineWords`] are such words of which the keyword was read once: what
+//! they ask, what they have the client do, and whether they are such a line at all, which does not depend on who asks.
 //! [`reply_lines`] gives exactly the lines that tell a reply: words parted by single spaces ([`lines_are_words`]), and different
 //! ones for different replies that have a spelling, but for key records that differ alone in whether an endpoint is the host's own
-//! store or the address `local` ([`lines_tell_replies`]). [`fault_lines`] gives those that tell a client's fault.
+//! store or the address `local` ([`lines_tell_replies`]). [`push_reply`] writes them to a text, each behind a front. [`fault_lines`] gives those
+//! that tell a client's fault.
 #![tactic(auto)]
 
 mod client_faults;
@@ -16,6 +17,7 @@ mod entries;
 mod fault;
 mod fitting;
 mod laws;
+mod line_words;
 mod lines;
 mod lists;
 mod numbers;
@@ -24,10 +26,10 @@ mod requests;
 mod words;
 
 pub use client_faults::fault_lines;
-pub use fitting::is_request;
 pub use laws::{lines_are_words, lines_tell_replies};
+pub use line_words::LineWords;
 pub use lines::{cut_word, is_silent, next_line, one_word, three_words, two_words};
 pub use numbers::{read_int, read_num};
-pub use replies::reply_lines;
-pub use requests::{ClientLine, read_client_line, read_request};
+pub use replies::{push_reply, reply_lines};
+pub use requests::{ClientLine, read_request};
 pub use words::{push_word, read_word, word_text, write_word};

@@ -3,7 +3,7 @@
 ghost use Rattle.std.specs.Prelude.{◌≡◌, IfOk};
 ghost use Rattle.up_text.specs.Meant.{IsMeant};
 ghost use Rattle.up_text.specs.Numbers.{int_of};
-ghost use Rattle.up_text.specs.Requests.{byte_of, client_line_of, entry_by, file_line, filled, get_line, kind_client, kind_of, kind_request, link_line, mkdir_line, one_text, other_kind_of, plain_entry, put_line, request_of, setkey_line, watch_line};
+ghost use Rattle.up_text.specs.Requests.{byte_of, client_line_of, entry_by, file_line, filled, get_line, kind_client, kind_in, kind_of, kind_request, link_line, mkdir_line, one_text, other_kind_of, plain_entry, put_line, request_of, setkey_line, watch_line};
 
 use crate::fault::LineFault;
 use crate::lists::{blocks_of, endpoints_of, text_named};
@@ -54,19 +54,36 @@ pub fn read_request(
 ) -> Result<Option<Request>, AllocError>
     ensures { IfOk result (λ asked. asked ≡ request_of user.now words.now) }
 {
-    match request_named(alloc, words, user) {
+    request_found(alloc, kind_in(words), words, user)
+}
+
+/// The same of words of which the kind is known.
+pub(crate) fn request_found(
+    alloc: Global,
+    kind: Option<LineKind>,
+    words: &[Bytes],
+    user: &User,
+) -> Result<Option<Request>, AllocError>
+    requires { kind ≡ kind_in words.now }
+    ensures { IfOk result (λ asked. asked ≡ request_of user.now words.now) }
+{
+    match request_named(alloc, kind, words, user) {
         Ok(asked) => Ok(Some(asked)),
         Err(LineFault::Malformed) => Ok(None),
         Err(LineFault::OutOfMemory) => Err(AllocError),
     }
 }
 
-/// What the words of a line have the client do; the words are those behind the session's number. `None` exactly where the line is
-/// malformed, or is none of the client.
-pub fn read_client_line(alloc: Global, words: &[Bytes]) -> Result<Option<ClientLine>, AllocError>
+/// What words have the client do, of which the kind is known.
+pub(crate) fn client_line_found(
+    alloc: Global,
+    kind: Option<LineKind>,
+    words: &[Bytes],
+) -> Result<Option<ClientLine>, AllocError>
+    requires { kind ≡ kind_in words.now }
     ensures { IfOk result (λ line. line ≡ client_line_of words.now) }
 {
-    match client_line_named(alloc, words) {
+    match client_line_named(alloc, kind, words) {
         Ok(line) => Ok(Some(line)),
         Err(LineFault::Malformed) => Ok(None),
         Err(LineFault::OutOfMemory) => Err(AllocError),
@@ -74,34 +91,53 @@ pub fn read_client_line(alloc: Global, words: &[Bytes]) -> Result<Option<ClientL
 }
 
 #[tactic(auto, unfolding(crate::specs::Requests::request_of))]
-fn request_named(alloc: Global, words: &[Bytes], user: &User) -> Result<Request, LineFault>
+fn request_named(
+    alloc: Global,
+    kind: Option<LineKind>,
+    words: &[Bytes],
+    user: &User,
+) -> Result<Request, LineFault>
+    requires { kind ≡ kind_in words.now }
     ensures { IsMeant (λ asked. asked) result (request_of user.now words.now) }
 {
-    let Some((keyword, arguments)) = words.split_first() else {
+    let Some((_, arguments)) = words.split_first() else {
         return Err(LineFault::Malformed);
     };
-    match kind_of(keyword.as_slice()) {
+    match kind {
         Some(kind) => kind_request(alloc, kind, arguments, user),
         None => Err(LineFault::Malformed),
     }
 }
 
 #[tactic(auto, unfolding(crate::specs::Requests::client_line_of))]
-fn client_line_named(alloc: Global, words: &[Bytes]) -> Result<ClientLine, LineFault>
+fn client_line_named(
+    alloc: Global,
+    kind: Option<LineKind>,
+    words: &[Bytes],
+) -> Result<ClientLine, LineFault>
+    requires { kind ≡ kind_in words.now }
     ensures { IsMeant (λ line. line) result (client_line_of words.now) }
 {
-    let Some((keyword, arguments)) = words.split_first() else {
+    let Some((_, arguments)) = words.split_first() else {
         return Err(LineFault::Malformed);
     };
-    match kind_of(keyword.as_slice()) {
+    match kind {
         Some(kind) => kind_client(alloc, kind, arguments),
         None => Err(LineFault::Malformed),
     }
 }
 
+/// The kind of line that words begin.
+pub(crate) fn kind_in(words: &[Bytes]) -> Option<LineKind>
+    ensures { result ≡ kind_in words.now }
+{
+    let (keyword, _) = words.split_first()?;
+    kind_of(keyword.as_slice())
+}
+
 /// The kind of line that a keyword begins.
 #[tactic(auto, unfolding(crate::specs::Requests::kind_of))]
-pub(crate) fn kind_of(word: &[u8]) -> Option<LineKind>
+fn kind_of(word: &[u8]) -> Option<LineKind>
     ensures { result ≡ kind_of word.now }
 {
     if word == b"lookup".as_slice() {

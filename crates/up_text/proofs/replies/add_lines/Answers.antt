@@ -1,21 +1,13 @@
--- A reply of one line.
-use Rattle.up_text.specs.Replies.{reply_words}
+-- The first line of a reply, and those behind it.
+use Rattle.std.proofs.Common.{◌∙◌, ap, ◌++◌}
+use Rattle.up_text.specs.Replies.{first_text, reply_words}
+use Rattle.up_text.proofs.PushLemmas.{all_added, none_added, then_ok}
 use Rattle.up_text.proofs.replies.add_lines.Goals as goal
 
-pub returns-in-WrongHost : goal.returns-in-WrongHost
-unfolding reply_words
-returns-in-WrongHost c = rw c.in-WrongHost.is c.add_word.ensures
+pub returns-in-OutOfMemory : goal.returns-in-OutOfMemory
+returns-in-OutOfMemory c = none_added c.args.reply.now c.args.lines.now.items c.in-OutOfMemory.is
 
-pub returns-in-FollowLink : goal.returns-in-FollowLink
-unfolding reply_words
-returns-in-FollowLink c = rw c.in-FollowLink.is c.add_found.ensures
-
-pub returns-in-Permission : goal.returns-in-Permission
-unfolding reply_words
-returns-in-Permission c =
-    let told = rw (c.as_bytes.ensures.value, c.word.ensures) at c.add_named.ensures in
-    rw c.in-Permission.is told
-
-pub returns-in-BadSequence : goal.returns-in-BadSequence
-unfolding reply_words
-returns-in-BadSequence c = rw c.in-BadSequence.is c.add_counted.ensures
+pub returns : goal.returns
+returns c =
+    then_ok c.add_further.result (all_added c.args.reply.now c.args.lines.now.items c.add_line.new.lines.items c.add_further.new.lines.items c.add_first.new.out.items c.in_default.not-OutOfMemory
+    (c.in_ok-add_first.ensures ∙ ap (λ t. t ++ first_text (reply_words c.args.reply.now)) c.new-line.ensures.items) c.in_ok-add_line.ensures) c.add_further.ensures
