@@ -40,6 +40,7 @@ use Rattle.up_answers.specs.Views.{View, view}
 use Rattle.up_answers.specs.Watches.{items_under}
 use Rattle.up_wire.specs.declared.replies.Row.{Row}
 use Rattle.std.specs.Map.{values_of}
+use Rattle.up_ends.specs.Moments.{IsMoment}
 
 -- each record of the log fits those before it, and its owner is no snapshot user
 abbrev pub IsWhole : Log → Type 0
@@ -173,7 +174,7 @@ after_request log loaded fetched user request now = record log { records = log.r
 -- the record that a request adds at a moment of the calendar fits the log
 abbrev pub AddedRecordsFit : Type 0
 AddedRecordsFit =
-    (log : Log) (loaded : Loading) (fetched : Fetched) (user : UserName) (request : Request) (now : ℕ) → IsWhole log → now < 253402207200 →
+    (log : Log) (loaded : Loading) (fetched : Fetched) (user : UserName) (request : Request) (now : ℕ) → IsWhole log → IsMoment now →
     IsWhole (after_request log loaded fetched user request now)
 
 -- Two logs that agree for a user who is not the owner still agree after the same record of an ordinary path, whoever adds it.
@@ -190,7 +191,7 @@ abbrev pub RequestsKeepAgreement : Type 0
 RequestsKeepAgreement =
     (user : UserName) (loadings : List Loading) (loaded : Loading) (fetched : Fetched) (request : Request) (now : ℕ) (one two : Log)
     → IsWhole one → IsWhole two →
-    now < 253402207200 → Contains loadings (used request loaded) → Agree user loadings one two →
+    IsMoment now → Contains loadings (used request loaded) → Agree user loadings one two →
     Agree user loadings (after_request one loaded fetched user request now) (after_request two loaded fetched user request now)
 
 -- ---- two lists of turns
@@ -218,7 +219,7 @@ replies_to user log (turn ∷ turns) =
 -- all moments are of the calendar
 abbrev pub AreInCalendar : List Turn → Type 0
 AreInCalendar [] = ⊤
-AreInCalendar (turn ∷ turns) = (turn.now < 253402207200) × AreInCalendar turns
+AreInCalendar (turn ∷ turns) = (IsMoment turn.now) × AreInCalendar turns
 
 -- At each place both turns are the user's, and equal, and use one of the loadings; or neither is the user's, and the logs agree
 -- after that turn.

@@ -1,5 +1,5 @@
 //! One request to a tree, whoever has the logs.
-ghost use Rattle.std.specs.Prelude.{◌≡◌, ◌<◌, [], None, Some, Ok, true, is_some, IfOk, OnErr};
+ghost use Rattle.std.specs.Prelude.{◌≡◌, [], None, Some, Ok, true, is_some, IfOk, OnErr};
 ghost use Rattle.up_calls.specs.Answered.{Came, TreeAnswered, TreeServed};
 ghost use Rattle.up_calls.specs.Asks.{Tries};
 ghost use Rattle.up_calls.specs.Calls.{IsTried};
@@ -9,6 +9,7 @@ ghost use Rattle.up_calls.specs.Shown.{AllQuiet, FailsAsShown, QuietApart, Quiet
 ghost use Rattle.up_calls.specs.declared.service.Service.TheVariants as service;
 ghost use Rattle.up_edits.specs.Routes.{route_of};
 ghost use Rattle.up_edits.specs.declared.routes.Route.TheVariants as route;
+ghost use Rattle.up_ends.specs.Moments.{IsMoment};
 ghost use Rattle.up_list.specs.Asking.{asked_of};
 
 use crate::event::Event;
@@ -38,7 +39,7 @@ pub(crate) fn ask_directory<B: Logs, L: Loader>(
 ) -> Event
     requires ready { B.ready logs.old }
     requires directory { service_of request.now ≡ service.Directory }
-    requires moment { now < 253402207200 }
+    requires moment { IsMoment now }
     ensures came { Came L.Loader (B.operator_of logs.old)
         (λ log n. B.left log n logs.old logs.new) (λ log. B.rises log logs.old logs.new)
         (B.views logs.old) (B.views logs.new)
@@ -73,7 +74,7 @@ fn ask_read<B: Logs, L: Loader>(
     requires ready { B.ready logs.old }
     requires directory { service_of request.now ≡ service.Directory }
     requires read { asked_of user.now request.now ≡ Ok asked.now }
-    requires moment { now < 253402207200 }
+    requires moment { IsMoment now }
     ensures came { Came L.Loader (B.operator_of logs.old)
         (λ log n. B.left log n logs.old logs.new) (λ log. B.rises log logs.old logs.new)
         (B.views logs.old) (B.views logs.new)
@@ -110,7 +111,7 @@ fn ask_owner<B: Logs, L: Loader>(
     requires directory { service_of request.now ≡ service.Directory }
     requires to { route_of user.now request.now ≡ route.Tree owner.now locations }
     requires read { asked_of user.now request.now ≡ Ok asked.now }
-    requires moment { now < 253402207200 }
+    requires moment { IsMoment now }
     ensures came { Came L.Loader (B.operator_of logs.old)
         (λ log n. B.left log n logs.old logs.new) (λ log. B.rises log logs.old logs.new)
         (B.views logs.old) (B.views logs.new)
@@ -147,7 +148,7 @@ fn ask_there<B: Logs, L: Loader>(
     requires ready { B.ready logs.old }
     requires there { is_some ((B.views logs.old).tree owner.now) ≡ true }
     requires read { asked_of user.now request.now ≡ Ok asked.now }
-    requires moment { now < 253402207200 }
+    requires moment { IsMoment now }
     ensures served { IfOk result (TreeServed L.Loader (B.operator_of logs.old)
         (λ log. B.rises log logs.old logs.new) (B.views logs.old) (B.views logs.new) owner.now
         (record { user = user.now; request = request.now })
@@ -189,7 +190,7 @@ fn ask_loaded<B: Logs, L: Loader>(
     requires there { is_some ((B.views logs.old).tree owner.now) ≡ true }
     requires read { asked_of user.now request.now ≡ Ok asked.now }
     requires kept { KeepsSeen ((B.views logs.old).tree owner.now) [] kept.old }
-    requires moment { now < 253402207200 }
+    requires moment { IsMoment now }
     ensures answered { IfOk result (TreeAnswered L.Loader (B.operator_of logs.old)
         (B.rises (LogName.OfTree owner.now) logs.old logs.new)
         (B.views logs.old) (B.views logs.new) owner.now

@@ -1,11 +1,12 @@
 //! One request, whoever has the logs.
-ghost use Rattle.std.specs.Prelude.{◌≡◌, ◌<◌};
+ghost use Rattle.std.specs.Prelude.{◌≡◌};
 ghost use Rattle.up_calls.specs.Alike.{TellsNoMore};
 ghost use Rattle.up_calls.specs.Answered.{Came, Leaves, LoadsInRounds, Risen};
 ghost use Rattle.up_calls.specs.Calls.{Asked};
 ghost use Rattle.up_calls.specs.Routes.{log_asked, service_of};
 ghost use Rattle.up_calls.specs.Shown.{FailsAsShown};
 ghost use Rattle.up_calls.specs.declared.service.Service.TheVariants as service;
+ghost use Rattle.up_ends.specs.Moments.{IsMoment};
 
 use crate::asked::ask_directory;
 use crate::event::Event;
@@ -30,7 +31,7 @@ pub fn ask<B: Logs, L: Loader>(
     now: u64,
 ) -> Event
     requires ready { B.ready logs.old }
-    requires moment { now < 253402207200 }
+    requires moment { IsMoment now }
     ensures asked { Asked L.Loader (B.operator_of logs.old) (B.views logs.old) loader.old
         (record { user = user.now; request = request.now }) result
         (B.views logs.new) loader.new }
@@ -63,7 +64,7 @@ fn ask_by<B: Logs, L: Loader>(
     now: u64,
 ) -> Event
     requires ready { B.ready logs.old }
-    requires moment { now < 253402207200 }
+    requires moment { IsMoment now }
     ensures came { Came L.Loader (B.operator_of logs.old)
         (λ log n. B.left log n logs.old logs.new) (λ log. B.rises log logs.old logs.new)
         (B.views logs.old) (B.views logs.new)

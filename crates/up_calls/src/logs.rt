@@ -1,5 +1,5 @@
 //! Whoever has the logs of a host.
-ghost use Rattle.std.specs.Prelude.{◌≡◌, ◌<◌, ℕ, Option, None, Some, Ok, is_some, true, IfOk};
+ghost use Rattle.std.specs.Prelude.{◌≡◌, ℕ, Option, None, Some, Ok, is_some, true, IfOk};
 ghost use Rattle.up_calls.specs.Blocks.{IsFromStore};
 ghost use Rattle.up_calls.specs.Calls.{KeysTurn, StoreTurn};
 ghost use Rattle.up_calls.specs.Gathered.{OwnText};
@@ -10,6 +10,7 @@ ghost use Rattle.up_calls.specs.Shown.{AllQuiet, QuietBut};
 ghost use Rattle.up_calls.specs.Told.{LogTold, TreeTold, answered_at, tells_io};
 ghost use Rattle.up_calls.specs.Views.{Later, Views};
 ghost use Rattle.up_calls.specs.declared.service.Service.TheVariants as service;
+ghost use Rattle.up_ends.specs.Moments.{IsMoment};
 ghost use Rattle.up_entry.specs.declared.fetch.Fetch.TheVariants as fetches;
 ghost use Rattle.up_list.specs.Asking.{asked_of};
 ghost use Rattle.up_names.specs.Texts.{UserName};
@@ -108,7 +109,7 @@ pub trait Logs {
         requires there { is_some ((views self.old).tree owner.now) ≡ true }
         requires read { asked_of user.now request.now ≡ Ok asked.now }
         requires kept { KeepsSeen ((views self.old).tree owner.now) loaded.now kept.old }
-        requires moment { now < 253402207200 }
+        requires moment { IsMoment now }
         ensures told { TreeTold (rises (LogName.OfTree owner.now) self.old self.new)
             (views self.old) (views self.new) owner.now
             (record { user = user.now; request = request.now }) loaded.now fetched.now now result }

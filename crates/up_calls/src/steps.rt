@@ -1,5 +1,5 @@
 //! What is done in one turn of one log, over its state.
-ghost use Rattle.std.specs.Prelude.{◌≡◌, ◌==◌, ◌||◌, ◌<◌, None, Ok, IfOk, length};
+ghost use Rattle.std.specs.Prelude.{◌≡◌, ◌==◌, ◌||◌, None, Ok, IfOk, length};
 ghost use Rattle.std.specs.Result.{result_ok};
 ghost use Rattle.up_blocks.specs.Blocks as of_blocks;
 ghost use Rattle.up_calls.specs.Kept.{where_missing};
@@ -10,6 +10,7 @@ ghost use Rattle.up_calls.specs.Services.{key_fault, store_fault};
 ghost use Rattle.up_calls.specs.Steps.{BlockRead, FetchedAs, KeysTried, StoreReads, StoreTried, Tried, said_at};
 ghost use Rattle.up_calls.specs.declared.service.Service.TheVariants as service;
 ghost use Rattle.up_ends.specs.Growing.{OnlyGrows};
+ghost use Rattle.up_ends.specs.Moments.{IsMoment};
 ghost use Rattle.up_entry.specs.declared.fetch.Fetch.TheVariants as fetches;
 ghost use Rattle.up_foreign.specs.Kept.{Keeps};
 ghost use Rattle.up_keys.specs.Keys as of_keys;
@@ -52,7 +53,7 @@ pub fn try_tree<D: Disk>(
 ) -> Turn
     requires read { asked_of user.now request.now ≡ Ok asked.now }
     requires kept { Keeps state.old.owner state.old.log loaded.now kept.old }
-    requires moment { now < 253402207200 }
+    requires moment { IsMoment now }
     ensures tried { Tried D.Disk (record { user = user.now; request = request.now })
         loaded.now fetched.now now state.old state.new result }
     ensures kept { where_missing result

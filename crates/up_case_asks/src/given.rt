@@ -1,5 +1,6 @@
 //! What the next request comes with, and what it asks by the words of a script.
 ghost use Rattle.std.specs.Prelude.{◌≡◌, ◌<◌, nat_lt, IfOk};
+ghost use Rattle.up_ends.specs.Moments.{IsMoment, is_moment};
 
 use std::alloc::{AllocError, Global};
 use std::hash::RandomState;
@@ -89,7 +90,7 @@ impl Given {
 
 /// A moment, where it is one of a request.
 pub fn moment(now: u64) -> Result<u64, Fault>
-    ensures { IfOk result (λ now. now < 253402207200) }
+    ensures { IfOk result (λ now. IsMoment now) }
 {
     if is_in_calendar(now) {
         return Ok(now);
@@ -99,7 +100,7 @@ pub fn moment(now: u64) -> Result<u64, Fault>
 
 /// Whether a moment is one of a request.
 pub fn is_in_calendar(now: u64) -> bool
-    ensures { result ≡ nat_lt now 253402207200 }
+    ensures { result ≡ is_moment now }
 {
     now < END_OF_TIME
 }

@@ -1,11 +1,12 @@
 //! A request, and what comes of it.
-ghost use Rattle.std.specs.Prelude.{◌≡◌, ◌<◌, IfOk};
+ghost use Rattle.std.specs.Prelude.{◌≡◌, IfOk};
 ghost use Rattle.std.specs.Str.{bytes_eq};
 ghost use Rattle.up_commit.specs.Steps.{Steps};
 ghost use Rattle.up_answers.specs.Answers.{added, answer, asked_outcome, log_owner, tree_outcome};
 ghost use Rattle.up_dir.specs.Crashes.{Survives};
 ghost use Rattle.up_dir.specs.Forms.{IsFormed};
 ghost use Rattle.up_ends.specs.Growing.{OnlyGrows};
+ghost use Rattle.up_ends.specs.Moments.{IsMoment};
 ghost use Rattle.up_list.specs.Asking.{owner_asked};
 ghost use Rattle.up_list.specs.Changes.{added_by, answer_of};
 ghost use Rattle.up_lists.specs.Counts.{StaysUnless};
@@ -37,7 +38,7 @@ pub fn step<D: Disk>(
     fetched: &Fetched,
     now: u64,
 ) -> Reply
-    requires { now < 253402207200 }
+    requires { IsMoment now }
     ensures steps { Steps D.Disk
         (answer (log_of state.old) loaded.now fetched.now user.now request.now now)
         (added (log_of state.old) loaded.now fetched.now user.now request.now now)
@@ -67,7 +68,7 @@ fn step_request<D: Disk>(
     fetched: &Fetched,
     now: u64,
 ) -> Reply
-    requires { now < 253402207200 }
+    requires { IsMoment now }
     ensures steps { Steps D.Disk
         (answer (log_of state.old) loaded.now fetched.now user.now request.now now)
         (added (log_of state.old) loaded.now fetched.now user.now request.now now)
@@ -98,7 +99,7 @@ pub fn step_asked<D: Disk>(
     fetched: &Fetched,
     now: u64,
 ) -> Reply
-    requires moment { now < 253402207200 }
+    requires moment { IsMoment now }
     requires formed { IsFormed asked.now }
     ensures steps { Steps D.Disk
         (answer_of (log_of state.old)
@@ -131,7 +132,7 @@ fn step_by_owner<D: Disk>(
     fetched: &Fetched,
     now: u64,
 ) -> Reply
-    requires moment { now < 253402207200 }
+    requires moment { IsMoment now }
     requires formed { IsFormed asked.now }
     ensures steps { Steps D.Disk
         (answer_of (log_of state.old)

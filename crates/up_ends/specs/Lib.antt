@@ -1,4 +1,5 @@
 pub mod Growing
+pub mod Moments
 pub mod Nonces
 pub mod Sinks
 pub mod Sources

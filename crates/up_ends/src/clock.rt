@@ -1,5 +1,6 @@
 //! What a clock promises, and one that stands still.
-ghost use Rattle.std.specs.Prelude.{◌≡◌, ◌<◌, ℕ, Option};
+ghost use Rattle.std.specs.Prelude.{◌≡◌, ℕ, Option};
+ghost use Rattle.up_ends.specs.Moments.{IsMoment};
 ghost use Rattle.up_ends.specs.Telling.{Coming, Gives};
 
 use std::marker::Model;
@@ -14,7 +15,7 @@ pub trait Clock {
 
     /// The moment, in seconds since 1970, always before [`END_OF_MOMENTS`].
     fn now(&mut self) -> u64
-        ensures below { result < END_OF_MOMENTS }
+        ensures below { IsMoment result }
         ensures gives { Gives (coming self.old) result (coming self.new) };
 }
 
@@ -25,19 +26,20 @@ pub struct FixedClock {
 }
 
 impl Model for FixedClock {
-    ghost use Rattle.std.specs.Prelude.{ℕ, ◌<◌};
+    ghost use Rattle.std.specs.Prelude.{ℕ};
+    ghost use Rattle.up_ends.specs.Moments.{IsMoment};
 
     ghost Value = { ℕ };
 
     ghost view = { λ clock. clock.now };
 
-    ghost invariant = { λ clock. clock.now < 253402207200 };
+    ghost invariant = { λ clock. IsMoment clock.now };
 }
 
 impl FixedClock {
     /// A clock that says this moment for good.
     pub fn new(now: u64) -> Self
-        requires { now < END_OF_MOMENTS }
+        requires { IsMoment now }
         ensures { result ≡ now }
     {
         FixedClock { now }

@@ -1,7 +1,8 @@
 //! One request, and what comes of it.
-ghost use Rattle.std.specs.Prelude.{◌≡◌, ◌<◌};
+ghost use Rattle.std.specs.Prelude.{◌≡◌};
 ghost use Rattle.up_calls.specs.Alike.{TellsNoMore};
 ghost use Rattle.up_calls.specs.Calls.{Asked};
+ghost use Rattle.up_ends.specs.Moments.{IsMoment};
 ghost use Rattle.up_host.specs.Alone.{Counts, IsAlone, RisesAsShown, disk_faults, views};
 ghost use Rattle.up_host.specs.Settled.{StaysSettled};
 
@@ -24,7 +25,7 @@ impl<D: Disk> Host<D> {
         request: &Request,
         now: u64,
     ) -> Event
-        requires moment { now < 253402207200 }
+        requires moment { IsMoment now }
         ensures asked { Asked L.Loader self.old.operator (views D.Disk self.old) loader.old
             (record { user = session.now.user; request = request.now }) result
             (views D.Disk self.new) loader.new }

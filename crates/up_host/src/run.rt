@@ -1,6 +1,7 @@
 //! Requests to a host, one after the other.
-ghost use Rattle.std.specs.Prelude.{◌≡◌, ◌<◌, ◌≤◌, ◌+◌, [], length, vec_capacity, vec_len, IfOk, OnErr};
+ghost use Rattle.std.specs.Prelude.{◌≡◌, ◌≤◌, ◌+◌, [], length, vec_capacity, vec_len, IfOk, OnErr};
 ghost use Rattle.std.specs.List.{AllByRecursion};
+ghost use Rattle.up_ends.specs.Moments.{IsMoment};
 ghost use Rattle.up_host.specs.Runs.{IsHistory};
 
 use crate::host::Host;
@@ -28,7 +29,7 @@ pub fn ask_all<D: Disk, L: Loader>(
     loader: &mut L,
     calls: &[Call],
 ) -> Result<Items<Event>, AllocError>
-    requires { AllByRecursion (λ call. call.moment < 253402207200) calls.now }
+    requires { AllByRecursion (λ call. IsMoment call.moment) calls.now }
     ensures history { IfOk result
         (IsHistory D.Disk L.Loader host.old loader.old calls.now host.new loader.new) }
     ensures host { OnErr result (host.new ≡ host.old) }
@@ -48,7 +49,7 @@ fn ask_each<D: Disk, L: Loader>(
     calls: &[Call],
     events: &mut Vec<Event>,
 )
-    requires moments { AllByRecursion (λ call. call.moment < 253402207200) calls.now }
+    requires moments { AllByRecursion (λ call. IsMoment call.moment) calls.now }
     requires none { events.old.items ≡ [] }
     requires room { vec_len events.old + length calls.now ≤ vec_capacity events.old }
     ensures { IsHistory D.Disk L.Loader

@@ -1,7 +1,8 @@
 //! Two trees under two lists of turns.
-ghost use Rattle.std.specs.Prelude.{◌≡◌, ◌<◌, [], ◌∷◌, ◌++◌, IfOk, if◌then◌else◌, length, Some};
+ghost use Rattle.std.specs.Prelude.{◌≡◌, [], ◌∷◌, ◌++◌, IfOk, if◌then◌else◌, length, Some};
 ghost use Rattle.std.specs.List.{zip};
 ghost use Rattle.up_answers.specs.Laws.{AreInCalendar};
+ghost use Rattle.up_ends.specs.Moments.{IsMoment};
 ghost use Rattle.up_tree.specs.States.{log_of};
 ghost use Rattle.up_laws.specs.Turns.{IsMade, one_stops, turn_of, turns_of};
 ghost use Rattle.up_laws.specs.Histories.{ArePlayedAlike, IsPlayed, TakesTurns, are_of};
@@ -66,8 +67,8 @@ fn take_turns<D: Disk, E: Disk>(
     two: &Turn,
     replies: &mut Items<(Reply, Reply)>,
 ) -> Result<bool, AllocError>
-    requires first { one.now.now < 253402207200 }
-    requires second { two.now.now < 253402207200 }
+    requires first { IsMoment one.now.now }
+    requires second { IsMoment two.now.now }
     ensures { TakesTurns D.Disk E.Disk user.now (turn_of one.entry.now, turn_of two.entry.now)
         (a.old, b.old) (a.new, b.new) replies.old replies.new result }
 {
@@ -83,8 +84,8 @@ fn make_both<D: Disk, E: Disk>(
     one: &Turn,
     two: &Turn,
 ) -> (Reply, Reply)
-    requires first_moment { one.now.now < 253402207200 }
-    requires second_moment { two.now.now < 253402207200 }
+    requires first_moment { IsMoment one.now.now }
+    requires second_moment { IsMoment two.now.now }
     ensures first { IsMade D.Disk (turn_of one.entry.now) a.old a.new result.0 }
     ensures second { IsMade E.Disk (turn_of two.entry.now) b.old b.new result.1 }
 {

@@ -1,9 +1,10 @@
 //! A turn of a user on a tree.
-ghost use Rattle.std.specs.Prelude.{◌≡◌, ◌<◌, IfOk};
+ghost use Rattle.std.specs.Prelude.{◌≡◌, IfOk};
 ghost use Rattle.std.specs.Map.{lookup};
 ghost use Rattle.std.specs.Option.{option_copied};
 ghost use Rattle.up_answers.specs.Fetching.{endpoint_eq, is_failed, location_eq};
 ghost use Rattle.up_edits.specs.Routes.{route_of};
+ghost use Rattle.up_ends.specs.Moments.{IsMoment};
 ghost use Rattle.up_laws.specs.Turns.{IsMade, any_failed, fetch_failed, stops, turn_by, turn_of};
 
 use std::alloc::{AllocError, Global};
@@ -45,7 +46,7 @@ pub(crate) fn make<D: Disk>(
     fetched: &Fetched,
     now: u64,
 ) -> Reply
-    requires { now < 253402207200 }
+    requires { IsMoment now }
     ensures { IsMade D.Disk (turn_by user.now request.now loaded.now fetched.now now)
         state.old state.new result }
 {
@@ -55,7 +56,7 @@ pub(crate) fn make<D: Disk>(
 
 /// Makes a turn on a tree.
 pub(crate) fn make_turn<D: Disk>(alloc: Global, state: &mut TreeState<D>, turn: &Turn) -> Reply
-    requires { turn.now.now < 253402207200 }
+    requires { IsMoment turn.now.now }
     ensures { IsMade D.Disk (turn_of turn.entry.now) state.old state.new result }
 {
     make(

@@ -1,5 +1,6 @@
 //! Two trees that are asked the same.
-ghost use Rattle.std.specs.Prelude.{◌<◌};
+ghost use Rattle.std.specs.Prelude.{};
+ghost use Rattle.up_ends.specs.Moments.{IsMoment};
 ghost use Rattle.up_tree.specs.States.{log_of};
 ghost use Rattle.up_laws.specs.Turns.{IsMade, turn_by};
 ghost use Rattle.up_laws.specs.Worlds.{AreAlike};
@@ -26,7 +27,7 @@ pub fn two_worlds<D: Disk, E: Disk>(
     fetched: &Fetched,
     now: u64,
 ) -> (Reply, Reply)
-    requires { now < 253402207200 }
+    requires { IsMoment now }
     ensures first { IsMade D.Disk (turn_by user.now request.now loaded.now fetched.now now)
         a.old a.new result.0 }
     ensures second { IsMade E.Disk (turn_by user.now request.now loaded.now fetched.now now)

@@ -1,5 +1,5 @@
 -- Which record fits a log as its next one. This project's own.
-use Rattle.std.specs.Prelude.{◌≡◌, ◌≢◌, ℕ, Bool, true, false, not, ◌&&◌, ◌==◌, ◌+◌, ◌<◌, ◌≤◌, nat_lt, nat_le, ⊤, List, [], ◌∷◌, ◌++◌, length, take, codes, slice_get, Contains, Option, Some, None, is_none, is_some, IsSome, MatchOption, Ok, is_ok}
+use Rattle.std.specs.Prelude.{◌≡◌, ◌≢◌, ℕ, Bool, true, false, not, ◌&&◌, ◌==◌, ◌+◌, ◌≤◌, nat_lt, nat_le, ⊤, List, [], ◌∷◌, ◌++◌, length, take, codes, slice_get, Contains, Option, Some, None, is_none, is_some, IsSome, MatchOption, Ok, is_ok}
 use Rattle.std.specs.List.{list_any}
 use Rattle.std.specs.Str.{byte, bytes_eq}
 use Rattle.up_names.specs.Texts.{Text, UserName}
@@ -10,6 +10,7 @@ use Rattle.up_names.specs.declared.paths.Control.{Control}
 use Rattle.up_names.specs.declared.paths.Control.TheVariants.{Ordinary, Access, Group}
 use Rattle.up_access.specs.AccessTexts.{access_of}
 use Rattle.up_access.specs.declared.Rule.{Rule}
+use Rattle.up_ends.specs.Moments.{IsMoment, is_moment}
 use Rattle.up_group.specs.GroupTexts.{group_of}
 use Rattle.up_entry.specs.FixedForm.{HasFixedForm, has_fixed_form}
 use Rattle.up_entry.specs.Rules.{is_directory}
@@ -76,7 +77,7 @@ pub record SnapFits (owner : UserName) (before : List Rec) (time : ℕ) : Type 0
   pub plain : suffix_of owner ≡ None
   pub short : length (snapshot_user owner) ≤ 254
   pub rooted : IsSome (node_at (tree_of before) (root_of owner))
-  pub calendar : time < 253402207200
+  pub calendar : IsMoment time
   pub new : Contains before (Snap time) → ⊥
 
 -- the record fits a log of these records as the next one
@@ -148,7 +149,7 @@ unfoldable pub snap_fits : UserName → List Rec → ℕ → Bool
 snap_fits owner before time =
     has_snapshots owner
     && is_some (node_at (tree_of before) (root_of owner))
-    && nat_lt time 253402207200
+    && is_moment time
     && not (list_any (is_snap_at time) before)
 
 -- whether a record fits a log as its next one

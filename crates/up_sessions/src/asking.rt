@@ -1,6 +1,7 @@
 //! A session asks its host.
 ghost use Rattle.std.specs.Prelude.{◌≡◌, ◌<◌, ◌++◌, IfSome, IsSome, Some, length};
 ghost use Rattle.std.specs.Option.{option_copied};
+ghost use Rattle.up_ends.specs.Moments.{IsMoment};
 ghost use Rattle.up_sessions.specs.Asking.{AsksHost, AsksOne};
 ghost use Rattle.up_sessions.specs.Others.{others};
 ghost use Rattle.up_sessions.specs.Kept.{OneOf};
@@ -28,7 +29,7 @@ impl<D: Disk> Sessions<D> {
         now: u64,
     ) -> Event
         requires session { IsSome (session_at self.old number) }
-        requires moment { now < 253402207200 }
+        requires moment { IsMoment now }
         ensures { IfSome (session_at self.old number) (λ opened.
             AsksHost D.Disk P.Loader opened.place
             (record { user = opened.session.user; request = request.now })
@@ -70,7 +71,7 @@ fn ask_at<D: Disk, P: Loader>(
     now: u64,
 ) -> Event
     requires place { place < length hosts.old }
-    requires moment { now < 253402207200 }
+    requires moment { IsMoment now }
     ensures { OneOf place (AsksOne D.Disk P.Loader (others place hosts.old)
         (record { user = session.now.user; request = request.now }) now result)
         hosts.old peers.old hosts.new peers.new }
@@ -93,7 +94,7 @@ pub(crate) fn ask_among<D: Disk, P: Loader>(
     request: &Request,
     now: u64,
 ) -> Event
-    requires moment { now < 253402207200 }
+    requires moment { IsMoment now }
     ensures { AsksOne D.Disk P.Loader (before.now ++ after.now)
         (record { user = session.now.user; request = request.now }) now result
         host.old host.new peers.old peers.new }

@@ -1,5 +1,6 @@
 //! A moment.
-ghost use Rattle.std.specs.Prelude.{◌≡◌, ◌<◌};
+ghost use Rattle.std.specs.Prelude.{◌≡◌};
+ghost use Rattle.up_ends.specs.Moments.{IsMoment};
 
 use std::marker::Model;
 
@@ -10,18 +11,19 @@ pub(crate) struct Moment {
 }
 
 impl Model for Moment {
-    ghost use Rattle.std.specs.Prelude.{ℕ, ◌<◌};
+    ghost use Rattle.std.specs.Prelude.{ℕ};
+    ghost use Rattle.up_ends.specs.Moments.{IsMoment};
 
     ghost Value = { ℕ };
 
     ghost view = { λ moment. moment.seconds };
 
-    ghost invariant = { λ moment. moment.seconds < 253402207200 };
+    ghost invariant = { λ moment. IsMoment moment.seconds };
 }
 
 impl Moment {
     pub(crate) fn of(seconds: u64) -> Moment
-        requires { seconds < 253402207200 }
+        requires { IsMoment seconds }
         ensures { result ≡ seconds }
     {
         Moment { seconds }
@@ -29,7 +31,7 @@ impl Moment {
 
     pub(crate) fn seconds(&self) -> u64
         ensures is { result ≡ self.now }
-        ensures below { result < 253402207200 }
+        ensures below { IsMoment result }
     {
         self.seconds
     }

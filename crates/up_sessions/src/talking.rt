@@ -3,6 +3,7 @@ ghost use Rattle.std.proofs.Common.{◌∙◌};
 ghost use Rattle.std.specs.Prelude.{◌≡◌, ◌<◌, ◌++◌, IfSome, IsSome, Some, length, refl};
 ghost use Rattle.up_client.specs.Getting.{get_talk};
 ghost use Rattle.up_client.specs.Putting.{put_talk};
+ghost use Rattle.up_ends.specs.Moments.{IsMoment};
 ghost use Rattle.up_sessions.specs.Kept.{OneOf};
 ghost use Rattle.up_sessions.specs.Others.{others};
 ghost use Rattle.up_sessions.specs.Talking.{GetsAt, PutsAt, TalksTo, answers_as};
@@ -77,7 +78,7 @@ impl<D: Disk> Sessions<D> {
         now: u64,
     ) -> Result<u64, ClientFault>
         requires session { IsSome (session_at self.old number) }
-        requires moment { now < 253402207200 }
+        requires moment { IsMoment now }
         ensures { IfSome (session_at self.old number) (λ opened.
             PutsAt D.Disk P.Loader opened.place opened.session.user now
             path.now time sequence bytes.now result self.old peers.old self.new peers.new) }
@@ -110,7 +111,7 @@ impl<D: Disk> Sessions<D> {
         now: u64,
     ) -> Result<Bytes, ClientFault>
         requires session { IsSome (session_at self.old number) }
-        requires moment { now < 253402207200 }
+        requires moment { IsMoment now }
         ensures { IfSome (session_at self.old number) (λ opened.
             GetsAt D.Disk P.Loader opened.place opened.session.user now
             path.now result self.old peers.old self.new peers.new) }

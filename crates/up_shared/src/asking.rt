@@ -1,9 +1,10 @@
 //! One request of one of many callers.
-ghost use Rattle.std.specs.Prelude.{◌≡◌, ◌<◌};
+ghost use Rattle.std.specs.Prelude.{◌≡◌};
 ghost use Rattle.up_calls.specs.Alike.{TellsNoMore};
 ghost use Rattle.up_calls.specs.Answered.{Leaves, LoadsInRounds, Risen};
 ghost use Rattle.up_calls.specs.Calls.{Asked};
 ghost use Rattle.up_calls.specs.Shown.{FailsAsShown};
+ghost use Rattle.up_ends.specs.Moments.{IsMoment};
 ghost use Rattle.up_shared.specs.Sharing.{AreSeats, HasFailed, HasLooked, IsQuiet, SeatsLater, views_of};
 
 use crate::caller::Caller;
@@ -31,7 +32,7 @@ impl<D: Disk + Drop> Shared<D> {
         now: u64,
     ) -> Event
         requires sits { AreSeats self.now seats.old }
-        requires moment { now < 253402207200 }
+        requires moment { IsMoment now }
         ensures asked { Asked L.Loader self.now.operator (views_of seats.old) loader.old
             (record { user = session.now.user; request = request.now }) result
             (views_of seats.new) loader.new }

@@ -1,10 +1,11 @@
 //! What is done in the turns of a shared host.
-ghost use Rattle.std.specs.Prelude.{◌≡◌, ◌<◌, None, Ok};
+ghost use Rattle.std.specs.Prelude.{◌≡◌, None, Ok};
 ghost use Rattle.up_calls.specs.Kept.{where_missing};
 ghost use Rattle.up_calls.specs.Routes.{service_of};
 ghost use Rattle.up_calls.specs.Services.{key_fault, store_fault};
 ghost use Rattle.up_calls.specs.Steps.{KeysTried, StoreTried, Tried};
 ghost use Rattle.up_calls.specs.declared.service.Service.TheVariants as service;
+ghost use Rattle.up_ends.specs.Moments.{IsMoment};
 ghost use Rattle.up_foreign.specs.Kept.{Keeps};
 ghost use Rattle.up_list.specs.Asking.{asked_of};
 ghost use Rattle.up_shared.specs.Jobs.{ReadsBlock, ReadsText};
@@ -43,7 +44,7 @@ pub(crate) struct TryTree<'a> {
 
 impl<'a, D: Disk> Job<TreeState<D>> for TryTree<'a> {
     ghost can = { λ job state. (asked_of job.user.now job.request.now ≡ Ok job.asked.now)
-        × (job.now < 253402207200) × Keeps state.owner state.log job.loaded.now job.kept };
+        × (IsMoment job.now) × Keeps state.owner state.log job.loaded.now job.kept };
 
     ghost did = { λ job old after new. Tried D.Disk
         (record { user = job.user.now; request = job.request.now })

@@ -12,7 +12,7 @@ use Rattle.std.proofs.lemmas.Bool.{false≢true}
 use Rattle.up_names.specs.PathNames.{PathName, is_under}
 use Rattle.up_log_tree.proofs.Paths.{cut_cut}
 use Rattle.up_answers.specs.Calendar.{clock_text, date_of, digits, moment_elements}
-use Rattle.up_snap.specs.Firsts.{IsMoment}
+use Rattle.up_ends.specs.Moments.{IsMoment}
 use Rattle.up_snap.specs.Shown.{shown_root}
 use Rattle.up_snap.specs.Written.{two_at}
 use Rattle.up_snap.proofs.DateLemmas.{date_counts}

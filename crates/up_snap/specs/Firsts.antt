@@ -1,6 +1,7 @@
 -- The first of the snapshots that bear on a path, as it is found among their moments. (That it is the first is proved; nothing
 -- outside rests on these definitions.)
-use Rattle.std.specs.Prelude.{ℕ, ◌<◌, nat_le, if◌then◌else◌, List, fold, Option, Some, None, option_map, ⊤}
+use Rattle.std.specs.Prelude.{ℕ, nat_le, if◌then◌else◌, List, fold, Option, Some, None, option_map, ⊤}
+use Rattle.up_ends.specs.Moments.{IsMoment}
 use Rattle.up_names.specs.Texts.{UserName}
 use Rattle.up_names.specs.PathNames.{PathName}
 use Rattle.up_entry.specs.declared.records.Rec.{Rec}
@@ -25,10 +26,6 @@ bearing_at snap_user records path time =
 -- the first among those of these moments
 unfoldable pub least_to : UserName → List Rec → PathName → List ℕ → Option Shown
 least_to snap_user records path times = fold (λ first time. sooner first (bearing_at snap_user records path time)) None times
-
--- a moment that snapshots may have
-abbrev pub IsMoment : ℕ → Type 0
-IsMoment time = time < 253402207200
 
 -- what is made up has such a moment
 abbrev pub IsTimed : Standing → Type 0

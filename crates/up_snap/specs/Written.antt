@@ -3,7 +3,7 @@
 use Rattle.std.specs.Prelude.{◌≡◌, ℕ, ◌+◌, ◌-◌, ◌*◌, true, slice_index_or, Option, Some}
 use Rattle.up_names.specs.Texts.{Text, UserName}
 use Rattle.up_names.specs.PathNames.{PathName, is_under}
-use Rattle.up_snap.specs.Firsts.{IsMoment}
+use Rattle.up_ends.specs.Moments.{IsMoment}
 use Rattle.up_snap.specs.Shown.{shown_root}
 
 -- what the digit at a place stands for

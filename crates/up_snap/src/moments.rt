@@ -1,7 +1,8 @@
 //! The paths of snapshots: the UTC date of a moment, and the time of day.
-ghost use Rattle.std.specs.Prelude.{◌≡◌, ◌<◌, ◌+◌, ◌/◌, ◌%◌, ◌++◌, ◌∷◌, [], pos, IfOk, OnOk};
+ghost use Rattle.std.specs.Prelude.{◌≡◌, ◌+◌, ◌/◌, ◌%◌, ◌++◌, ◌∷◌, [], pos, IfOk, OnOk};
 ghost use Rattle.up_names.specs.PathNames.{extended};
 ghost use Rattle.up_answers.specs.Calendar.{clock_text, date_of, digits};
+ghost use Rattle.up_ends.specs.Moments.{IsMoment};
 ghost use Rattle.up_snap.specs.Shown.{shown_root};
 
 use jiff_core::civil::Date;
@@ -10,7 +11,7 @@ use up_names::{Path, User, element_text};
 
 /// The date of a moment, in UTC.
 fn civil_date(time: u64) -> Date
-    requires { time < 253402207200 }
+    requires { IsMoment time }
     ensures year { result.year ≡ pos (date_of (time / 86400)).year }
     ensures month { result.month ≡ (date_of (time / 86400)).month }
     ensures day { result.day ≡ (date_of (time / 86400)).day }
@@ -116,7 +117,7 @@ fn with_clock(alloc: Global, dir: Path, time: u64) -> Result<Path, AllocError>
 /// The root of the snapshot of a moment, in the tree of this snapshot user.
 #[tactic(auto, unfolding(up_answers::specs::Calendar::moment_elements))]
 pub fn root_at(alloc: Global, snap_user: &User, time: u64) -> Result<Path, AllocError>
-    requires { time < 253402207200 }
+    requires { IsMoment time }
     ensures { IfOk result (λ path. path ≡ shown_root snap_user.now time) }
 {
     let date = civil_date(time);

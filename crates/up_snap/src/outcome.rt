@@ -9,7 +9,7 @@ ghost use Rattle.up_log_tree.specs.Fits.{Fits, root_of, snapshot_user};
 ghost use Rattle.up_log_tree.specs.Logs.{Log};
 ghost use Rattle.up_log_tree.specs.Snapshots.{snap_at};
 ghost use Rattle.up_log_tree.specs.Trees.{node_at, tree_of};
-ghost use Rattle.up_snap.specs.Firsts.{IsMoment};
+ghost use Rattle.up_ends.specs.Moments.{IsMoment};
 ghost use Rattle.up_snap.specs.Looked.{IsSnapUser, look_at};
 ghost use Rattle.up_snap.specs.Outcomes.{log_with};
 

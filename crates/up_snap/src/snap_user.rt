@@ -1,6 +1,7 @@
 //! The user whose tree shows the snapshots of a user's tree, and the roots of snapshots in it.
-ghost use Rattle.std.specs.Prelude.{◌≡◌, ◌<◌, ◌≤◌, length, None, IfOk};
+ghost use Rattle.std.specs.Prelude.{◌≡◌, ◌≤◌, length, None, IfOk};
 ghost use Rattle.up_answers.specs.SnapshotTrees.{moved};
+ghost use Rattle.up_ends.specs.Moments.{IsMoment};
 ghost use Rattle.up_names.specs.UserNames.{name_part, suffix_of};
 ghost use Rattle.up_log_tree.specs.Fits.{root_of, snapshot_user};
 
@@ -14,7 +15,7 @@ use up_names::{Path, User, parse_user};
 pub fn snap_path(alloc: Global, owner: &User, time: u64) -> Result<Path, AllocError>
     requires plain { suffix_of owner.now ≡ None }
     requires short { length (snapshot_user owner.now) ≤ 254 }
-    requires moment { time < 253402207200 }
+    requires moment { IsMoment time }
     ensures { IfOk result (λ path. path ≡ moved time (root_of owner.now)) }
 {
     let snap_user = snapshot_user(alloc, owner)?;

@@ -1,5 +1,5 @@
 //! What stands at a path of a snapshot tree.
-ghost use Rattle.std.specs.Prelude.{◌≡◌, ◌<◌, ◌≤◌, ◌||◌, Some, length, option_map, IfOk, IfSome};
+ghost use Rattle.std.specs.Prelude.{◌≡◌, ◌≤◌, ◌||◌, Some, length, option_map, IfOk, IfSome};
 ghost use Rattle.up_list.specs.Entries.{entry_at, entry_of};
 ghost use Rattle.up_list.specs.Founds.{entry_found};
 ghost use Rattle.up_list.specs.Reads.{file_text};
@@ -8,7 +8,8 @@ ghost use Rattle.up_log_tree.specs.Trees.{node_at, tree_at};
 ghost use Rattle.up_answers.specs.SnapshotTrees.{made_up, snapshots_to};
 ghost use Rattle.up_names.specs.Texts.{UserName};
 ghost use Rattle.up_names.specs.PathNames.{PathName, is_under};
-ghost use Rattle.up_snap.specs.Firsts.{IsMoment, IsTimed, bearing_at, sooner};
+ghost use Rattle.up_snap.specs.Firsts.{IsTimed, bearing_at, sooner};
+ghost use Rattle.up_ends.specs.Moments.{IsMoment};
 ghost use Rattle.up_snap.specs.Shown.{first_to, old_path, shown_node, shown_root};
 ghost use Rattle.up_snap.specs.Standing.{node_of, standing_node};
 

@@ -1,10 +1,11 @@
 //! A request on a snapshot tree, and what comes of it.
-ghost use Rattle.std.specs.Prelude.{◌≡◌, ◌<◌, IfOk, Ok};
+ghost use Rattle.std.specs.Prelude.{◌≡◌, IfOk, Ok};
 ghost use Rattle.up_commit.specs.Steps.{Steps};
 ghost use Rattle.up_answers.specs.Answers.{added, answer, fault_reply};
 ghost use Rattle.up_answers.specs.Fetching.{Fetched};
 ghost use Rattle.up_answers.specs.SnapshotReplies.{snapshot_outcome};
 ghost use Rattle.up_ends.specs.Growing.{OnlyGrows};
+ghost use Rattle.up_ends.specs.Moments.{IsMoment};
 ghost use Rattle.up_journal.specs.declared.limits.Limits.{Limits};
 ghost use Rattle.up_list.specs.Asking.{asked_of, owner_asked};
 ghost use Rattle.up_list.specs.Changes.{added_by, answer_of};
@@ -12,7 +13,6 @@ ghost use Rattle.up_list.specs.declared.asking.ReadRequest.{ReadRequest};
 ghost use Rattle.up_lists.specs.Counts.{StaysUnless};
 ghost use Rattle.up_policy.specs.Loadings.{Loading};
 ghost use Rattle.up_log_tree.specs.Fits.{Fits};
-ghost use Rattle.up_snap.specs.Firsts.{IsMoment};
 ghost use Rattle.up_snap.specs.Outcomes.{IsOfSnapshots, log_with};
 ghost use Rattle.up_tree.specs.States.{entries_of, fixed_of, log_of};
 
@@ -38,7 +38,7 @@ pub fn snap_step<D: Disk>(
     request: &Request,
     now: u64,
 ) -> Reply
-    requires moment { now < 253402207200 }
+    requires moment { IsMoment now }
     requires place { (asked : ReadRequest) → asked_of user.now request.now ≡ Ok asked
         → IsOfSnapshots state.old.owner (owner_asked asked) }
     ensures steps { (loaded : Loading) (fetched : Fetched) → Steps D.Disk
@@ -77,7 +77,7 @@ pub fn snap_asked<D: Disk>(
     asked: &ReadRequest,
     now: u64,
 ) -> Reply
-    requires moment { now < 253402207200 }
+    requires moment { IsMoment now }
     requires place { IsOfSnapshots state.old.owner (owner_asked asked.now) }
     ensures steps { Steps D.Disk
         (answer_of (log_of state.old) (snapshot_outcome (log_of state.old) user.now asked.now now))

@@ -4,7 +4,7 @@ ghost use Rattle.jiff_core.specs.Date.{epoch_day};
 ghost use Rattle.up_names.specs.PathNames.{is_under};
 ghost use Rattle.up_names.specs.Texts.{UserName};
 ghost use Rattle.up_answers.specs.Calendar.{date_of, moment_elements};
-ghost use Rattle.up_snap.specs.Firsts.{IsMoment};
+ghost use Rattle.up_ends.specs.Moments.{IsMoment};
 ghost use Rattle.up_snap.specs.Shown.{shown_root};
 ghost use Rattle.up_snap.specs.Written.{IsRead, digit_at, two_at};
 

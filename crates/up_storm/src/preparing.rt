@@ -1,6 +1,7 @@
 //! The host of a storm, before its sessions run.
-ghost use Rattle.std.specs.Prelude.{◌≡◌, ◌<◌, [], ◌∷◌, ◌++◌, IfOk, OnOk};
+ghost use Rattle.std.specs.Prelude.{◌≡◌, [], ◌∷◌, ◌++◌, IfOk, OnOk};
 ghost use Rattle.std.specs.List.{AllByRecursion, list_any};
+ghost use Rattle.up_ends.specs.Moments.{IsMoment};
 ghost use Rattle.up_storm.specs.Asked.{access_text, put_of};
 ghost use Rattle.up_storm.specs.Sessions.{is_fault};
 ghost use Rattle.up_storm.specs.Preparing.{AddsWanted, HasAskedAll, HasPrepared, IsPrepared, access_of, block_of, directory_of, prepares, prepares_from, preparing, root_of, roots, whole_block};
@@ -60,7 +61,7 @@ fn ask_calls<D: Disk, L: Loader>(
     peers: &mut L,
     calls: &[Call],
 ) -> Result<(), AllocError>
-    requires { AllByRecursion (λ call. call.moment < 253402207200) calls.now }
+    requires { AllByRecursion (λ call. IsMoment call.moment) calls.now }
     ensures { OnOk result (HasAskedAll D.Disk L.Loader peers.old host.old calls.now
         host.new) }
 {

@@ -1,6 +1,7 @@
 //! Who answers a connection.
-ghost use Rattle.std.specs.Prelude.{◌≡◌, ◌≢◌, ◌<◌, ℕ, List, IfOk};
+ghost use Rattle.std.specs.Prelude.{◌≡◌, ◌≢◌, ℕ, List, IfOk};
 ghost use Rattle.std.specs.declared.option.Option.{Option};
+ghost use Rattle.up_ends.specs.Moments.{IsMoment};
 ghost use Rattle.up_names.specs.Texts.{UserName};
 ghost use Rattle.up_wire.specs.Spelling.{client};
 ghost use Rattle.up_wire.specs.declared.keys.KeyRecord.{KeyRecord as Card};
@@ -72,7 +73,7 @@ pub trait Answers {
         question: &Self::Question,
         now: u64,
     ) -> Self::Answer
-        requires { now < 253402207200 }
+        requires { IsMoment now }
         ensures asked { asked self.old session.now.user question.now now result self.new }
         ensures tie { tied self.old self.new };
 
