@@ -16,7 +16,7 @@ mod steps;
 pub use asking::ask;
 pub use event::Event;
 pub use gathering::BOUND;
-pub use loads::{group_text_of, is_group, load_of};
+pub use loads::{group_text_of, load_of};
 pub use logs::{Logs, Turn};
 pub use service::{Service, service_of};
 pub use steps::{read_block, read_text, try_keys, try_store, try_tree};

@@ -3,7 +3,6 @@ ghost use Rattle.std.specs.Prelude.{◌≡◌, ◌≢◌, IfOk};
 ghost use Rattle.up_calls.specs.Loads.{group_text_answer, load_of};
 ghost use Rattle.up_group.specs.GroupTexts.{group_of};
 ghost use Rattle.up_peer.specs.Loading.{text_answer};
-ghost use Rattle.up_log_tree.specs.Rights.{is_group};
 ghost use Rattle.up_tree.specs.States.{log_of};
 
 use std::alloc::{AllocError, Global};
@@ -11,8 +10,8 @@ use std::hash::RandomState;
 use up_disk::Disk;
 use up_entry::What;
 use up_group::parse_group;
-use up_list::{TreeLook, group_text};
-use up_names::{Control, Path, TextFault, User};
+use up_list::{TreeLook, group_text, is_group};
+use up_names::{Path, TextFault, User};
 use up_policy::{LoadAnswer, Loaded};
 use up_tree::TreeState;
 use up_wire::{Done, Reply, bounded};
@@ -38,16 +37,6 @@ pub fn group_text_of<D: Disk>(
     match group_text(alloc, &look, path) {
         Ok(reply) => bounded(reply),
         Err(_) => Reply::OutOfMemory,
-    }
-}
-
-/// Whether a path is for a Group file.
-pub fn is_group(path: &Path) -> bool
-    ensures { result ≡ is_group path.now }
-{
-    match path.control_kind() {
-        Control::Group => true,
-        Control::Access | Control::Ordinary => false,
     }
 }
 

@@ -56,7 +56,7 @@ fn add<D: Disk>(state: &mut TreeState<D>, rec: Rec) -> Reply
         (result ≡ Reply.Io) }
     ensures grows { OnlyGrows entries_of (λ state. D.faults state.disk) fixed_of state.old state.new }
 {
-    let _records = state.position();
+    state.recall();
     let size = rec_size(&rec);
     if size > state.largest() {
         let refusal = too_large(&rec, size);

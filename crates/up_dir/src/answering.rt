@@ -53,7 +53,7 @@ pub fn step<D: Disk>(
 {
     let said = step_request(alloc, state, user, request, loaded, fetched, now);
     // That a crash now leaves the log is told of each tree.
-    let _records = state.position();
+    state.recall();
     said
 }
 
@@ -117,7 +117,7 @@ pub fn step_asked<D: Disk>(
 {
     let reply = step_by_owner(alloc, state, user, asked, loaded, fetched, now);
     // That a crash now leaves the log is told of each tree.
-    let _records = state.position();
+    state.recall();
     reply
 }
 

@@ -48,7 +48,7 @@ pub(crate) fn pull_into<D: Disk, F: Feed>(
             let added = add_all(alloc, tree, batch.as_slice());
             drop(batch);
             // That a crash now leaves the log is told of each tree.
-            let _records = tree.position();
+            tree.recall();
             added
         }
         Err(fault) => Err(FollowWhy::from(fault)),
@@ -70,7 +70,7 @@ pub(crate) fn add_all<D: Disk>(
     ensures grows { OnlyGrows entries_of (λ state. D.faults state.disk) fixed_of tree.old tree.new }
 {
     // That a crash now leaves the log is told of each tree.
-    let _records = tree.position();
+    tree.recall();
     let mut left = batch;
     while let Some((text, rest)) = next_text(left) {
         match add_next(alloc, tree, text) {

@@ -175,7 +175,7 @@ fn items_from(
         ≡ filter (wanted looked_for.now) (keys_of (tree_of tree.now.log))) }
     ensures owned { IfOk result (λ found. AreOwned tree.now.owner (keys_of found.entries)) }
 {
-    let _records = tree.position();
+    tree.recall();
     let mut walk = begun(alloc, tree, start, looked_for)?;
     for _ in 0..u64::MAX {
         let Some(dir) = walk.places.pop() else {

@@ -509,7 +509,7 @@ fn note_events(
         ≡ with_paths names.old (flat_map (needed_in tree.now.owner loaded.now)
         (event_places_to (log_over limits tree.now) above path.now (length tree.now.log)))) }
 {
-    let _records = tree.position();
+    tree.recall();
     let positions = tree.positions_under(path, above);
     note_positions(alloc, tree, user, positions, loaded, noted, names)
 }

@@ -89,7 +89,7 @@ impl Noted {
             (tree_at tree.now.log n, path.now))) }
         ensures noted { OnOk result (AreNoted tree.now loaded.now self.new names.new) }
     {
-        let _records = tree.position();
+        tree.recall();
         let Some(dir) = governing_dir(tree, n, path)? else {
             return Ok(());
         };

@@ -50,7 +50,7 @@ pub(crate) fn make<D: Disk>(
     ensures { IsMade D.Disk (turn_by user.now request.now loaded.now fetched.now now)
         state.old state.new result }
 {
-    let _records = state.position();
+    state.recall();
     step(alloc, state, user, request, loaded, fetched, now)
 }
 

@@ -4,14 +4,14 @@ ghost use Rattle.up_entry.specs.Checking.{Gives, path_or};
 ghost use Rattle.up_entry.specs.declared.what.What.TheVariants as what;
 ghost use Rattle.up_names.specs.Texts.{UserName};
 ghost use Rattle.up_names.specs.declared.fault.NameFault.TheVariants as name;
-ghost use Rattle.up_log_tree.specs.Rights.{is_group};
 ghost use Rattle.up_policy.specs.Trees.{owns_snapshots};
 ghost use Rattle.up_wire.specs.declared.requests.Request.TheVariants as request;
 ghost use Rattle.up_list.specs.Asking.{asked_of, owner_asked, pattern_or_fault};
 
 use std::alloc::Global;
 use up_entry::{Checked, EntryFault, What, check_entry};
-use up_names::{Control, NameFault, Path, User, parse_path};
+use up_mem_tree::is_group;
+use up_names::{NameFault, Path, User, parse_path};
 use up_pattern::{Pattern, PatternFault, parse_pattern};
 use up_policy::owns_snapshots;
 use up_wire::Request;
@@ -138,15 +138,5 @@ fn pattern_asked(alloc: Global, text: &[u8]) -> Result<Pattern, EntryFault>
         Err(PatternFault::Name) => Err(EntryFault::Invalid(What::Name)),
         Err(PatternFault::Element(place)) => Err(EntryFault::Invalid(What::Pattern(place))),
         Err(PatternFault::OutOfMemory) => Err(EntryFault::OutOfMemory),
-    }
-}
-
-/// Whether a path is for a Group file.
-fn is_group(path: &Path) -> bool
-    ensures { result ≡ is_group path.now }
-{
-    match path.control_kind() {
-        Control::Group => true,
-        Control::Access | Control::Ordinary => false,
     }
 }

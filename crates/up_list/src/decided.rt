@@ -1,13 +1,13 @@
 //! Rights that were decided already.
 ghost use Rattle.std.specs.Prelude.{◌≡◌, IfOk, None};
 ghost use Rattle.up_names.specs.PathNames.{PathName};
-ghost use Rattle.up_policy.specs.Verdicts.{is_control};
 ghost use Rattle.up_list.specs.Deciding.{AreGovernedAlike, decided_for, IsDecided, with_decided};
 ghost use Rattle.up_list.specs.Looks.{rights};
 
 use crate::onlooker::Onlooker;
 use std::alloc::{AllocError, Global};
-use up_names::{Control, Path};
+use up_names::Path;
+use up_policy::is_control;
 use up_rights::RightSet;
 
 /// What was decided of a user's rights under one text that governs: they are the same on all ordinary paths that it governs,
@@ -70,15 +70,5 @@ impl Decided {
         } else {
             self.ordinary = Some(held);
         }
-    }
-}
-
-/// Whether a path is for an Access or a Group file.
-fn is_control(path: &Path) -> bool
-    ensures { result ≡ is_control path.now }
-{
-    match path.control_kind() {
-        Control::Ordinary => false,
-        Control::Access | Control::Group => true,
     }
 }

@@ -38,4 +38,5 @@ pub use onlooker::Onlooker;
 pub use reads::{group_text, lookup, which_access};
 pub use state::{first_link, glob};
 pub use tree_view::TreeView;
+pub use up_mem_tree::is_group;
 pub use view::{MemView, TreeLook, path_made};

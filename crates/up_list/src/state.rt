@@ -50,7 +50,7 @@ fn link_on_way(tree: &MemTree, path: &Path) -> Result<Option<Path>, AllocError>
     ensures { IfOk result (λ found. found
         ≡ option_map name_of (first_link (tree_of tree.now.log) (tested true path.now))) }
 {
-    let _records = tree.position();
+    tree.recall();
     match link_of(standing(tree, path)) {
         Some(link) => Ok(Some(link.name.clone()?)),
         None => Ok(None),

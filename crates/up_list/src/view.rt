@@ -147,13 +147,13 @@ impl Onlooker for TreeLook<'_> {
 
     #[tactic(auto, using(crate::proofs::ViewLemmas::rooted_log))]
     fn item(&self, _alloc: Global, path: &Path) -> Result<Option<Found<'_>>, AllocError> {
-        let _records = self.tree.position();
+        self.tree.recall();
         Ok(kept(self.tree.node(path)))
     }
 
     #[tactic(auto, using(crate::proofs::ViewLemmas::rooted_log))]
     fn item_on_way(&self, _alloc: Global, path: &Path) -> Result<Option<Found<'_>>, AllocError> {
-        let _records = self.tree.position();
+        self.tree.recall();
         Ok(kept(standing(self.tree, path)))
     }
 
@@ -207,7 +207,7 @@ fn items_of<'a>(alloc: Global, tree: &'a MemTree, dir: &Path) -> Result<Vec<Foun
     ensures { IfOk result (λ found. map entry_found found.items
         ≡ entries_in (tree_of tree.now.log) dir.now) }
 {
-    let _records = tree.position();
+    tree.recall();
     let mut items = Vec::new(alloc);
     for i in 0..u64::MAX {
         let Some(path) = tree.child(dir, i) else {

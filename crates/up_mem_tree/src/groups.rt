@@ -11,7 +11,7 @@ use up_entry::Rec;
 use up_names::{Control, Path};
 
 /// Whether a path is for a Group file.
-fn is_group(path: &Path) -> bool
+pub fn is_group(path: &Path) -> bool
     ensures { result ≡ is_group path.now }
 {
     match path.control_kind() {

@@ -160,8 +160,13 @@ impl MemTree {
         &self.kept.owner
     }
 
-    /// The number of records. What it says besides holds of every tree at every moment: each record fits those before it, and the
-    /// owner is no snapshot user.
+    /// Does nothing. What it says holds of every tree at every moment: each record fits those before it, and the owner is no snapshot
+    /// user. Whoever builds on that calls it for what it says.
+    pub fn recall(&self)
+        ensures log { IsLog self.now.owner self.now.log }
+    {}
+
+    /// The number of records. What it says besides holds of every tree at every moment, as [`MemTree::recall`] has it.
     pub fn position(&self) -> u64
         ensures count { result ≡ length self.now.log }
         ensures log { IsLog self.now.owner self.now.log }

@@ -31,4 +31,4 @@ pub use loaded::Loaded;
 pub use map_facts::MapFacts;
 pub use names::Names;
 pub use needed_groups::needs;
-pub use verdicts::{can, rights_of};
+pub use verdicts::{can, is_control, rights_of};

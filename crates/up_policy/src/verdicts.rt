@@ -205,7 +205,7 @@ fn only_looks(right: Right) -> bool
 }
 
 /// Whether a path is for an Access or a Group file.
-fn is_control(path: &Path) -> bool
+pub fn is_control(path: &Path) -> bool
     ensures { result ≡ is_control path.now }
 {
     match path.control_kind() {

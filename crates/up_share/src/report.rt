@@ -191,7 +191,7 @@ fn tell_governed<D: Disk>(
         known.old known.new text.old.items text.new.items) }
 {
     // That the owner is no snapshot user is told here.
-    let _records = state.position();
+    state.recall();
     known.learn(alloc, state, dir)?;
     let Some(word) = known.words.get(dir) else {
         unreachable!()
@@ -215,7 +215,7 @@ fn tell_ungoverned<D: Disk>(
         known.old known.new text.old.items text.new.items) }
 {
     // That the owner is no snapshot user is told here.
-    let _records = state.position();
+    state.recall();
     let word = known.search(alloc, state, &[])?;
     push_line(text, path, word.as_slice())
 }

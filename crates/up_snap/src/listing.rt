@@ -45,7 +45,7 @@ pub(crate) fn items_in<'a>(
     if dir.len() < 4 {
         return made_items(alloc, tree, snap_user, dir);
     }
-    let _records = tree.position();
+    tree.recall();
     match first_to(alloc, tree, snap_user, dir)? {
         Some(shown) => kept_items(alloc, tree, dir, shown),
         None => Ok(Vec::new(alloc)),
@@ -82,7 +82,7 @@ fn kept_items<'a>(
     ensures { IfOk result (λ found. map entry_found found.items
         ≡ entries_in (snapshots_to tree.now.owner tree.now.log (length tree.now.log)) dir.now) }
 {
-    let _records = tree.position();
+    tree.recall();
     let old = old_path(tree.owner(), dir)?;
     kept_under(alloc, tree, dir, &old, shown.position - 1)
 }
@@ -206,7 +206,7 @@ fn made_under<'a>(
     ensures { IfOk result (λ found. map entry_found found.items
         ≡ entries_in (snapshots_to tree.now.owner tree.now.log (length tree.now.log)) dir.now) }
 {
-    let _records = tree.position();
+    tree.recall();
     let mut items = Vec::new(alloc);
     for i in 0..u64::MAX {
         let Some(path) = names.key_at(i) else {
@@ -231,7 +231,7 @@ fn made_item<'a>(
     ensures { IfOk result (λ found. option_map entry_found found
         ≡ entry_at (snapshots_to tree.now.owner tree.now.log (length tree.now.log)) path.now) }
 {
-    let _records = tree.position();
+    tree.recall();
     match first {
         Some(shown) => item_by(alloc, tree, path, *shown),
         None => Ok(None),
@@ -249,7 +249,7 @@ fn names_in(
     ensures { IfOk result (λ names. IsNaming snap_user.now tree.now.log dir.now
         (keys_of (snapshots_of tree.now.log)) names.entries) }
 {
-    let _records = tree.position();
+    tree.recall();
     let mut names = OrderedMap::new(alloc);
     for i in 0..u64::MAX {
         let Some(time) = tree.snap_time(i) else {

@@ -68,12 +68,12 @@ impl Onlooker for SnapLook<'_> {
     }
 
     fn item(&self, alloc: Global, path: &Path) -> Result<Option<Found<'_>>, AllocError> {
-        let _records = self.tree.position();
+        self.tree.recall();
         item_at(alloc, self.tree, self.snap_user, path)
     }
 
     fn item_on_way(&self, alloc: Global, path: &Path) -> Result<Option<Found<'_>>, AllocError> {
-        let _records = self.tree.position();
+        self.tree.recall();
         item_on_way(alloc, self.tree, self.snap_user, path)
     }
 
@@ -95,7 +95,7 @@ impl Onlooker for SnapLook<'_> {
     }
 
     fn governing(&self, _alloc: Global, _path: &Path) -> Result<Option<Found<'_>>, AllocError> {
-        let _records = self.tree.position();
+        self.tree.recall();
         Ok(None)
     }
 
@@ -187,7 +187,7 @@ fn item_above<'a>(
     ensures { IfOk result (λ found. option_map entry_found found
         ≡ entry_on_way (snapshots_to tree.now.owner tree.now.log (length tree.now.log)) path.now) }
 {
-    let _records = tree.position();
+    tree.recall();
     let mut low = 0;
     let mut high = path.len();
     while low < high {
@@ -257,7 +257,7 @@ fn item_among<'a>(
         ≡ entry_at (snapshots_to tree.now.owner tree.now.log (length tree.now.log))
         (extended dir.now name.now)) }
 {
-    let _records = tree.position();
+    tree.recall();
     let items = items_in(alloc, tree, snap_user, dir)?;
     copy_named(items.as_slice(), dir.len(), name)
 }

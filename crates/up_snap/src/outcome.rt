@@ -132,7 +132,7 @@ fn snapshot_record(tree: &MemTree, snap_user: &User, now: u64) -> Result<Led, Al
     ensures fits { IfOk result (λ led. IfOk led (Fits tree.now.owner tree.now.log)) }
 {
     let _text = snap_user.text();
-    let _records = tree.position();
+    tree.recall();
     if has_no_root(tree)? {
         return Ok(Err(Reply::NotExist));
     }

@@ -70,7 +70,7 @@ fn first_above(
     ensures { IfOk result (λ first. first
         ≡ first_to snap_user.now tree.now.log path.now (length tree.now.log)) }
 {
-    let _records = tree.position();
+    tree.recall();
     let mut first = None;
     for i in 0..u64::MAX {
         let Some(time) = tree.snap_time(i) else {
@@ -93,7 +93,7 @@ fn first_below(
     ensures { IfOk result (λ first. first
         ≡ first_to snap_user.now tree.now.log path.now (length tree.now.log)) }
 {
-    let _records = tree.position();
+    tree.recall();
     match moment_of(path) {
         Some(time) => sooner_to(alloc, tree, snap_user, path, time, None),
         None => Ok(None),
@@ -188,7 +188,7 @@ pub(crate) fn standing_at<'a>(
         ≡ node_at (snapshots_to tree.now.owner tree.now.log (length tree.now.log)) path.now) }
     ensures timed { IfOk result (λ found. IfSome found IsTimed) }
 {
-    let _records = tree.position();
+    tree.recall();
     match first_to(alloc, tree, snap_user, path)? {
         Some(shown) => standing_by(alloc, tree, path, shown),
         None => Ok(None),

@@ -44,7 +44,7 @@ pub(crate) fn old_tree(tree: &MemTree, n: u64) -> Result<Old, AllocError>
     ensures { IfOk result (λ old. old ≡ tree_at tree.now.log n) }
 {
     // That the owner is no snapshot user is told here.
-    let _records = tree.position();
+    tree.recall();
     let mut old = MemTree::new(tree.owner().allocator(), tree.owner().clone()?);
     match enter_first(&mut old, tree, n) {
         Ok(()) => Ok(Old { tree: old }),
@@ -78,7 +78,7 @@ fn enter_next(old: &mut MemTree, tree: &MemTree, i: u64) -> Result<(), AllocErro
     ensures log { OnOk result (old.new.log ≡ take (i + 1) tree.now.log) }
 {
     // That each record fits those before it is told here.
-    let _records = tree.position();
+    tree.recall();
     let Some(rec) = tree.rec_at(i + 1) else {
         return Ok(());
     };

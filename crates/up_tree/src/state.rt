@@ -109,7 +109,23 @@ impl<D: Disk> TreeState<D> {
         self.tree.owner()
     }
 
-    /// The number of records. What it says besides holds of every tree at every moment.
+    /// Does nothing. What it says holds of every tree at every moment: each record fits those before it, the limits are some that a log
+    /// may have, and of the disk it says what a crash may leave, and whether a further record may stand there. Whoever builds on that
+    /// calls it for what it says.
+    pub fn recall(&self)
+        ensures log { IsLog self.now.owner self.now.log }
+        ensures limits { AreLimits self.now.limits }
+        ensures doubtful { IsSome (D.content self.now.disk)
+            → is_some self.now.further ≡ self.now.doubtful }
+        ensures safe { LeavesNow D.Disk self.now.disk
+            (StandsForLog (records_in self.now.owner self.now.limits.largest)
+            self.now.log self.now.further) }
+    {
+        self.tree.recall();
+        let _records = self.journal.len();
+    }
+
+    /// The number of records. What it says besides holds of every tree at every moment, as [`TreeState::recall`] has it.
     pub fn position(&self) -> u64
         ensures count { result ≡ length self.now.log }
         ensures log { IsLog self.now.owner self.now.log }
@@ -120,7 +136,7 @@ impl<D: Disk> TreeState<D> {
             (StandsForLog (records_in self.now.owner self.now.limits.largest)
             self.now.log self.now.further) }
     {
-        let _records = self.journal.len();
+        self.recall();
         self.tree.position()
     }
 

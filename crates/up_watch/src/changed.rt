@@ -48,7 +48,7 @@ fn entry_deleted(tree: &MemTree, n: u64) -> Option<&Entry>
     ensures { (path : PathName) → record_at tree.now.log n ≡ Some (Delete path)
         → option_copied result ≡ entry_at (tree_at tree.now.log (n - 1)) path }
 {
-    let _records = tree.position();
+    tree.recall();
     match tree.change_before(n) {
         Some(before) => entry_put(tree, before),
         None => None,

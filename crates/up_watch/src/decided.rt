@@ -3,7 +3,6 @@ ghost use Rattle.std.specs.Prelude.{◌≡◌, ◌≤◌, [], IfOk, IfSome, if�
 ghost use Rattle.std.specs.FinMap.Entries.{put};
 ghost use Rattle.up_list.specs.Looks.{rights};
 ghost use Rattle.up_names.specs.PathOrder.{path_cmp};
-ghost use Rattle.up_policy.specs.Verdicts.{is_control};
 ghost use Rattle.up_log_tree.specs.Rights.{facts_of, governing_prefix};
 ghost use Rattle.up_log_tree.specs.Trees.{tree_at};
 ghost use Rattle.up_watch.specs.Decided.{AreDecided, IsGiven, given_in, rights_by};
@@ -13,7 +12,8 @@ use crate::watcher::Reader;
 use std::alloc::{AllocError, Global};
 use up_maps::OrderedMap;
 use up_mem_tree::MemTree;
-use up_names::{Control, Path};
+use up_names::Path;
+use up_policy::is_control;
 use up_rights::RightSet;
 
 /// The rights that a text gave in the tree as it was after the first `at` records.
@@ -101,7 +101,7 @@ impl Decided {
         ensures decided { AreDecided reader.now self.new }
     {
         let tree = reader.tree();
-        let _records = tree.position();
+        tree.recall();
         let Some(dir) = governing_dir(tree, n, path)? else {
             return reader.rights_after(alloc, path, n);
         };
@@ -139,14 +139,4 @@ fn governing_dir(tree: &MemTree, n: u64, path: &Path) -> Result<Option<Path>, Al
         dir.shorten(len);
     }
     Ok(Some(dir))
-}
-
-/// Whether a path is for an Access or a Group file.
-fn is_control(path: &Path) -> bool
-    ensures { result ≡ is_control path.now }
-{
-    match path.control_kind() {
-        Control::Ordinary => false,
-        Control::Access | Control::Group => true,
-    }
 }

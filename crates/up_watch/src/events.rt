@@ -28,7 +28,7 @@ pub(crate) fn event_by(
     ensures known { Remembers reader.now known.new }
 {
     let tree = reader.tree();
-    let _records = tree.position();
+    tree.recall();
     let Some(changed) = changed_by(tree, n) else {
         return Ok(None);
     };

@@ -30,7 +30,7 @@ pub fn turn(
 /// Adds a record where it fits: `ok` and its position, or `unfit`, or why not.
 pub fn add(tree: &mut TreeState<MemDisk>, rec: Rec, answer: &mut Answer) {
     fits_is_told_by_rules();
-    let _records = tree.position();
+    tree.recall();
     match tree.fits(&rec) {
         Ok(true) if rec_size(&rec) <= tree.largest() => add_appended(tree.apply(rec), answer),
         fitting => {

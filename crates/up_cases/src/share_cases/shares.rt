@@ -102,7 +102,7 @@ impl Stage {
     #[tactic(auto, unfolding(up_log_tree::specs::Rights::facts_of))]
     fn readers(&self, alloc: Global, path: &str, answer: &mut Answer) -> Result<(), Fault> {
         // That the owner is no snapshot user is told here.
-        let _records = self.tree.position();
+        self.tree.recall();
         let path = path_in(alloc, self.tree.owner(), path)?;
         let view = TreeView::new(&self.tree);
         let readers = readers_of(alloc, &view, &self.given.loaded, &path)?;

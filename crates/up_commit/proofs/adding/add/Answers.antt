@@ -14,12 +14,12 @@ returns-then-size-largest-clause-steps g c =
 
 pub apply-requires-clause-size : goal.apply-requires-clause-size
 apply-requires-clause-size g c =
-    within (size_of c.args.rec) c.rec_size-size.result c.args.state.now.limits.largest c.rec_size-size.ensures (c.position-records.ensures.limits).largest (subst (λ n. c.rec_size-size.result ≤ n) c.largest.ensures c.if-size-largest.false)
+    within (size_of c.args.rec) c.rec_size-size.result c.args.state.now.limits.largest c.rec_size-size.ensures (c.recall.ensures.limits).largest (subst (λ n. c.rec_size-size.result ≤ n) c.largest.ensures c.if-size-largest.false)
 
 pub returns-clause-steps : goal.returns-clause-steps
 returns-clause-steps g c =
     subst (λ answered. Steps g.D.Disk (answer_of (log_of c.args.state.now) (Ok c.args.rec)) (added_by (log_of c.args.state.now) (Ok c.args.rec)) c.args.state.now c.apply.new.self answered) (sym c.applied_reply.ensures)
     (steps_applied g.D.Disk c.args.rec c.args.state.now c.apply.new.self
     (not_above (size_of c.args.rec) c.args.state.now.limits.largest
-    (within (size_of c.args.rec) c.rec_size-size.result c.args.state.now.limits.largest c.rec_size-size.ensures (c.position-records.ensures.limits).largest (subst (λ n. c.rec_size-size.result ≤ n) c.largest.ensures c.if-size-largest.false)))
+    (within (size_of c.args.rec) c.rec_size-size.result c.args.state.now.limits.largest c.rec_size-size.ensures (c.recall.ensures.limits).largest (subst (λ n. c.rec_size-size.result ≤ n) c.largest.ensures c.if-size-largest.false)))
     c.apply.result c.apply.ensures.applies)

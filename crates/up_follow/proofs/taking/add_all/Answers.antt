@@ -7,7 +7,7 @@ use Rattle.up_follow.proofs.taking.add_all.Goals as goal
 
 pub loop-text-init : goal.loop-text-init
 loop-text-init g c = record {
-  taking = taking_none g.D.Disk g.met.D.Disk.only_now c.args.tree.now c.args.batch.now c.position-records.ensures.safe;
+  taking = taking_none g.D.Disk g.met.D.Disk.only_now c.args.tree.now c.args.batch.now c.recall.ensures.safe;
   cause = HasCause-same (g.D.Disk.faults c.args.tree.now.disk) ⊥ (λ none. absurd none);
   quiet = StaysUnless-same (g.D.Disk.faults c.args.tree.now.disk) ⊥;
   grows = grows_same g.D.Disk c.args.tree.now;

@@ -13,14 +13,14 @@ loop-init c =
 -- no place is left
 pub returns-in_default-clause-found : goal.returns-in_default-clause-found
 returns-in_default-clause-found c =
-    walks_ended c.args.tree.now.owner c.args.tree.now.log c.position-records.ensures.log c.args.looked_for.now c.args.start.now c.requires.owned c.requires.start
+    walks_ended c.args.tree.now.owner c.args.tree.now.log c.recall.ensures.log c.args.looked_for.now c.args.start.now c.requires.owned c.requires.start
     (keys_of c.loop.walk.found.entries) c.loop.walk.places.items c.loop.invariant
     (c.in_default.ensures.items ∙ ap (λ rest. rest ++ []) (c.in_default.ensures.rest ∙ ap (λ n. take (n - 1) c.loop.walk.places.items) c.in_default.ensures.cases.0))
 
 pub returns-in_default-clause-owned : goal.returns-in_default-clause-owned
 returns-in_default-clause-owned c =
-    found_owned c.args.tree.now.owner c.args.tree.now.log c.position-records.ensures.log (wanted c.args.looked_for.now) (keys_of c.loop.walk.found.entries)
-    (walks_ended c.args.tree.now.owner c.args.tree.now.log c.position-records.ensures.log c.args.looked_for.now c.args.start.now c.requires.owned c.requires.start
+    found_owned c.args.tree.now.owner c.args.tree.now.log c.recall.ensures.log (wanted c.args.looked_for.now) (keys_of c.loop.walk.found.entries)
+    (walks_ended c.args.tree.now.owner c.args.tree.now.log c.recall.ensures.log c.args.looked_for.now c.args.start.now c.requires.owned c.requires.start
     (keys_of c.loop.walk.found.entries) c.loop.walk.places.items c.loop.invariant
     (c.in_default.ensures.items ∙ ap (λ rest. rest ++ []) (c.in_default.ensures.rest ∙ ap (λ n. take (n - 1) c.loop.walk.places.items) c.in_default.ensures.cases.0)))
 

@@ -12,7 +12,7 @@ pub returns-in_ok-clone-in-Some : goal.returns-in_ok-clone-in-Some
 returns-in_ok-clone-in-Some c =
     let tree = tree_of c.args.tree.now.log in
     let met : option_copied c.link_of.result ≡ first_link tree (ways c.args.path.now) =
-    c.link_of.ensures ∙ (ap (option_and_then if_link) c.standing.ensures ∙ sym (first_link_on_way c.args.tree.now.owner tree c.args.path.now (rooted_log c.args.tree.now.owner c.args.tree.now.log c.position-records.ensures.log))) in
+    c.link_of.ensures ∙ (ap (option_and_then if_link) c.standing.ensures ∙ sym (first_link_on_way c.args.tree.now.owner tree c.args.path.now (rooted_log c.args.tree.now.owner c.args.tree.now.log c.recall.ensures.log))) in
     ap Some c.in_ok-clone-in-Some.ensures.cases
     ∙ ap (option_map name_of) (sym (ap option_copied c.in-Some.is) ∙ met)
 
@@ -20,5 +20,5 @@ pub returns-in-None : goal.returns-in-None
 returns-in-None c =
     let tree = tree_of c.args.tree.now.log in
     let met : option_copied c.link_of.result ≡ first_link tree (ways c.args.path.now) =
-    c.link_of.ensures ∙ (ap (option_and_then if_link) c.standing.ensures ∙ sym (first_link_on_way c.args.tree.now.owner tree c.args.path.now (rooted_log c.args.tree.now.owner c.args.tree.now.log c.position-records.ensures.log))) in
+    c.link_of.ensures ∙ (ap (option_and_then if_link) c.standing.ensures ∙ sym (first_link_on_way c.args.tree.now.owner tree c.args.path.now (rooted_log c.args.tree.now.owner c.args.tree.now.log c.recall.ensures.log))) in
     ap (option_map name_of) (sym (ap option_copied c.in-None.is) ∙ met)

@@ -10,14 +10,14 @@ use Rattle.up_list.proofs.view.items_of.Goals as goal
 pub returns-in_default : goal.returns-in_default
 returns-in_default c =
     let tree = c.args.tree.now in
-    items_end tree.owner (tree_of tree.log) (rooted_log tree.owner tree.log c.position-records.ensures.log) c.args.dir.now c.loop-i.i (map entry_found c.loop-i.items.items)
+    items_end tree.owner (tree_of tree.log) (rooted_log tree.owner tree.log c.recall.ensures.log) c.args.dir.now c.loop-i.i (map entry_found c.loop-i.items.items)
     (sym c.child.ensures ∙ ap option_copied c.in_default.is) c.loop-i.invariant
 
 -- a child stands
 pub unreachable-requires : goal.unreachable-requires
 unreachable-requires c =
     let tree = c.args.tree.now in
-    child_stands tree.owner (tree_of tree.log) (rooted_log tree.owner tree.log c.position-records.ensures.log) c.args.dir.now c.loop-i.i c.in-Some.path.now
+    child_stands tree.owner (tree_of tree.log) (rooted_log tree.owner tree.log c.recall.ensures.log) c.args.dir.now c.loop-i.i c.in-Some.path.now
     (sym c.child.ensures ∙ ap option_copied c.in-Some.is) (sym c.node.ensures ∙ ap option_copied c.in_default-node.is)
 
 -- one item more
@@ -26,5 +26,5 @@ loop-i-preserved c =
     let tree = c.args.tree.now in
     ap (map entry_found) c.in_ok-push.ensures.items
     ∙ (map-append entry_found c.loop-i.items.items (_ ∷ [])
-    ∙ items_on tree.owner (tree_of tree.log) (rooted_log tree.owner tree.log c.position-records.ensures.log) c.args.dir.now c.loop-i.i c.in-Some.path.now c.in-Some-node.node.now (map entry_found c.loop-i.items.items)
+    ∙ items_on tree.owner (tree_of tree.log) (rooted_log tree.owner tree.log c.recall.ensures.log) c.args.dir.now c.loop-i.i c.in-Some.path.now c.in-Some-node.node.now (map entry_found c.loop-i.items.items)
     (sym c.child.ensures ∙ ap option_copied c.in-Some.is) (sym c.node.ensures ∙ ap option_copied c.in-Some-node.is) c.loop-i.invariant)

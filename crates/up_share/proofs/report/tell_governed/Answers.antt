@@ -9,4 +9,4 @@ use Rattle.up_share.proofs.report.tell_governed.Goals as goal
 pub returns : goal.returns
 returns g c =
     on_ok c.push_line.result (λ is. told_governed c.args.state.now.owner (tree_of c.args.state.now.log) c.args.path.now c.args.dir.now c.args.known.now c.learn.new.self c.args.text.now.items c.push_line.new.text.items c.in-Some.word.now
-    c.position-records.ensures.log.plain c.requires.governs c.requires.file c.in_ok-learn.ensures.searched c.in-Some.ensures (is ∙ ap (λ (w : List ℕ). c.args.text.now.items ++ (coded (canonical c.args.path.now) ++ codes " " ++ w ++ codes "\n")) c.as_slice.ensures)) c.push_line.ensures
+    c.recall.ensures.log.plain c.requires.governs c.requires.file c.in_ok-learn.ensures.searched c.in-Some.ensures (is ∙ ap (λ (w : List ℕ). c.args.text.now.items ++ (coded (canonical c.args.path.now) ++ codes " " ++ w ++ codes "\n")) c.as_slice.ensures)) c.push_line.ensures

@@ -9,4 +9,4 @@ use Rattle.up_share.proofs.report.tell_ungoverned.Goals as goal
 pub returns : goal.returns
 returns g c =
     on_ok c.push_line.result (λ is. told_ungoverned c.args.state.now.owner (tree_of c.args.state.now.log) c.args.path.now c.args.known.now c.search.new.self c.args.text.now.items c.push_line.new.text.items c.in_ok-word.word
-    c.position-records.ensures.log.plain c.requires.none c.requires.file c.in_ok-word.ensures.searched c.in_ok-word.ensures.word (is ∙ ap (λ (w : List ℕ). c.args.text.now.items ++ (coded (canonical c.args.path.now) ++ codes " " ++ w ++ codes "\n")) c.as_slice.ensures)) c.push_line.ensures
+    c.recall.ensures.log.plain c.requires.none c.requires.file c.in_ok-word.ensures.searched c.in_ok-word.ensures.word (is ∙ ap (λ (w : List ℕ). c.args.text.now.items ++ (coded (canonical c.args.path.now) ++ codes " " ++ w ++ codes "\n")) c.as_slice.ensures)) c.push_line.ensures

@@ -23,5 +23,5 @@ pub returns-in-None : goal.returns-in-None
 returns-in-None c =
     let tree = c.args.tree.now in
     ap (map entry_found) c.new.ensures.items
-    ∙ nothing_listed tree.owner tree.log c.position-records.ensures.log c.args.dir.now
+    ∙ nothing_listed tree.owner tree.log c.recall.ensures.log c.args.dir.now
     (ap (λ o. first_to o tree.log c.args.dir.now (length tree.log)) (sym c.requires) ∙ (sym c.in_ok-shown.ensures ∙ c.in-None.is))

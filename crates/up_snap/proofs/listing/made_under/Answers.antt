@@ -15,7 +15,7 @@ pub returns-in_default : goal.returns-in_default
 returns-in_default c =
     let tree = c.args.tree.now in
     let names = c.args.names.now.entries in
-    made_listed tree.owner tree.log c.position-records.ensures.log c.args.dir.now names c.requires (map entry_found c.loop-i.items.items)
+    made_listed tree.owner tree.log c.recall.ensures.log c.args.dir.now names c.requires (map entry_found c.loop-i.items.items)
     (made_all (entry_at (snapshots_to tree.owner tree.log (length tree.log))) (keys_of names) c.loop-i.i (map entry_found c.loop-i.items.items)
     (sym c.key_at.ensures ∙ ap option_copied c.in_default.is) c.loop-i.invariant)
 
@@ -23,7 +23,7 @@ pub made_item-requires : goal.made_item-requires
 made_item-requires c =
     let tree = c.args.tree.now in
     c.get.ensures
-    ∙ key_first tree.owner tree.log c.position-records.ensures.log c.args.dir.now c.args.names.now.entries c.requires
+    ∙ key_first tree.owner tree.log c.recall.ensures.log c.args.dir.now c.args.names.now.entries c.requires
     c.loop-i.i c.in-Some.path.now (sym c.key_at.ensures ∙ ap option_copied c.in-Some.is)
 
 pub loop-i-preserved : goal.loop-i-preserved

@@ -18,7 +18,7 @@ returns-in_default c =
 pub add_name-requires-clause-moment : goal.add_name-requires-clause-moment
 add_name-requires-clause-moment c =
     let tree = c.args.tree.now in
-    moment_in tree.owner c.args.snap_user.now tree.log c.position-records.ensures.log c.args.dir.now c.loop-i.i c.in-Some.time (sym c.snap_time.ensures ∙ c.in-Some.is)
+    moment_in tree.owner c.args.snap_user.now tree.log c.recall.ensures.log c.args.dir.now c.loop-i.i c.in-Some.time (sym c.snap_time.ensures ∙ c.in-Some.is)
 
 pub loop-i-preserved : goal.loop-i-preserved
 loop-i-preserved c =

@@ -22,5 +22,5 @@ returns c =
     ∙ ap (λ n. find (has_name n name) (map entry_found c.in_ok-items.items.items)) c.len.ensures
     ∙ ap (find (has_name (length dir.elements) name)) c.in_ok-items.ensures
     ∙ named_is (record { owner = snapshot_user tree.owner; tree = snapshots_to tree.owner tree.log (length tree.log); loaded = []; user = tree.owner }) dir name
-    (shown_rooted tree.owner tree.log c.position-records.ensures.log) in
+    (shown_rooted tree.owner tree.log c.recall.ensures.log) in
     IfOk-weaker c.copy_named.result _ _ (λ found e. e ∙ same) c.copy_named.ensures

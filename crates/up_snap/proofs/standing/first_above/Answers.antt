@@ -12,12 +12,12 @@ returns-in_default c =
     let tree = c.args.tree.now in
     c.loop-i.invariant
     ∙ least_all c.args.snap_user.now tree.log c.args.path.now (keys_of (snapshots_of tree.log)) c.loop-i.i (sym c.snap_time.ensures ∙ c.in_default.is)
-    ∙ least_is tree.owner c.args.snap_user.now tree.log c.position-records.ensures.log c.args.path.now
+    ∙ least_is tree.owner c.args.snap_user.now tree.log c.recall.ensures.log c.args.path.now
 
 pub sooner_to-requires : goal.sooner_to-requires
 sooner_to-requires c =
     let tree = c.args.tree.now in
-    moment_in tree.owner c.args.snap_user.now tree.log c.position-records.ensures.log c.args.path.now c.loop-i.i c.in-Some.time (sym c.snap_time.ensures ∙ c.in-Some.is)
+    moment_in tree.owner c.args.snap_user.now tree.log c.recall.ensures.log c.args.path.now c.loop-i.i c.in-Some.time (sym c.snap_time.ensures ∙ c.in-Some.is)
 
 pub loop-i-preserved : goal.loop-i-preserved
 loop-i-preserved c =

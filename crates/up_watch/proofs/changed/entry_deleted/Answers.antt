@@ -6,9 +6,9 @@ use Rattle.up_watch.proofs.changed.entry_deleted.Goals as goal
 pub returns-in-Some : goal.returns-in-Some
 returns-in-Some c =
     let tree = c.args.tree.now in
-    λ path is. deleted_some tree.owner tree.log c.position-records.ensures.log c.args.n path is c.in-Some.before (option_copied c.entry_put.result) (sym c.in-Some.is ∙ c.change_before.ensures) c.entry_put.ensures
+    λ path is. deleted_some tree.owner tree.log c.recall.ensures.log c.args.n path is c.in-Some.before (option_copied c.entry_put.result) (sym c.in-Some.is ∙ c.change_before.ensures) c.entry_put.ensures
 
 pub returns-in-None : goal.returns-in-None
 returns-in-None c =
     let tree = c.args.tree.now in
-    λ path is. deleted_none tree.owner tree.log c.position-records.ensures.log c.args.n path is (sym c.in-None.is ∙ c.change_before.ensures)
+    λ path is. deleted_none tree.owner tree.log c.recall.ensures.log c.args.n path is (sym c.in-None.is ∙ c.change_before.ensures)

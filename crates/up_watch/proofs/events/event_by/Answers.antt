@@ -10,7 +10,7 @@ pub rights_on-requires-clause-owned : goal.rights_on-requires-clause-owned
 rights_on-requires-clause-owned c =
     let at : Some (change_of c.in-Some.changed) ≡ change_at c.args.reader.now.log (c.args.n - 1) =
     sym (ap (option_map change_of) c.in-Some.is) ∙ (c.changed_by.ensures ∙ ap (λ l. change_at l (c.args.n - 1)) c.tree-tree.ensures.log) in
-    owned_of c.args.reader.now _ _ c.tree-tree.ensures.owner c.tree-tree.ensures.log c.position-records.ensures.log c.args.n (change_of c.in-Some.changed) at
+    owned_of c.args.reader.now _ _ c.tree-tree.ensures.owner c.tree-tree.ensures.log c.recall.ensures.log c.args.n (change_of c.in-Some.changed) at
 
 -- no right now
 pub returns-then-is_empty-clause-event : goal.returns-then-is_empty-clause-event

@@ -10,4 +10,4 @@ pub apply-requires-clause-size : goal.apply-requires-clause-size
 apply-requires-clause-size c =
     within (length (spelling.rec c.args.rec)) c.args.tree.now.limits.largest
     (subst (λ n. n ≤ c.args.tree.now.limits.largest) c.rec_size.ensures (subst (λ most. c.rec_size.result ≤ most) c.largest.ensures c.if-rec_size-largest.true))
-    c.position-records.ensures.limits.largest
+    c.recall.ensures.limits.largest

@@ -8,7 +8,7 @@ use Rattle.up_snap.proofs.look.SnapLookOnlooker.governing.Goals as goal
 
 pub returns-clause-rooted : goal.returns-clause-rooted
 returns-clause-rooted c =
-    subst (λ (l : Look). IsRooted l.owner l.tree) c.self.view_is (shown_rooted c.self.inside.tree.now.owner c.self.inside.tree.now.log c.position-records.ensures.log)
+    subst (λ (l : Look). IsRooted l.owner l.tree) c.self.view_is (shown_rooted c.self.inside.tree.now.owner c.self.inside.tree.now.log c.recall.ensures.log)
 
 pub returns-clause-found : goal.returns-clause-found
 returns-clause-found c =

@@ -12,7 +12,7 @@ item_at-requires c = c.self.invariant.named
 
 pub returns-clause-rooted : goal.returns-clause-rooted
 returns-clause-rooted c =
-    subst (λ (l : Look). IsRooted l.owner l.tree) c.self.view_is (shown_rooted c.self.inside.tree.now.owner c.self.inside.tree.now.log c.position-records.ensures.log)
+    subst (λ (l : Look). IsRooted l.owner l.tree) c.self.view_is (shown_rooted c.self.inside.tree.now.owner c.self.inside.tree.now.log c.recall.ensures.log)
 
 pub returns-clause-found : goal.returns-clause-found
 returns-clause-found c = subst (λ (l : Look). IfOk c.item_at.result (λ found. option_map entry_found found ≡ entry_at l.tree c.args.path.now)) c.self.view_is c.item_at.ensures

@@ -2,7 +2,7 @@ use Rattle.up_entry.specs.Spelling as spelling
 use Rattle.up_journal.proofs.Logs.{keeps_doubtful, keeps_safe}
 use Rattle.up_log_tree.specs.Fits.{fits}
 use Rattle.up_tree.specs.States.{record_in}
-use Rattle.up_tree.proofs.state.TreeState.position.Goals as goal
+use Rattle.up_tree.proofs.state.TreeState.recall.Goals as goal
 
 pub returns-clause-safe : goal.returns-clause-safe
 returns-clause-safe g c =
