@@ -91,9 +91,10 @@ fn may_replace(found: Option<&Node>, kind: Kind) -> bool
     }
 }
 
-/// Whether a user has a snapshot tree.
+/// Whether a tree of this owner may have snapshots: the owner has no suffix, and a name of at most 245 bytes, to which `+snapshot` can be
+/// added.
 #[tactic(auto, using(crate::proofs::SnapUsers::has_room))]
-fn has_snapshots(owner: &User) -> bool
+pub fn has_snapshots(owner: &User) -> bool
     ensures { result ≡ has_snapshots owner.now }
 {
     owner.suffix().is_none() && owner.text().len() <= LONGEST_USER

@@ -32,6 +32,7 @@ mod starts;
 mod steps;
 mod walk;
 
+pub use fitting::has_snapshots;
 pub use groups::is_group;
 pub use laws::{
     fits_is_told_by_rules, fronts_are_logs, items_stand_below_directories,
