@@ -9,7 +9,7 @@ mod given;
 mod replies;
 mod trees;
 
-pub use asking::ask;
+pub use asking::{ask, ask_snapshots};
 pub use given::{Given, is_in_calendar, load_line, moment};
 pub use replies::{add_lines, add_reply};
 pub use trees::{WIDE, empty_tree, new_tree, owner_of, path_in, tree_of};

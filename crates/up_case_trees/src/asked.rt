@@ -5,10 +5,12 @@ use crate::looked::{could_line, look_line, met_line};
 use crate::tree::{put_files, record_turn};
 use std::alloc::Global;
 use std::hash::RandomState;
-use up_case_asks::{Given, add_lines, ask, path_in, tree_of};
+use up_case_asks::{Given, add_lines, ask, ask_snapshots, moment, path_in, tree_of};
 use up_case_lines::{Answer, Fault, Topic, Words, int_of, user_of};
 use up_disk::MemDisk;
+use up_mem_tree::has_snapshots;
 use up_names::User;
+use up_snap::snap_path;
 use up_tree::TreeState;
 use up_watch::watch;
 
@@ -69,12 +71,13 @@ impl Stage {
         answer: &mut Answer,
     ) -> Result<(), Fault> {
         match keyword {
-            "ask" | "watch" | "count" | "glob" | "lookup" | "which" | "could" => {
+            "ask" | "snapshots" | "watch" | "count" | "glob" | "lookup" | "which" | "could" => {
                 self.user_line(alloc, keyword, words, answer)
             }
             "met" | "above" => met_line(alloc, &self.tree, keyword, words, answer),
             "load" | "block" | "now" => self.given.turn(alloc, keyword, words),
             "files" => files_line(alloc, &mut self.tree, words, answer),
+            "root" => root_line(alloc, self.tree.owner(), words, answer),
             _ => record_turn(alloc, &mut self.tree, keyword, words, answer),
         }
     }
@@ -91,7 +94,7 @@ impl Stage {
         self.answer_to(alloc, &user, keyword, words, answer)
     }
 
-    // `ask USER WORDS`: the lines of the reply to what the words ask.
+    // `ask USER WORDS`: the lines of the reply to what the words ask. `snapshots` in its place: of the snapshots alone.
     fn answer_to(
         &mut self,
         alloc: Global,
@@ -102,6 +105,9 @@ impl Stage {
     ) -> Result<(), Fault> {
         match keyword {
             "ask" => ask(alloc, &mut self.tree, &mut self.given, user, words, answer),
+            "snapshots" => {
+                ask_snapshots(alloc, &mut self.tree, &mut self.given, user, words, answer)
+            }
             "watch" => self.watch_line(alloc, user, words, true, answer),
             "count" => self.watch_line(alloc, user, words, false, answer),
             "could" => could_line(alloc, &self.tree, &self.given.loaded, user, words, answer),
@@ -145,4 +151,21 @@ fn files_line(
 ) -> Result<(), Fault> {
     let count = words.number()?;
     put_files(alloc, tree, words.one()?, count, answer)
+}
+
+// `root MOMENT`: where the snapshot of a moment shows the root of the tree, which has to be one that may have snapshots.
+fn root_line(
+    alloc: Global,
+    owner: &User,
+    mut words: Words<'_>,
+    answer: &mut Answer,
+) -> Result<(), Fault> {
+    let time = moment(words.last_number()?)?;
+    if !has_snapshots(owner) {
+        return Err(Fault::BadLine);
+    }
+    let path = snap_path(alloc, owner, time)?;
+    answer.coded(path.as_str().as_bytes());
+    drop(path);
+    Ok(())
 }
