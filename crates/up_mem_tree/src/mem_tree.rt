@@ -164,7 +164,9 @@ impl MemTree {
     /// user. Whoever builds on that calls it for what it says.
     pub fn recall(&self)
         ensures log { IsLog self.now.owner self.now.log }
-    {}
+    {
+        let _kept = &self.kept;
+    }
 
     /// The number of records. What it says besides holds of every tree at every moment, as [`MemTree::recall`] has it.
     pub fn position(&self) -> u64
