@@ -77,8 +77,8 @@ fn enter_next(old: &mut MemTree, tree: &MemTree, i: u64) -> Result<(), AllocErro
     ensures owner { old.new.owner ≡ tree.now.owner }
     ensures log { OnOk result (old.new.log ≡ take (i + 1) tree.now.log) }
 {
-    // That each record fits those before it is told here.
-    tree.recall();
+    // That each record fits those before it, and their number its type, is told with the number.
+    let _records = tree.position();
     let Some(rec) = tree.rec_at(i + 1) else {
         return Ok(());
     };
