@@ -63,6 +63,14 @@ impl<'a, D: Disk, P: Loader> Ask for SessionAsk<'a, D, P> {
     ghost joined = { λ a b c p q. (q.0 ∙ p.0, q.1 ∙ p.1) };
 }
 
+// A file that is put: at a path, with a time and a sequence.
+struct NewFile<'a> {
+    path: &'a Path,
+    time: i64,
+    sequence: i64,
+    bytes: &'a [u8],
+}
+
 impl<D: Disk> Sessions<D> {
     /// The user of the session that is open at a number puts a file at a path, with a time and a sequence, at a moment in seconds since
     /// 1970, before the year 10000. `Failed` never comes, since the host always answers.
@@ -86,16 +94,19 @@ impl<D: Disk> Sessions<D> {
         let Some(opened) = opened_in(&self.sessions, number) else {
             unreachable!()
         };
+        let file = NewFile {
+            path,
+            time,
+            sequence,
+            bytes,
+        };
         put_at(
             alloc,
             &mut self.hosts,
             opened.place,
             peers,
             &opened.session,
-            path,
-            time,
-            sequence,
-            bytes,
+            file,
             Moment::of(now),
         )
     }
@@ -138,44 +149,18 @@ fn put_at<D: Disk, P: Loader>(
     place: usize,
     peers: &mut P,
     session: &Session,
-    path: &Path,
-    time: i64,
-    sequence: i64,
-    bytes: &[u8],
+    file: NewFile<'_>,
     moment: Moment,
 ) -> Result<u64, ClientFault>
     requires { place < length hosts.old }
     ensures { OneOf place (TalksTo D.Disk P.Loader (others place hosts.old) session.now.user moment
-        (put_talk session.now.user path.now time sequence bytes.now) result)
+        (put_talk session.now.user file.path.now file.time file.sequence file.bytes.now) result)
         hosts.old peers.old hosts.new peers.new }
 {
     let (before, rest) = hosts.split_at_mut(place);
     let Some((host, after)) = rest.split_first_mut() else {
         unreachable!()
     };
-    put_among(
-        alloc, host, before, after, peers, session, path, time, sequence, bytes, moment,
-    )
-}
-
-// Puts a file at a host among others: those before it, and those after it.
-fn put_among<D: Disk, P: Loader>(
-    alloc: Global,
-    host: &mut Host<D>,
-    before: &[Host<D>],
-    after: &[Host<D>],
-    peers: &mut P,
-    session: &Session,
-    path: &Path,
-    time: i64,
-    sequence: i64,
-    bytes: &[u8],
-    moment: Moment,
-) -> Result<u64, ClientFault>
-    ensures { TalksTo D.Disk P.Loader (before.now ++ after.now) session.now.user moment
-        (put_talk session.now.user path.now time sequence bytes.now) result
-        host.old host.new peers.old peers.new }
-{
     let mut ask = SessionAsk {
         host,
         before,
@@ -184,6 +169,12 @@ fn put_among<D: Disk, P: Loader>(
         session,
         moment,
     };
+    let NewFile {
+        path,
+        time,
+        sequence,
+        bytes,
+    } = file;
     put(alloc, &mut ask, session.user(), path, time, sequence, bytes)
 }
 
@@ -206,24 +197,6 @@ fn get_at<D: Disk, P: Loader>(
     let Some((host, after)) = rest.split_first_mut() else {
         unreachable!()
     };
-    get_among(alloc, host, before, after, peers, session, path, moment)
-}
-
-// Gets a file from a host among others: those before it, and those after it.
-fn get_among<D: Disk, P: Loader>(
-    alloc: Global,
-    host: &mut Host<D>,
-    before: &[Host<D>],
-    after: &[Host<D>],
-    peers: &mut P,
-    session: &Session,
-    path: &Path,
-    moment: Moment,
-) -> Result<Bytes, ClientFault>
-    ensures { TalksTo D.Disk P.Loader (before.now ++ after.now) session.now.user moment
-        (get_talk path.now) result
-        host.old host.new peers.old peers.new }
-{
     let mut ask = SessionAsk {
         host,
         before,
