@@ -1,7 +1,6 @@
 //! Put: the refusal, or the record that is added.
-ghost use Rattle.std.specs.Prelude.{◌≡◌, ◌+◌, IfOk, Some, length};
+ghost use Rattle.std.specs.Prelude.{◌≡◌, ◌+◌, IfOk, Some, length, option_map};
 ghost use Rattle.std.specs.Prelude as std;
-ghost use Rattle.std.specs.Option.{option_copied};
 ghost use Rattle.up_answers.specs.Puts.{holds, is_in_file, lacks_parent, place_refusal, put_outcome, sequence_refusal};
 ghost use Rattle.up_list.specs.Changes.{right_to_put, unless};
 ghost use Rattle.up_entry.specs.FixedForm.{HasFixedForm};
@@ -9,6 +8,7 @@ ghost use Rattle.up_entry.specs.declared.records.Rec.TheVariants as rec;
 ghost use Rattle.up_log_tree.specs.Fits.{Fits};
 ghost use Rattle.up_edits.specs.Puts.{may_put, recorded};
 ghost use Rattle.up_edits.specs.Trees.{look_in};
+ghost use Rattle.up_mem_tree.specs.Nodes.{node_of};
 ghost use Rattle.up_log_tree.specs.Trees.{Tree, is_file, kind_of, node_at, tree_of};
 
 use crate::texts::text_put;
@@ -16,8 +16,7 @@ use std::alloc::{AllocError, Global};
 use up_bytes::Bytes;
 use up_entry::{Checked, Entry, Fetch, Kind, Location, Rec};
 use up_list::{TreeLook, check};
-use up_log_tree::Node;
-use up_mem_tree::MemTree;
+use up_mem_tree::{MemTree, NodeRef};
 use up_names::{Path, User};
 use up_policy::Loaded;
 use up_rights::Right;
@@ -131,8 +130,8 @@ fn entry_behind(entry: &Entry, records: u64) -> Result<Entry, AllocError>
 }
 
 /// The right that a Put needs, by what stands there.
-fn right_to_put(found: Option<&Node>) -> Right
-    ensures { result ≡ right_to_put (option_copied found.entry) }
+fn right_to_put(found: Option<NodeRef<'_>>) -> Right
+    ensures { result ≡ right_to_put (option_map node_of found.entry) }
 {
     match found {
         None => Right::Create,
@@ -169,10 +168,15 @@ fn place_refusal(tree: &MemTree, put: &Checked) -> Result<Option<Reply>, AllocEr
 
 /// The same, once it is known whether the parent is not there, and whether it is a file.
 #[tactic(auto, unfolding(up_answers::specs::Puts::place_refusal))]
-fn refusal_at(found: Option<&Node>, orphan: bool, in_file: bool, put: &Checked) -> Option<Reply>
+fn refusal_at(
+    found: Option<NodeRef<'_>>,
+    orphan: bool,
+    in_file: bool,
+    put: &Checked,
+) -> Option<Reply>
     ensures { (tree : Tree) → orphan ≡ lacks_parent tree put.now.entry.name
         → in_file ≡ is_in_file tree put.now.entry.name
-        → unless result ≡ place_refusal (option_copied found.entry) tree put.now }
+        → unless result ≡ place_refusal (option_map node_of found.entry) tree put.now }
 {
     let directory = put.entry.attr.kind == Kind::Directory;
     if orphan || (put.sequence > 0 && found.is_none()) {
@@ -192,8 +196,8 @@ fn refusal_at(found: Option<&Node>, orphan: bool, in_file: bool, put: &Checked) 
 }
 
 /// The refusal where a sequence was handed in that is not the item's.
-fn sequence_refusal(there: &Node, sequence: i64) -> Option<Reply>
-    ensures { unless result ≡ sequence_refusal (Some there.now) sequence }
+fn sequence_refusal(there: NodeRef<'_>, sequence: i64) -> Option<Reply>
+    ensures { unless result ≡ sequence_refusal (Some (node_of there.entry)) sequence }
 {
     let current = there.entry.sequence;
     if sequence > 0 && sequence as u64 != current {
@@ -225,8 +229,8 @@ fn is_in_file(tree: &MemTree, path: &Path) -> Result<bool, AllocError>
 }
 
 /// Whether a file stands there.
-fn is_file(found: Option<&Node>) -> bool
-    ensures { result ≡ holds (option_copied found.entry) (λ node. is_file (kind_of node)) }
+fn is_file(found: Option<NodeRef<'_>>) -> bool
+    ensures { result ≡ holds (option_map node_of found.entry) (λ node. is_file (kind_of node)) }
 {
     match found {
         Some(node) => node.entry.attr.kind == Kind::File,

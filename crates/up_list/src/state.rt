@@ -2,6 +2,7 @@
 ghost use Rattle.std.specs.Prelude.{◌≡◌, ◌≢◌, true, IfOk};
 ghost use Rattle.std.specs.Option.{option_and_then, option_copied, option_map};
 ghost use Rattle.up_log_tree.specs.Trees.{tree_of};
+ghost use Rattle.up_mem_tree.specs.Nodes.{node_of};
 ghost use Rattle.up_wire.specs.Bounds.{bounded};
 ghost use Rattle.up_wire.specs.declared.replies.Reply.TheVariants.{OutOfMemory};
 ghost use Rattle.up_list.specs.Checks.{first_link, tested, ways_before};
@@ -14,8 +15,7 @@ use crate::view::{TreeLook, standing};
 use std::alloc::{AllocError, Global};
 use up_disk::Disk;
 use up_entry::{Entry, Kind};
-use up_log_tree::Node;
-use up_mem_tree::MemTree;
+use up_mem_tree::{MemTree, NodeRef};
 use up_names::{Path, User};
 use up_pattern::Pattern;
 use up_policy::Loaded;
@@ -58,11 +58,11 @@ fn link_on_way(tree: &MemTree, path: &Path) -> Result<Option<Path>, AllocError>
 }
 
 /// The entry of a node, where it is a link.
-fn link_of(node: Option<&Node>) -> Option<&Entry>
+fn link_of(node: Option<NodeRef<'_>>) -> Option<&Entry>
     ensures { option_copied result
-        ≡ option_and_then if_link (option_map entry_of (option_copied node.entry)) }
+        ≡ option_and_then if_link (option_map entry_of (option_map node_of node.entry)) }
 {
-    let entry = &node?.entry;
+    let entry = node?.entry;
     match entry.attr.kind {
         Kind::Link => Some(entry),
         Kind::File | Kind::Directory => None,

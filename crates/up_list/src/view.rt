@@ -9,6 +9,7 @@ ghost use Rattle.up_list.specs.Reads.{file_text};
 ghost use Rattle.up_list.specs.Seen.{group_listed, has_name, look_of};
 ghost use Rattle.up_log_tree.specs.Rights.{access_path, facts_of, governing_prefix, group_paths};
 ghost use Rattle.up_log_tree.specs.Trees.{tree_of};
+ghost use Rattle.up_mem_tree.specs.Nodes.{node_of};
 
 use crate::found::Found;
 use crate::globs::within;
@@ -19,8 +20,7 @@ use up_access::AccessText;
 use up_bytes::Bytes;
 use up_entry::{Entry, Kind};
 use up_group::GroupText;
-use up_log_tree::Node;
-use up_mem_tree::MemTree;
+use up_mem_tree::{MemTree, NodeRef};
 use up_names::{NameFault, Path, User, parse_path};
 use up_policy::{Facts, Loaded, rights_of};
 use up_rights::RightSet;
@@ -187,16 +187,16 @@ impl Onlooker for TreeLook<'_> {
 }
 
 /// The entry of a node that a tree keeps.
-pub(crate) fn kept<'a>(node: Option<&'a Node>) -> Option<Found<'a>>
-    ensures { option_map entry_found result ≡ option_map entry_of (option_copied node.entry) }
+pub(crate) fn kept<'a>(node: Option<NodeRef<'a>>) -> Option<Found<'a>>
+    ensures { option_map entry_found result ≡ option_map entry_of (option_map node_of node.entry) }
 {
     let node = node?;
-    Some(Found::Kept(&node.entry))
+    Some(Found::Kept(node.entry))
 }
 
 /// What stands at the longest prefix of a path at which something stands, the path itself included.
-pub(crate) fn standing<'a>(tree: &'a MemTree, path: &Path) -> Option<&'a Node>
-    ensures { option_map entry_of (option_copied result)
+pub(crate) fn standing<'a>(tree: &'a MemTree, path: &Path) -> Option<NodeRef<'a>>
+    ensures { option_map entry_of (option_map node_of result)
         ≡ entry_on_way (tree_of tree.now.log) path.now }
 {
     tree.standing(path)
@@ -216,7 +216,7 @@ fn items_of<'a>(alloc: Global, tree: &'a MemTree, dir: &Path) -> Result<Vec<Foun
         let Some(node) = tree.node(path) else {
             unreachable!()
         };
-        items.push(Found::Kept(&node.entry))?;
+        items.push(Found::Kept(node.entry))?;
     }
     // No memory holds so many.
     Err(AllocError)
@@ -254,8 +254,8 @@ fn named_in<'a>(
 }
 
 /// The item of this name in a directory, found by looking at each. It takes no memory.
-fn child_named<'a>(tree: &'a MemTree, dir: &Path, name: &str) -> Option<&'a Node>
-    ensures { option_map entry_of (option_copied result)
+fn child_named<'a>(tree: &'a MemTree, dir: &Path, name: &str) -> Option<NodeRef<'a>>
+    ensures { option_map entry_of (option_map node_of result)
         ≡ entry_at (tree_of tree.now.log) (extended dir.now name.now) }
 {
     let at = dir.len();
@@ -266,7 +266,7 @@ fn child_named<'a>(tree: &'a MemTree, dir: &Path, name: &str) -> Option<&'a Node
         let Some(node) = tree.node(path) else {
             unreachable!()
         };
-        if has_name(at, name, &node.entry) {
+        if has_name(at, name, node.entry) {
             return Some(node);
         }
     }
@@ -322,8 +322,8 @@ fn access_file(alloc: Global, path: &Path, n: u64) -> Result<Path, AllocError>
 }
 
 /// The text of a node that is a file.
-fn file_text(node: Option<&Node>) -> Result<Option<Bytes>, AllocError>
-    ensures { IfOk result (λ text. text ≡ file_text (option_copied node.entry)) }
+fn file_text(node: Option<NodeRef<'_>>) -> Result<Option<Bytes>, AllocError>
+    ensures { IfOk result (λ text. text ≡ file_text (option_map node_of node.entry)) }
 {
     match node {
         Some(node) if node.entry.attr.kind == Kind::File => Ok(Some(node.text.clone()?)),

@@ -23,15 +23,15 @@ use Rattle.up_log_tree.specs.Trees.{last_element, Tree, after_record, children, 
 use Rattle.up_log_tree.specs.declared.node.Node.{Node}
 use Rattle.up_mem_tree.proofs.Links.{KeepsLinks, WasAt, edit_paths, linked_changed, path-changed, paths_kept, was_at}
 use Rattle.up_log_tree.proofs.Paths.{extended_last, length-extended, parent_extended, parent_fails, path_apart, path_eq_itself, some_none, some_same}
-use Rattle.up_mem_tree.proofs.RecordChanges.{access_control, access_here, access_other, access_path_is, children_other, group_here, group_never, group_other, last_more, node_more, tree_early}
+use Rattle.up_mem_tree.proofs.RecordChanges.{access_control, access_here, access_other, access_path_is, children_other, group_here, group_never, group_other, last_more, tree_early}
 use Rattle.up_mem_tree.proofs.Told.{tells_more, tells_same}
 use Rattle.up_mem_tree.proofs.Walks.{path_there}
 
 -- ---- what the changes keep
 
-pub own_keeps : (node : Option Node) (position : ℕ) (group : Option (Change (List Item))) → KeepsLinks (entered_own node position group)
+pub own_keeps : (position : ℕ) (group : Option (Change (List Item))) → KeepsLinks (entered_own position group)
 unfolding entered_own
-own_keeps after position group = record { path = λ slot. refl; parent = λ slot. refl; named = λ slot. refl }
+own_keeps position group = record { path = λ slot. refl; parent = λ slot. refl; named = λ slot. refl }
 
 pub above_keeps : (edit : Edit) (access : Option (Change (List Rule))) → KeepsLinks (entered_parent Same edit access)
 unfolding entered_parent
@@ -118,7 +118,6 @@ module _ (owner : List ℕ) (records : List Rec) (rec : Rec) (path : PathName) (
   pub other_slot : (P Q : ℕ → Option PathName) (slot : Known) → ((i : ℕ) (p : PathName) → P i ≡ Some p → Q i ≡ Some p) → (slot.path ≡ path → ⊥) → (parent_of path ≡ Some slot.path → ⊥)
       → IsSlotOf owner records P slot → IsSlotOf owner (records ++ rec ∷ []) Q slot
   other_slot P Q slot keeps other apart told = record {
-    node = told.node ∙ sym (node_more owner records rec path after names stands slot.path ∙ ap (λ b. cond b after (node_at (tree_of records) slot.path)) (path_apart slot.path path other));
     last = told.last ∙ sym (ap (λ o. unwrap_or o 0) (last_more owner records rec path after names stands slot.path ∙ ap (λ b. cond b (Some (length records + 1)) (last_change records slot.path)) (path_apart slot.path path other)));
     children = paths_kept P Q slot.children (children (tree_of records) slot.path) keeps told.children ∙ sym (ap (map Some) (children_other owner records rec path after names stands slot.path (parent_fails slot.path path apart)));
     access = same_access slot.path slot.access (λ same. apart (ap parent_of (sym same) ∙ parent_extended slot.path _)) told.access;
@@ -127,10 +126,9 @@ module _ (owner : List ℕ) (records : List Rec) (rec : Rec) (path : PathName) (
 
   -- that of the path
   pub own_slot : (P Q : ℕ → Option PathName) (slot : Known) → ((i : ℕ) (p : PathName) → P i ≡ Some p → Q i ≡ Some p) → slot.path ≡ path
-      → IsSlotOf owner records P slot → IsSlotOf owner (records ++ rec ∷ []) Q (entered_own after (length records + 1) (group_change owner path after (length records + 1)) slot)
+      → IsSlotOf owner records P slot → IsSlotOf owner (records ++ rec ∷ []) Q (entered_own (length records + 1) (group_change owner path after (length records + 1)) slot)
   unfolding entered_own
   own_slot P Q slot keeps same told = record {
-    node = sym (node_more owner records rec path after names stands slot.path ∙ ap (λ b. cond b after (node_at (tree_of records) slot.path)) (subst (λ p. path_eq p path ≡ true) (sym same) (path_eq_itself path)));
     last = sym (ap (λ o. unwrap_or o 0) (last_more owner records rec path after names stands slot.path ∙ ap (λ b. cond b (Some (length records + 1)) (last_change records slot.path)) (subst (λ p. path_eq p path ≡ true) (sym same) (path_eq_itself path))));
     children = paths_kept P Q slot.children (children (tree_of records) slot.path) keeps told.children
         ∙ sym (ap (map Some) (children_other owner records rec path after names stands slot.path (parent_fails slot.path path (λ own. no_own_parent path (own ∙ ap Some same)))));
@@ -147,7 +145,6 @@ module _ (owner : List ℕ) (records : List Rec) (rec : Rec) (path : PathName) (
   above_slot P Q slot edit id keeps at parent edits told =
       let other : slot.path ≡ path → ⊥ = λ same. no_own_parent path (parent ∙ ap Some same) in
       record {
-        node = told.node ∙ sym (node_more owner records rec path after names stands slot.path ∙ ap (λ b. cond b after (node_at (tree_of records) slot.path)) (path_apart slot.path path other));
         last = told.last ∙ sym (ap (λ o. unwrap_or o 0) (last_more owner records rec path after names stands slot.path ∙ ap (λ b. cond b (Some (length records + 1)) (last_change records slot.path)) (path_apart slot.path path other)));
         children = edit_paths Q edit id path slot.children (children (tree_of records) slot.path) (children (tree_of (records ++ rec ∷ [])) slot.path) (paths_kept P Q slot.children (children (tree_of records) slot.path) keeps told.children) at edits;
         access = above_access slot.path slot.access parent told.access;
@@ -159,10 +156,10 @@ module _ (owner : List ℕ) (records : List Rec) (rec : Rec) (path : PathName) (
   module _ (paths : List PathName) (mid : List Known) (linked : AreLinked owner paths mid) (told : (i : ℕ) (slot : Known) → slice_get mid i ≡ Some slot → IsSlotOf owner records (path_in mid) slot)
       (id : ℕ) (at : path_in mid id ≡ Some path) where
     abbrev own : Known → Known
-    own = entered_own after (length records + 1) (group_change owner path after (length records + 1))
+    own = entered_own (length records + 1) (group_change owner path after (length records + 1))
 
     own_links : KeepsLinks own
-    own_links = own_keeps after (length records + 1) (group_change owner path after (length records + 1))
+    own_links = own_keeps (length records + 1) (group_change owner path after (length records + 1))
 
     there_is : (j : ℕ) (slot : Known) → slice_get mid j ≡ Some slot → slot.path ≡ path → id ≡ j
     there_is j slot is same = linked.alone id j path at (path_there mid j slot is ∙ ap Some same)

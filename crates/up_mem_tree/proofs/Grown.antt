@@ -14,10 +14,10 @@ use Rattle.up_mem_tree.specs.Slots.{AreLinked, IsSlotOf, Known, named_paths, pat
 use Rattle.up_mem_tree.specs.Steps.{fresh_slot}
 use Rattle.up_mem_tree.specs.Histories.{Tells}
 use Rattle.up_log_tree.specs.Rights.{facts_of}
-use Rattle.up_log_tree.specs.Trees.{children, is_parent, node_at, tree_at, tree_of}
+use Rattle.up_log_tree.specs.Trees.{children, is_parent, tree_at, tree_of}
 use Rattle.up_mem_tree.proofs.Entered.{no_own_parent}
 use Rattle.up_mem_tree.proofs.Links.{get-front, path-front, path-last, paths_kept}
-use Rattle.up_mem_tree.proofs.Named.{childless, has_named, unnamed_none}
+use Rattle.up_mem_tree.proofs.Named.{childless, has_named}
 use Rattle.up_log_tree.proofs.Paths.{is_parent_of, parent_is, path_eq_itself, path_same, some_none, some_same}
 use Rattle.up_log_tree.proofs.Rising.{has-filter, has-with, one_list, rising-filter, rising-with}
 use Rattle.up_mem_tree.proofs.Texts.{no_access, no_group}
@@ -27,7 +27,6 @@ use Rattle.up_mem_tree.proofs.Walks.{id_within, none_without_slots, path_there, 
 -- a slot that is as one was, but for what is named below it
 pub record IsAsBefore (Q : ℕ → Option PathName) (paths : List PathName) (was slot : Known) : Type 0 where
   pub path : slot.path ≡ was.path
-  pub node : slot.node ≡ was.node
   pub last : slot.last ≡ was.last
   pub parent : slot.parent ≡ was.parent
   pub children : slot.children ≡ was.children
@@ -162,7 +161,6 @@ module _ (owner : List ℕ) (paths : List PathName) (slots : List Known) (linked
     told_grown j slot there = elim (get-front mids (fresh_slot path parent) j slot there) [
       | inl old ↦ let o = was j slot old in as_told o.0 slot o.2 (told j o.0 o.1)
       | inr end ↦ subst (IsSlotOf owner records (path_in (mids ++ fresh_slot path parent ∷ []))) end.1 (record {
-        node = sym (unnamed_none records path is_unnamed);
         last = sym (ap (λ o. unwrap_or o 0) no_change);
         children = ap (map Some) (sym (childless owner records fitting path is_unnamed));
         access = tells_none (length records) _ (λ n le. no_access owner records fitting n path is_unnamed);
@@ -172,7 +170,6 @@ module _ (owner : List ℕ) (paths : List PathName) (slots : List Known) (linked
       where
         as_told : (old slot : Known) → IsAsBefore (path_in (mids ++ fresh_slot path parent ∷ [])) (with_path path paths) old slot → IsSlotOf owner records (path_in slots) old → IsSlotOf owner records (path_in (mids ++ fresh_slot path parent ∷ [])) slot
         as_told old slot same t = record {
-          node = same.node ∙ t.node ∙ ap (node_at (tree_of records)) (sym same.path);
           last = same.last ∙ t.last ∙ ap (λ p. unwrap_or (last_change records p) 0) (sym same.path);
           children = ap (map (path_in (mids ++ fresh_slot path parent ∷ []))) same.children ∙ paths_kept (path_in slots) (path_in (mids ++ fresh_slot path parent ∷ [])) old.children (children (tree_of records) old.path) keeps t.children ∙ ap (λ p. map Some (children (tree_of records) p)) (sym same.path);
           access = subst (λ c. Tells c (length records) (λ n. (facts_of owner (tree_at records n)).access slot.path)) (sym same.access) (subst (λ p. Tells old.access (length records) (λ n. (facts_of owner (tree_at records n)).access p)) (sym same.path) t.access);

@@ -2,6 +2,7 @@ mod Told
 pub mod Siblings
 pub mod SlotLemmas
 pub mod Named
+pub mod Lasts
 pub mod Texts
 pub mod Readings
 pub mod Links

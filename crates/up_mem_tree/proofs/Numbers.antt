@@ -3,7 +3,6 @@ use Rattle.std.proofs.Common.{◌≡◌, ℕ, List, [], ◌∷◌, length, refl,
 use Rattle.std.proofs.lemmas.List.{length-append}
 use Rattle.up_access.specs.declared.Rule.{Rule}
 use Rattle.up_names.specs.declared.items.Item.{Item}
-use Rattle.up_log_tree.specs.declared.node.Node.{Node}
 use Rattle.up_mem_tree.specs.declared.edits.Edit.{Edit}
 use Rattle.up_mem_tree.specs.declared.history.Change.{Change}
 use Rattle.up_mem_tree.specs.declared.steps.Own.{Own}
@@ -38,22 +37,22 @@ above_long None slots = refl
 above_long (Some parent) slots = length-changed parent.id (entered_parent parent.named parent.children parent.access) slots
 
 -- and what changes at the path puts at most one behind them
-own_numbers : (own : Own) (node : Option Node) (position : ℕ) (group : Option (Change (List Item))) (slots : List Known) → KeepsNumbers slots (stepped_own own node position group slots)
+own_numbers : (own : Own) (position : ℕ) (group : Option (Change (List Item))) (slots : List Known) → KeepsNumbers slots (stepped_own own position group slots)
 unfolding stepped_own
-own_numbers (There id) node position group slots = record {
-  same = λ i path is. path-changed id (entered_own node position group) slots ((own_keeps node position group).path) i ∙ is;
-  more = let long = length-changed id (entered_own node position group) slots in omega (arith, long);
-  few = let long = length-changed id (entered_own node position group) slots in omega (arith, long);
+own_numbers (There id) position group slots = record {
+  same = λ i path is. path-changed id (entered_own position group) slots ((own_keeps position group).path) i ∙ is;
+  more = let long = length-changed id (entered_own position group) slots in omega (arith, long);
+  few = let long = length-changed id (entered_own position group) slots in omega (arith, long);
 }
-own_numbers (New slot) node position group slots = record {
-  same = λ i path is. path-front slots (entered_own node position group (known slot)) i path is;
-  more = let long = length-append slots (entered_own node position group (known slot) ∷ []) in omega (arith, long);
-  few = let long = length-append slots (entered_own node position group (known slot) ∷ []) in omega (arith, long);
+own_numbers (New slot) position group slots = record {
+  same = λ i path is. path-front slots (entered_own position group (known slot)) i path is;
+  more = let long = length-append slots (entered_own position group (known slot) ∷ []) in omega (arith, long);
+  few = let long = length-append slots (entered_own position group (known slot) ∷ []) in omega (arith, long);
 }
 
 pub stepped_numbers : (step : Step) (slots : List Known) → KeepsNumbers slots (stepped step slots)
 stepped_numbers step slots =
-    let own = own_numbers step.own step.node step.position step.group (stepped_above step.parent slots) in
+    let own = own_numbers step.own step.position step.group (stepped_above step.parent slots) in
     let long = above_long step.parent slots in
     record {
       same = λ id path is. own.same id path (above_path step.parent slots id ∙ is);

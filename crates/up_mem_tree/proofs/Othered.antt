@@ -1,8 +1,7 @@
 -- The groups of other owners that texts name, as they are kept.
 use Rattle.std.proofs.Common.{◌≡◌, ℕ, zero, suc, ◌+◌, ◌<◌, ◌≤◌, Bool, true, false, not, cond, ◌&&◌, ◌||◌, List, [], ◌∷◌, ◌++◌, length, take, get_or, refl, sym, ap, subst, ◌∙◌, inl, inr, arith, Option, Some, None, Result, Ok, Err, is_some, is_none, append-nil}
-use Rattle.std.specs.Prelude.{Contains, IfSome, MatchOption, OnOk, is_ok, slice_get, if◌then◌else◌}
+use Rattle.std.specs.Prelude.{IfSome, MatchOption, OnOk, is_ok, slice_get, if◌then◌else◌}
 use Rattle.std.specs.FinMap.Entries as entries
-use Rattle.std.specs.List.{filter_map, flat_map}
 use Rattle.std.specs.Map.{keys_of}
 use Rattle.std.specs.Option.{option_map}
 use Rattle.std.specs.Str.{bytes_eq}
@@ -25,10 +24,10 @@ use Rattle.up_policy.proofs.PathLists.{Contains-cons, no_member}
 use Rattle.up_log_tree.specs.declared.node.Node.{Node}
 use Rattle.up_log_tree.specs.Changes.{path_of_change}
 use Rattle.up_log_tree.specs.Orders.{has_path as has, with_path}
-use Rattle.up_log_tree.specs.Rights.{access_path, facts_of, group_node, is_group, is_group_file, items_of, rules_of}
+use Rattle.up_log_tree.specs.Rights.{access_path, facts_of, is_group, is_group_file, items_of, rules_of}
 use Rattle.up_log_tree.specs.Trees.{Tree, after_record, node_at, tree_at, tree_of}
 use Rattle.up_log_tree.proofs.Fronts.{take_next}
-use Rattle.up_log_tree.proofs.Paths.{parent_extended, path_eq_itself, path_same, some_none, some_same}
+use Rattle.up_log_tree.proofs.Paths.{parent_extended, path_eq_itself, path_same, some_none}
 use Rattle.up_log_tree.proofs.Rising.{has-with, keys-put}
 use Rattle.up_log_tree.proofs.Trees.{has_key, tree_of-push}
 use Rattle.up_mem_tree.specs.declared.history.Change.{Change}

@@ -1,17 +1,20 @@
 -- What the slot of a path tells of it.
 use Rattle.std.proofs.Common.{◌≡◌, ℕ, ◌≤◌, true, false, [], map, length, refl, sym, ap, ◌∙◌, Option, Some, None}
-use Rattle.std.specs.Prelude.{slice_get}
+use Rattle.std.specs.Prelude.{slice_get, unwrap_or}
 use Rattle.std.specs.Option.{option_map}
 use Rattle.std.proofs.lemmas.Option.{slice_get-map}
 use Rattle.up_names.specs.PathNames.{PathName}
 use Rattle.up_mem_tree.specs.Histories.{are_rising, found}
 use Rattle.up_mem_tree.specs.Kept.{IsOwnSlot, Stands, paths_of, slots_of}
 use Rattle.up_log_tree.specs.Orders.{has_path as has}
+use Rattle.up_log_tree.specs.Changes.{last_change, record_at}
 use Rattle.up_log_tree.specs.Rights.{facts_of}
+use Rattle.up_mem_tree.specs.Nodes.{put_by}
 use Rattle.up_mem_tree.specs.Slots.{known, path_in}
 use Rattle.up_log_tree.specs.Trees.{children, node_at, tree_at, tree_of}
 use Rattle.up_mem_tree.specs.declared.kept.Kept.{Kept}
 use Rattle.up_mem_tree.specs.declared.slots.Slot.{Slot}
+use Rattle.up_mem_tree.proofs.Lasts.{left_now}
 use Rattle.up_mem_tree.proofs.Named.{childless, unnamed_none}
 use Rattle.up_log_tree.proofs.Paths.{some_none, some_same}
 use Rattle.up_mem_tree.proofs.SlotLemmas.{known-path, known_at, path_of_slot}
@@ -34,9 +37,9 @@ module _ (kept : Kept) (stands : Stands kept) where
 
   -- ---- what stands there
 
-  known-node : (slot : Slot) → (known slot).node ≡ slot.node
+  known-last : (slot : Slot) → (known slot).last ≡ slot.last
   unfolding known
-  known-node slot = refl
+  known-last slot = refl
 
   known-children : (slot : Slot) → (known slot).children ≡ slot.children.items
   unfolding known
@@ -50,8 +53,10 @@ module _ (kept : Kept) (stands : Stands kept) where
   unfolding known
   known-group slot = refl
 
-  pub node_told : (path : PathName) (slot : Slot) → IsOwnSlot kept path (Some slot) → slot.node ≡ node_at (tree_of kept.log.items) path
-  node_told path slot (same, told) = sym (known-node slot) ∙ told.node ∙ ap (node_at (tree_of kept.log.items)) (known-path slot ∙ same)
+  pub node_told : (path : PathName) (slot : Slot) → IsOwnSlot kept path (Some slot) → put_by (record_at kept.log.items slot.last) ≡ node_at (tree_of kept.log.items) path
+  node_told path slot (same, told) =
+      ap (λ n. put_by (record_at kept.log.items n)) (sym (known-last slot) ∙ told.last ∙ ap (λ p. unwrap_or (last_change kept.log.items p) 0) (known-path slot ∙ same))
+      ∙ left_now kept.log.items path
 
   pub no_node : (path : PathName) → IsOwnSlot kept path None → None ≡ node_at (tree_of kept.log.items) path
   no_node path none = sym (unnamed_none kept.log.items path none)

@@ -66,15 +66,15 @@ get-set (y ∷ xs) (suc i) (suc j) x other = get-set xs i j x (λ same. other (a
 
 -- ---- what is known of slots that differ in room alone
 
-pub known_alike : (a b : Slot) → a.path ≡ b.path → a.node ≡ b.node → a.last ≡ b.last → a.parent ≡ b.parent → a.named.items ≡ b.named.items → a.children.items ≡ b.children.items
+pub known_alike : (a b : Slot) → a.path ≡ b.path → a.last ≡ b.last → a.parent ≡ b.parent → a.named.items ≡ b.named.items → a.children.items ≡ b.children.items
     → a.access.items ≡ b.access.items → a.group.items ≡ b.group.items → known a ≡ known b
 unfolding known
-known_alike a b path node last parent named children access group = cc
+known_alike a b path last parent named children access group = cc
 
-pub known_fresh : (slot : Slot) (path : PathName) (parent : Option ℕ) → slot.path ≡ path → slot.node ≡ None → slot.last ≡ 0 → slot.parent ≡ parent → slot.named.items ≡ [] → slot.children.items ≡ []
+pub known_fresh : (slot : Slot) (path : PathName) (parent : Option ℕ) → slot.path ≡ path → slot.last ≡ 0 → slot.parent ≡ parent → slot.named.items ≡ [] → slot.children.items ≡ []
     → slot.access.items ≡ [] → slot.group.items ≡ [] → known slot ≡ fresh_slot path parent
 unfolding known
-known_fresh slot path parent is_path node last is_parent named children access group = cc
+known_fresh slot path parent is_path last is_parent named children access group = cc
 
 pub set_alike : (slots : List Slot) (id : ℕ) (old new : Slot) → slice_get slots id ≡ Some old → known new ≡ known old → known_all (set slots id new) ≡ known_all slots
 set_alike [] id old new there is = refl

@@ -10,7 +10,7 @@ use Rattle.up_log_tree.specs.Changes.{last_change}
 use Rattle.up_mem_tree.specs.Histories.{Tells}
 use Rattle.up_log_tree.specs.Rights.{facts_of}
 use Rattle.up_mem_tree.specs.Slots.{AreLinked, AreSlotsOf, Known, named_paths}
-use Rattle.up_log_tree.specs.Trees.{Tree, after_record, children, node_at, tree_at, tree_of}
+use Rattle.up_log_tree.specs.Trees.{Tree, after_record, children, tree_at, tree_of}
 use Rattle.up_mem_tree.proofs.Named.{last_change-push, named_paths-push}
 use Rattle.up_mem_tree.proofs.Told.{tells_same}
 use Rattle.up_log_tree.proofs.Trees.{tree_of-push}
@@ -41,7 +41,6 @@ module _ (owner : List ℕ) (records : List Rec) (time : ℕ) where
   snapped_slots slots are = record {
     linked = subst (λ paths. AreLinked owner paths slots) (sym named_snapped) are.linked;
     told = λ i slot is. let told = are.told i slot is in record {
-      node = told.node ∙ ap (λ tree. node_at tree slot.path) (sym tree_snapped);
       last = told.last ∙ ap (λ o. unwrap_or o 0) (sym (last_snapped slot.path));
       children = told.children ∙ ap (λ tree. map Some (children tree slot.path)) (sym tree_snapped);
       access = still_told (λ tree. (facts_of owner tree).access slot.path) slot.access told.access;

@@ -6,7 +6,6 @@ use Rattle.up_names.specs.PathNames.{PathName, cut, parent_of}
 use Rattle.up_entry.specs.declared.records.Rec.{Rec}
 use Rattle.up_entry.specs.declared.records.Rec.TheVariants.{Put, Delete, Snap}
 use Rattle.up_log_tree.specs.declared.node.Node.{Node}
-use Rattle.up_log_tree.specs.Changes.{path_of_change}
 use Rattle.up_log_tree.specs.Orders.{has_path}
 use Rattle.up_log_tree.proofs.Paths.{cut_whole, parent_is, parent_none, some_none, some_same}
 use Rattle.up_mem_tree.specs.declared.kept.Kept.{Kept}

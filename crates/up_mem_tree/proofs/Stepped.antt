@@ -60,7 +60,7 @@ module _ (owner : List ℕ) (records : List Rec) (rec : Rec) (path : PathName) (
   paths = named_paths records
 
   abbrev own : Known → Known
-  own = entered_own after (length records + 1) (group_change owner path after (length records + 1))
+  own = entered_own (length records + 1) (group_change owner path after (length records + 1))
 
   abbrev up : Edit → Known → Known
   up edit = entered_parent Same edit (access_change owner path after (length records + 1))
@@ -78,7 +78,7 @@ module _ (owner : List ℕ) (records : List Rec) (rec : Rec) (path : PathName) (
 
   root_there : (id : ℕ) → path_in slots id ≡ Some path → parent_of path ≡ None → AreSlotsOf owner (records ++ rec ∷ []) (changed_at id own slots)
   root_there id at root = record {
-    linked = subst (λ ps. AreLinked owner ps (changed_at id own slots)) (there_paths id at) (linked_changed owner (named_paths records) slots kept.linked id own (own_keeps after (length records + 1) (group_change owner path after (length records + 1))));
+    linked = subst (λ ps. AreLinked owner ps (changed_at id own slots)) (there_paths id at) (linked_changed owner (named_paths records) slots kept.linked id own (own_keeps (length records + 1) (group_change owner path after (length records + 1))));
     told = slots_root owner records rec path after names stands (named_paths records) slots kept.linked kept.told id at root;
   }
 
@@ -103,7 +103,6 @@ module _ (owner : List ℕ) (records : List Rec) (rec : Rec) (path : PathName) (
       is,
       record {
         path = refl;
-        node = refl;
         last = refl;
         parent = refl;
         children = refl;
@@ -122,7 +121,7 @@ module _ (owner : List ℕ) (records : List Rec) (rec : Rec) (path : PathName) (
         let told = told_grown owner (named_paths records) slots kept.linked path unnamed None above closed slots refl (λ j. refl) (root_was root) records fitting refl kept.told in
         let at : path_in mid (length slots) ≡ Some path = at_end owner (named_paths records) slots kept.linked path unnamed None above closed slots refl (λ j. refl) (root_was root) in
         subst (AreSlotsOf owner (records ++ rec ∷ [])) (changed-last own slots (fresh_slot path None)) (record {
-          linked = subst (λ ps. AreLinked owner ps (changed_at (length slots) own mid)) more (linked_changed owner (with_path path (named_paths records)) mid linked (length slots) own (own_keeps after (length records + 1) (group_change owner path after (length records + 1))));
+          linked = subst (λ ps. AreLinked owner ps (changed_at (length slots) own mid)) more (linked_changed owner (with_path path (named_paths records)) mid linked (length slots) own (own_keeps (length records + 1) (group_change owner path after (length records + 1))));
           told = slots_root owner records rec path after names stands (with_path path (named_paths records)) mid linked told (length slots) at root;
         })
 
@@ -160,7 +159,6 @@ module _ (owner : List ℕ) (records : List Rec) (rec : Rec) (path : PathName) (
           let here : old.path ≡ dir = some_same old.path dir (sym (path_there slots j old is) ∙ ap (path_in slots) (sym same) ∙ at_dir) in
           record {
             path = refl;
-            node = refl;
             last = refl;
             parent = refl;
             children = refl;
@@ -174,7 +172,6 @@ module _ (owner : List ℕ) (records : List Rec) (rec : Rec) (path : PathName) (
       was_same : (j : ℕ) (old : Known) → slice_get slots j ≡ Some old → (pid ≡ j → ⊥) → IsAsBefore (path_in (changed_at pid naming_edit slots ++ fresh_slot path (Some pid) ∷ [])) (with_path path (named_paths records)) old old
       was_same j old is apart = record {
         path = refl;
-        node = refl;
         last = refl;
         parent = refl;
         children = refl;
@@ -221,7 +218,7 @@ module _ (owner : List ℕ) (records : List Rec) (rec : Rec) (path : PathName) (
 
   by_parts : (o : Own) (d : Option PathName) → parent_of path ≡ d → (p : Option ParentStep) → IsOwnOf (named_paths records) slots path (option_map (λ (parent : ParentStep). parent.id) p) o
       → MatchOption d (p ≡ None) (λ dir. MatchOption p ⊥ (IsAboveOf owner records rec path after (named_paths records) slots (own_id slots o) dir))
-      → AreSlotsOf owner (records ++ rec ∷ []) (stepped_own o after (length records + 1) (group_change owner path after (length records + 1)) (stepped_above p slots))
+      → AreSlotsOf owner (records ++ rec ∷ []) (stepped_own o (length records + 1) (group_change owner path after (length records + 1)) (stepped_above p slots))
   unfolding stepped_own stepped_above
   by_parts (There id) None root None own_is over = root_there id own_is root
   by_parts (There id) None root (Some p) own_is over = absurd (some_none p over)
@@ -244,7 +241,6 @@ module _ (owner : List ℕ) (records : List Rec) (rec : Rec) (path : PathName) (
 
   pub stepped_slots : (step : Step) → IsStepOf owner records rec path after (named_paths records) slots step → AreSlotsOf owner (records ++ rec ∷ []) (stepped step slots)
   stepped_slots step is =
-      subst (λ group. AreSlotsOf owner (records ++ rec ∷ []) (stepped_own step.own step.node step.position group (stepped_above step.parent slots))) (sym is.group)
-      (subst (λ position. AreSlotsOf owner (records ++ rec ∷ []) (stepped_own step.own step.node position (group_change owner path after (length records + 1)) (stepped_above step.parent slots))) (sym is.position)
-      (subst (λ node. AreSlotsOf owner (records ++ rec ∷ []) (stepped_own step.own node (length records + 1) (group_change owner path after (length records + 1)) (stepped_above step.parent slots))) (sym is.node)
-      (by_parts step.own (parent_of path) refl step.parent is.own is.above)))
+      subst (λ group. AreSlotsOf owner (records ++ rec ∷ []) (stepped_own step.own step.position group (stepped_above step.parent slots))) (sym is.group)
+      (subst (λ position. AreSlotsOf owner (records ++ rec ∷ []) (stepped_own step.own position (group_change owner path after (length records + 1)) (stepped_above step.parent slots))) (sym is.position)
+      (by_parts step.own (parent_of path) refl step.parent is.own is.above))

@@ -8,7 +8,6 @@ use Rattle.up_access.specs.declared.Rule.{Rule}
 use Rattle.up_mem_tree.specs.declared.edits.Edit.{Edit}
 use Rattle.up_mem_tree.specs.declared.edits.Edit.TheVariants.{Same, Added, Removed}
 use Rattle.up_mem_tree.specs.declared.history.Change.{Change}
-use Rattle.up_log_tree.specs.declared.node.Node.{Node}
 use Rattle.up_mem_tree.specs.Slots.{Known}
 
 -- siblings after an edit
@@ -40,8 +39,8 @@ changes_in changes None = changes
 changes_in changes (Some change) = changes ++ change ∷ []
 
 -- the slot of the path that a record changes
-unfoldable pub entered_own : Option Node → ℕ → Option (Change (List Item)) → Known → Known
-entered_own node position group slot = record slot { node = node; last = position; group = changes_in slot.group group }
+unfoldable pub entered_own : ℕ → Option (Change (List Item)) → Known → Known
+entered_own position group slot = record slot { last = position; group = changes_in slot.group group }
 
 -- the slot of the directory of the path that a record changes
 unfoldable pub entered_parent : Edit → Edit → Option (Change (List Rule)) → Known → Known

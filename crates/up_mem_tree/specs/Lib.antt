@@ -1,4 +1,5 @@
 pub mod Histories
+pub mod Nodes
 pub mod Slots
 pub mod Edits
 pub mod Steps

@@ -1,28 +1,25 @@
 -- What is kept in memory of each path that a record names. This project's own.
 use Rattle.std.specs.Prelude.{◌≡◌, ◌<◌, ◌≤◌, ◌+◌, ℕ, Bool, true, false, List, [], length, map, filter, fold, Option, Some, None, option_map, slice_get, unwrap_or, MatchOption}
-use Rattle.std.specs.List.{position, list_all}
+use Rattle.std.specs.List.{list_all}
 use Rattle.std.specs.Ordering.{is_lt, nat_cmp}
 use Rattle.std.specs.Cmp.Lexicographic.{slice_cmp}
 use Rattle.std.specs.Str.{bytes_eq}
 use Rattle.up_names.specs.PathNames.{PathName, cut, parent_of}
-use Rattle.up_names.specs.PathOrder.{path_eq}
 use Rattle.up_names.specs.declared.items.Item.{Item}
 use Rattle.up_access.specs.declared.Rule.{Rule}
 use Rattle.up_entry.specs.declared.records.Rec.{Rec}
 use Rattle.up_mem_tree.specs.declared.history.Change.{Change}
-use Rattle.up_log_tree.specs.declared.node.Node.{Node}
 use Rattle.up_mem_tree.specs.declared.slots.Slot.{Slot}
 use Rattle.up_log_tree.specs.Changes.{last_change, path_of_change}
 use Rattle.up_mem_tree.specs.Histories.{Tells}
 use Rattle.up_log_tree.specs.Fits.{root_of}
 use Rattle.up_log_tree.specs.Orders.{IsPlaceOf, are_rising, has_path, with_path}
 use Rattle.up_log_tree.specs.Rights.{facts_of}
-use Rattle.up_log_tree.specs.Trees.{children, is_parent, last_element, node_at, tree_at, tree_of}
+use Rattle.up_log_tree.specs.Trees.{children, is_parent, last_element, tree_at, tree_of}
 
 -- what a slot has, whatever room it has besides
 pub record Known : Type 0 where
   pub path : PathName
-  pub node : Option Node
   pub last : ℕ
   pub parent : Option ℕ
   pub named : List ℕ
@@ -34,7 +31,6 @@ pub record Known : Type 0 where
 unfoldable pub known : Slot → Known
 known slot = record {
   path = slot.path;
-  node = slot.node;
   last = slot.last;
   parent = slot.parent;
   named = slot.named.items;
@@ -101,7 +97,6 @@ pub record AreLinked (owner : List ℕ) (paths : List PathName) (slots : List Kn
 
 -- What a slot has of its path, and of the directory at it, is what the records give.
 pub record IsSlotOf (owner : List ℕ) (records : List Rec) (paths : ℕ → Option PathName) (slot : Known) : Type 0 where
-  pub node : slot.node ≡ node_at (tree_of records) slot.path
   pub last : slot.last ≡ unwrap_or (last_change records slot.path) 0
   pub children : map paths slot.children ≡ map Some (children (tree_of records) slot.path)
   pub access : Tells slot.access (length records) (λ n. (facts_of owner (tree_at records n)).access slot.path)

@@ -31,13 +31,13 @@ stepped_above None slots = slots
 stepped_above (Some parent) slots = changed_at parent.id (entered_parent parent.named parent.children parent.access) slots
 
 -- the slots after what is changed at the path
-unfoldable pub stepped_own : Own → Option Node → ℕ → Option (Change (List Item)) → List Known → List Known
-stepped_own (There id) node position group slots = changed_at id (entered_own node position group) slots
-stepped_own (New slot) node position group slots = slots ++ entered_own node position group (known slot) ∷ []
+unfoldable pub stepped_own : Own → ℕ → Option (Change (List Item)) → List Known → List Known
+stepped_own (There id) position group slots = changed_at id (entered_own position group) slots
+stepped_own (New slot) position group slots = slots ++ entered_own position group (known slot) ∷ []
 
 -- what is known of the slots after a step: above the path, and then at it
 abbrev pub stepped : Step → List Known → List Known
-stepped step slots = stepped_own step.own step.node step.position step.group (stepped_above step.parent slots)
+stepped step slots = stepped_own step.own step.position step.group (stepped_above step.parent slots)
 
 -- the position of the change before
 abbrev pub last_before : Own → List Known → ℕ
@@ -121,7 +121,7 @@ without_path path paths = filter (λ other. not (path_eq path other)) paths
 
 -- the slot of a path that has none yet
 abbrev pub fresh_slot : PathName → Option ℕ → Known
-fresh_slot path parent = record { path = path; node = None; last = 0; parent = parent; named = []; children = []; access = []; group = [] }
+fresh_slot path parent = record { path = path; last = 0; parent = parent; named = []; children = []; access = []; group = [] }
 
 -- the number of the path's slot
 abbrev pub own_id : List Known → Own → ℕ
@@ -152,7 +152,6 @@ IsAboveOf owner records rec path after paths slots id dir parent =
 pub record IsStepOf (owner : List ℕ) (records : List Rec) (rec : Rec) (path : PathName)
     (after : Option Node) (paths : List PathName) (slots : List Known) (step : Step) : Type 0 where
   pub position : step.position ≡ length records + 1
-  pub node : step.node ≡ after
   pub group : step.group ≡ group_change owner path after (length records + 1)
   pub own : IsOwnOf paths slots path (option_map (λ (parent : ParentStep). parent.id) step.parent) step.own
   pub above : MatchOption (parent_of path) (step.parent ≡ None)

@@ -7,7 +7,6 @@ use crate::history::Change;
 use crate::slots::Slot;
 use up_access::AccessText;
 use up_group::GroupText;
-use up_log_tree::Node;
 use up_maps::LongList;
 
 /// What becomes of a list of siblings.
@@ -46,16 +45,10 @@ fn add_change<T: Drop>(changes: &mut Vec<Change<T>>, change: Option<Change<T>>)
 
 /// What a record changes at its own path.
 #[tactic(auto, unfolding(crate::specs::Slots::known, crate::specs::Edits::entered_own))]
-pub(crate) fn enter_own(
-    slot: &mut Slot,
-    node: Option<Node>,
-    position: u64,
-    group: Option<Change<GroupText>>,
-)
+pub(crate) fn enter_own(slot: &mut Slot, position: u64, group: Option<Change<GroupText>>)
     requires { HasRoomFor slot.old.group group }
-    ensures { known slot.new ≡ entered_own node position group (known slot.old) }
+    ensures { known slot.new ≡ entered_own position group (known slot.old) }
 {
-    slot.node = node;
     slot.last = position;
     add_change(&mut slot.group, group);
 }

@@ -1,23 +1,24 @@
 //! Whether a record fits the log as its next one.
-ghost use Rattle.std.specs.Prelude.{◌≡◌, ◌==◌, ◌&&◌, IfOk, MatchOption, ⊤, is_ok, is_some, length};
+ghost use Rattle.std.specs.Prelude.{◌≡◌, ◌==◌, ◌&&◌, IfOk, MatchOption, Some, ⊤, is_ok, is_some, length, option_map};
 ghost use Rattle.std.specs.List.{list_any};
 ghost use Rattle.std.specs.Option.{option_copied};
 ghost use Rattle.up_names.specs.PathNames.{PathName, parent_of};
 ghost use Rattle.up_access.specs.AccessTexts.{access_of};
 ghost use Rattle.up_group.specs.GroupTexts.{group_of};
 ghost use Rattle.up_mem_tree.specs.Kept.{IsOwnSlot, Stands, paths_of, slots_of};
+ghost use Rattle.up_mem_tree.specs.Nodes.{node_of};
 ghost use Rattle.up_mem_tree.specs.Slots.{IsIdOf, IsParentIdOf};
 ghost use Rattle.up_log_tree.specs.Fits.{control_for, delete_fits, fits, has_place, has_snapshots, is_directory_node, is_snap_at, may_replace, put_fits, root_of, snap_fits, text_fits};
 ghost use Rattle.up_log_tree.specs.Trees.{node_at, tree_of};
 
 use crate::kept::Kept;
+use crate::nodes::NodeRef;
 use crate::slots::Slot;
 use std::alloc::AllocError;
 use up_access::parse_access;
 use up_bytes::Bytes;
 use up_entry::{Entry, Kind, Rec, has_fixed_form};
 use up_group::parse_group;
-use up_log_tree::Node;
 use up_names::{Control, Path, TextFault, User};
 
 /// The first second of the year 10000 in the earliest time zone.
@@ -70,8 +71,8 @@ fn text_fits(owner: &User, control: Control, text: &Bytes) -> Result<bool, Alloc
 }
 
 /// Whether what stands there is a directory.
-fn is_directory_node(found: Option<&Node>) -> bool
-    ensures { result ≡ is_directory_node (option_copied found.entry) }
+fn is_directory_node(found: Option<NodeRef<'_>>) -> bool
+    ensures { result ≡ is_directory_node (option_map node_of found.entry) }
 {
     match found {
         Some(node) => matches!(node.entry.attr.kind, Kind::Directory),
@@ -80,8 +81,8 @@ fn is_directory_node(found: Option<&Node>) -> bool
 }
 
 /// Whether an entry of this kind may take the place of what stands there.
-fn may_replace(found: Option<&Node>, kind: Kind) -> bool
-    ensures { result ≡ may_replace (option_copied found.entry) kind }
+fn may_replace(found: Option<NodeRef<'_>>, kind: Kind) -> bool
+    ensures { result ≡ may_replace (option_map node_of found.entry) kind }
 {
     match found {
         Some(node) => {
@@ -101,10 +102,10 @@ pub fn has_snapshots(owner: &User) -> bool
 }
 
 /// Whether something stands at a slot's path, and nothing below it.
-fn is_bare(slot: &Slot) -> bool
-    ensures { result ≡ (is_some slot.now.node && (length slot.now.children.items == 0)) }
+fn is_bare(slot: &Slot, found: Option<NodeRef<'_>>) -> bool
+    ensures { result ≡ (is_some found.entry && (length slot.now.children.items == 0)) }
 {
-    slot.node.is_some() && slot.children.is_empty()
+    found.is_some() && slot.children.is_empty()
 }
 
 impl Kept {
@@ -128,19 +129,19 @@ impl Kept {
             return path.owner() == &self.owner;
         }
         match self.parent_slot(parent) {
-            Some(slot) => is_directory_node(slot.node.as_ref()),
+            Some(slot) => is_directory_node(self.node_of_slot(slot)),
             None => false,
         }
     }
 
     /// What stands at a path, whose slot has that number, where there is one.
-    fn node_with(&self, _path: &Path, own: Option<usize>) -> Option<&Node>
+    fn node_with(&self, _path: &Path, own: Option<usize>) -> Option<NodeRef<'_>>
         requires stands { Stands self.now }
         requires own { IsIdOf (paths_of self.now) (slots_of self.now) _path.now own }
-        ensures { option_copied result ≡ node_at (tree_of self.now.log.items) _path.now }
+        ensures { option_map node_of result ≡ node_at (tree_of self.now.log.items) _path.now }
     {
         match self.slot_with(own) {
-            Some(slot) => slot.node.as_ref(),
+            Some(slot) => self.node_of_slot(slot),
             None => None,
         }
     }
@@ -170,7 +171,7 @@ impl Kept {
         ensures { result ≡ delete_fits self.now.log.items path.now }
     {
         match self.own_slot(path) {
-            Some(slot) => is_bare(slot),
+            Some(slot) => is_bare(slot, self.node_of_slot(slot)),
             None => false,
         }
     }

@@ -1,7 +1,7 @@
 //! The tree that a log gives, kept in memory.
 //!
-//! A [`MemTree`] is seen as its owner, the records of its log, and the record that was made ready to be entered next. `node` is exactly
-//! what stands at a path, `standing` what stands nearest to it on the way up, `child` a directory's children in the order of paths,
+//! A [`MemTree`] is seen as its owner, the records of its log, and the record that was made ready to be entered next. Each entry is kept
+//! once, in its record. `node` is exactly what stands at a path, `standing` what stands nearest to it on the way up, `child` a directory's children in the order of paths,
 //! `access_at` and `group_at` the texts of control files after any number of records, `nearest_at` the one that governs a path; `fits`
 //! tells exactly whether a record fits the log. `make_ready` takes all memory that a record needs, so that `enter` takes none. Each
 //! call costs what it looks at, times a logarithm: so do `positions_under`, of the changes at and below a path, and `texts_stay`, by
@@ -22,6 +22,7 @@ mod laws;
 mod making;
 mod mem_tree;
 mod nearest;
+mod nodes;
 mod others;
 mod positions;
 mod reading;
@@ -39,4 +40,4 @@ pub use laws::{
     items_stand_in_directories, sequences_are_positions,
 };
 pub use mem_tree::MemTree;
-pub use up_log_tree::Node;
+pub use nodes::{NodeRef, put_by};

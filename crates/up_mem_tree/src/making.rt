@@ -19,10 +19,9 @@ use crate::slots::{Slot, find_among, last_element};
 use crate::steps::{Own, ParentStep, Step};
 use std::alloc::{AllocError, Global};
 use up_access::AccessText;
-use up_bytes::{Bytes, copy_of};
+use up_bytes::Bytes;
 use up_entry::{Entry, Rec};
 use up_group::GroupText;
-use up_log_tree::Node;
 use up_maps::LongList;
 use up_names::Path;
 
@@ -70,7 +69,6 @@ fn fresh_slot(
     reserve_change(&mut changes, group)?;
     Ok(Slot {
         path: path.clone()?,
-        node: None,
         last: 0,
         parent,
         named: LongList::new(alloc),
@@ -106,16 +104,6 @@ fn own_id(slots: &[Slot], own: &Own) -> usize
         Own::There(id) => *id,
         Own::New(_) => slots.len(),
     }
-}
-
-/// What a Put leaves at its path.
-fn node_of(entry: &Entry, text: &Bytes) -> Result<Node, AllocError>
-    ensures { IfOk result (λ node. node ≡ record { entry = entry.now; text = text.now }) }
-{
-    Ok(Node {
-        entry: entry.clone()?,
-        text: copy_of(text.allocator(), text.as_slice())?,
-    })
 }
 
 impl Kept {
@@ -184,20 +172,10 @@ impl Kept {
         let (access, group) = changes_by_put(&self.owner, position, entry, text)?;
         let (found, parent) = self.ids_of(path);
         let own = own_of(*self.slots.allocator(), found, path, parent, &group)?;
-        let node = match node_of(entry, text) {
-            Ok(node) => node,
-            Err(AllocError) => {
-                drop(access);
-                drop(group);
-                drop(own);
-                return Err(AllocError);
-            }
-        };
         let id = own_id(self.slots.as_slice(), &own);
         Ok(Step {
             position,
             own,
-            node: Some(node),
             group,
             parent: self.put_above(parent, path, id, access),
         })
@@ -218,7 +196,6 @@ impl Kept {
         Step {
             position,
             own: Own::There(own),
-            node: None,
             group,
             parent: self.delete_above(parent, path, own, access),
         }

@@ -7,6 +7,7 @@ ghost use Rattle.up_names.specs.PathNames.{cut};
 ghost use Rattle.up_policy.specs.Governors.{first_text, prefixes};
 ghost use Rattle.up_mem_tree.specs.Groups.{StayTexts};
 ghost use Rattle.up_mem_tree.specs.Kept.{IsReadyFor, IsSameKept, Stands, slots_of};
+ghost use Rattle.up_mem_tree.specs.Nodes.{node_of};
 ghost use Rattle.up_mem_tree.specs.Others.{HasAllOthers, HasStepOthers, KeepsPaths};
 ghost use Rattle.up_mem_tree.specs.Slots.{named_paths};
 ghost use Rattle.up_mem_tree.specs.ChangesBelow.{AreNoted, CanNoteRecord, noted_all};
@@ -19,6 +20,7 @@ ghost use Rattle.up_log_tree.specs.Trees.{children, is_parent, node_at, standing
 use crate::changes_below::{Under, changes_above, make_room, note, reserve_one};
 use crate::groups::{group_change_at, note_group};
 use crate::kept::Kept;
+use crate::nodes::{NodeRef, record_at};
 use crate::others::add_step;
 use crate::starts::start_of;
 use crate::steps::Step;
@@ -29,7 +31,6 @@ use up_access::AccessText;
 use up_entry::Rec;
 use up_group::GroupText;
 use up_lists::Items;
-use up_log_tree::Node;
 use up_maps::OrderedMap;
 use up_names::{Path, User};
 
@@ -180,23 +181,20 @@ impl MemTree {
     pub fn rec_at(&self, n: u64) -> Option<&Rec>
         ensures { option_copied result ≡ record_at self.now.log n }
     {
-        if n == 0 {
-            return None;
-        }
-        self.kept.log.get(n as usize - 1)
+        record_at(self.kept.log.as_slice(), n)
     }
 
-    /// What stands at a path.
-    pub fn node(&self, path: &Path) -> Option<&Node>
-        ensures { option_copied result ≡ node_at (tree_of self.now.log) path.now }
+    /// What stands at a path, in the record that has put it.
+    pub fn node(&self, path: &Path) -> Option<NodeRef<'_>>
+        ensures { option_map node_of result ≡ node_at (tree_of self.now.log) path.now }
     {
         self.kept.node(path)
     }
 
     /// What stands at the longest prefix of a path at which something stands, the path itself included. It takes no memory, and reads
     /// the path's text once.
-    pub fn standing(&self, path: &Path) -> Option<&Node>
-        ensures { option_copied result ≡ option_and_then (node_at (tree_of self.now.log))
+    pub fn standing(&self, path: &Path) -> Option<NodeRef<'_>>
+        ensures { option_map node_of result ≡ option_and_then (node_at (tree_of self.now.log))
             (standing_prefix (tree_of self.now.log) path.now) }
     {
         self.kept.standing(path)

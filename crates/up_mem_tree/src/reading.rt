@@ -1,8 +1,9 @@
 //! What stands at each path, and what stood there.
-ghost use Rattle.std.specs.Prelude.{◌≡◌, ◌≤◌, true, filter, length, slice_get};
+ghost use Rattle.std.specs.Prelude.{◌≡◌, ◌≤◌, true, filter, length, option_map, slice_get, Some};
 ghost use Rattle.std.specs.Option.{option_copied};
 ghost use Rattle.up_mem_tree.specs.Kept.{IsOwnSlot, Stands, paths_of, slots_of};
 ghost use Rattle.up_names.specs.PathNames.{PathName};
+ghost use Rattle.up_mem_tree.specs.Nodes.{node_of};
 ghost use Rattle.up_mem_tree.specs.Slots.{IsIdOf, named_paths};
 ghost use Rattle.up_log_tree.specs.Changes.{last_change};
 ghost use Rattle.up_log_tree.specs.Rights.{facts_of};
@@ -10,11 +11,11 @@ ghost use Rattle.up_log_tree.specs.Trees.{children, is_parent, node_at, tree_at,
 
 use crate::history::{stays, text_at};
 use crate::kept::Kept;
+use crate::nodes::{NodeRef, put_by, record_at};
 use crate::positions::if_any;
 use crate::slots::{Slot, path_in, slot_at};
 use up_access::AccessText;
 use up_group::GroupText;
-use up_log_tree::Node;
 use up_names::Path;
 
 impl Kept {
@@ -38,13 +39,22 @@ impl Kept {
         }
     }
 
-    /// What stands at a path.
-    pub(crate) fn node(&self, path: &Path) -> Option<&Node>
+    /// What stands at the path of a slot.
+    pub(crate) fn node_of_slot(&self, slot: &Slot) -> Option<NodeRef<'_>>
         requires { Stands self.now }
-        ensures { option_copied result ≡ node_at (tree_of self.now.log.items) path.now }
+        ensures { (path : PathName) → IsOwnSlot self.now path (Some slot.now)
+            → option_map node_of result ≡ node_at (tree_of self.now.log.items) path }
+    {
+        put_by(record_at(self.log.as_slice(), slot.last))
+    }
+
+    /// What stands at a path.
+    pub(crate) fn node(&self, path: &Path) -> Option<NodeRef<'_>>
+        requires { Stands self.now }
+        ensures { option_map node_of result ≡ node_at (tree_of self.now.log.items) path.now }
     {
         match self.own_slot(path) {
-            Some(slot) => slot.node.as_ref(),
+            Some(slot) => self.node_of_slot(slot),
             None => None,
         }
     }

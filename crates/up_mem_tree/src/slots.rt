@@ -8,7 +8,6 @@ ghost use Rattle.up_log_tree.specs.Trees.{last_element};
 use crate::history::Change;
 use up_access::AccessText;
 use up_group::GroupText;
-use up_log_tree::Node;
 use up_maps::{Below, LongList};
 use up_names::Path;
 
@@ -16,9 +15,7 @@ use up_names::Path;
 #[derive(Drop)]
 pub(crate) struct Slot {
     pub(crate) path: Path,
-    /// What stands there now.
-    pub(crate) node: Option<Node>,
-    /// The position of the last record that changes the path.
+    /// The position of the last record that changes the path: what stands there now is what that one has put.
     pub(crate) last: u64,
     /// The slot of the directory that the path stands in; that of a root has none.
     pub(crate) parent: Option<usize>,

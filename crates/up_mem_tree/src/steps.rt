@@ -9,7 +9,6 @@ use crate::history::Change;
 use crate::slots::{Slot, slot_at};
 use up_access::AccessText;
 use up_group::GroupText;
-use up_log_tree::Node;
 
 /// The slot of the path that a record changes.
 #[derive(Drop)]
@@ -27,12 +26,11 @@ pub(crate) struct ParentStep {
     pub(crate) access: Option<Change<AccessText>>,
 }
 
-/// What a record changes: its path's slot, what stands there then, and its directory.
+/// What a record changes: its path's slot, and its directory.
 #[derive(Drop)]
 pub(crate) struct Step {
     pub(crate) position: u64,
     pub(crate) own: Own,
-    pub(crate) node: Option<Node>,
     pub(crate) group: Option<Change<GroupText>>,
     pub(crate) parent: Option<ParentStep>,
 }
@@ -57,21 +55,15 @@ fn enter_above(slots: &mut Vec<Slot>, parent: Option<ParentStep>)
 }
 
 /// What is changed at the path.
-fn enter_at(
-    slots: &mut Vec<Slot>,
-    own: Own,
-    node: Option<Node>,
-    position: u64,
-    group: Option<Change<GroupText>>,
-)
+fn enter_at(slots: &mut Vec<Slot>, own: Own, position: u64, group: Option<Change<GroupText>>)
     requires { CanEnterOwn slots.old own group }
     ensures { known_all slots.new.items
-        ≡ stepped_own own node position group (known_all slots.old.items) }
+        ≡ stepped_own own position group (known_all slots.old.items) }
 {
     match own {
-        Own::There(id) => enter_own(&mut slots[id], node, position, group),
+        Own::There(id) => enter_own(&mut slots[id], position, group),
         Own::New(mut slot) => {
-            enter_own(&mut slot, node, position, group);
+            enter_own(&mut slot, position, group);
             slots.push_reserved(slot);
         }
     }
@@ -101,12 +93,11 @@ pub(crate) fn enter_step(slots: &mut Vec<Slot>, step: Step) -> u64
     let Step {
         position,
         own,
-        node,
         group,
         parent,
     } = step;
     let before = last_before(slots.as_slice(), &own);
     enter_above(slots, parent);
-    enter_at(slots, own, node, position, group);
+    enter_at(slots, own, position, group);
     before
 }

@@ -13,7 +13,7 @@ use Rattle.up_mem_tree.proofs.Named.{last_change-none, last_change-push}
 use Rattle.up_log_tree.specs.Changes.{change_before, changes_some, last_change, path_of_change, record_at}
 use Rattle.up_log_tree.specs.Trees.{after_record, node_at, tree_at, tree_of}
 use Rattle.up_log_tree.specs.declared.node.Node.{Node}
-use Rattle.up_snap.specs.Standing.{put_by}
+use Rattle.up_mem_tree.proofs.Lasts.{last_next, last_past}
 use Rattle.up_log_tree.proofs.Fronts.{take_next, take_past}
 use Rattle.up_log_tree.proofs.Paths.{path_eq_turned, path_same, some_none, some_same}
 use Rattle.up_log_tree.proofs.Trees.{node_at-delete, node_at-empty, node_at-put, node_at-snap, tree_of-push}
@@ -25,14 +25,6 @@ module _ (records : List Rec) (path : PathName) where
 
   abbrev changes : Rec → Bool
   changes rec = changes_some (path_eq path) rec
-
-  last_next : (n : ℕ) (rec : Rec) → slice_get records n ≡ Some rec → Last (suc n) ≡ cond (changes rec) (Some (suc n)) (Last n)
-  last_next n rec is =
-      ap (λ rs. last_change rs path) (take_next n records rec is) ∙ last_change-push (take n records) rec path
-      ∙ ap (λ k. cond (changes rec) (Some k) (Last n)) (let e : length (take n records) ≡ n = length-take-le n records (let w = slice_get_within records n rec is in omega (arith, w)) in omega (arith, e))
-
-  last_past : (n : ℕ) → slice_get records n ≡ None → Last (suc n) ≡ Last n
-  last_past n is = ap (λ rs. last_change rs path) (take_past n records is)
 
   -- a last change is one, and none comes behind it
   pub record IsLast (n at : ℕ) : Type 0 where
@@ -57,8 +49,8 @@ module _ (records : List Rec) (path : PathName) where
       by rec is false e k ih = more (ih k)
 
       go : (o : Option Rec) → slice_get records n ≡ o → (Last n ≡ Some at → IsLast n at) → IsLast (suc n) at
-      go None is ih = more (ih (sym (last_past n is) ∙ h))
-      go (Some rec) is ih = by rec is (changes rec) refl (sym (last_next n rec is) ∙ h) ih
+      go None is ih = more (ih (sym (last_past records path n is) ∙ h))
+      go (Some rec) is ih = by rec is (changes rec) refl (sym (last_next records path n rec is) ∙ h) ih
 
   -- it is the last among fewer records too, where it is among them
   pub last_kept : (n k at : ℕ) → Last (n + k) ≡ Some at → at ≤ n → Last n ≡ Some at
@@ -73,8 +65,8 @@ module _ (records : List Rec) (path : PathName) where
       by rec false m ih = ih m
 
       go : (o : Option Rec) → slice_get records (n + k) ≡ o → (Last (n + k) ≡ Some at → Last n ≡ Some at) → Last n ≡ Some at
-      go None is ih = ih (sym (last_past (n + k) is) ∙ h')
-      go (Some rec) is ih = by rec (changes rec) (sym (last_next (n + k) rec is) ∙ h') ih
+      go None is ih = ih (sym (last_past records path (n + k) is) ∙ h')
+      go (Some rec) is ih = by rec (changes rec) (sym (last_next records path (n + k) rec is) ∙ h') ih
 
   -- where there is none, there is none among fewer
   pub none_kept : (n k : ℕ) → Last (n + k) ≡ None → Last n ≡ None
@@ -89,8 +81,8 @@ module _ (records : List Rec) (path : PathName) where
       by rec false m ih = ih m
 
       go : (o : Option Rec) → slice_get records (n + k) ≡ o → (Last (n + k) ≡ None → Last n ≡ None) → Last n ≡ None
-      go None is ih = ih (sym (last_past (n + k) is) ∙ h')
-      go (Some rec) is ih = by rec (changes rec) (sym (last_next (n + k) rec is) ∙ h') ih
+      go None is ih = ih (sym (last_past records path (n + k) is) ∙ h')
+      go (Some rec) is ih = by rec (changes rec) (sym (last_next records path (n + k) rec is) ∙ h') ih
 
   -- ---- going back
 
@@ -126,35 +118,6 @@ module _ (records : List Rec) (path : PathName) where
 
   pub back_none : (n : ℕ) (last : Option ℕ) → IsBack n last → last ≡ None → None ≡ last_change (take n records) path
   back_none n last so_far none = sym (none_kept n so_far.more (sym so_far.is ∙ none))
-
-  -- ---- what the last change has left
-
-  abbrev pub left : Option ℕ → Option Node
-  left last = option_and_then (λ at. put_by (record_at records at)) last
-
-  pub left_is : (n : ℕ) → node_at (tree_at records n) path ≡ left (Last n)
-  left_is zero = node_at-empty path ∙ sym (ap left (last_change-none path))
-  left_is (suc n) = go (slice_get records n) refl (left_is n)
-    where
-      by : (rec : Rec) → slice_get records n ≡ Some rec → (b : Bool) → changes rec ≡ b → node_at (tree_at records n) path ≡ left (Last n) →
-          node_at (after_record (tree_at records n) rec) path ≡ left (cond b (Some (suc n)) (Last n))
-      by (Put entry text) is true e so_far =
-          node_at-put (tree_at records n) entry text path ∙ ap (λ b. cond b (Some (record { entry = entry; text = text })) (node_at (tree_at records n) path)) e
-          ∙ sym (ap put_by is)
-      by (Put entry text) is false e so_far =
-          node_at-put (tree_at records n) entry text path ∙ ap (λ b. cond b (Some (record { entry = entry; text = text })) (node_at (tree_at records n) path)) e ∙ so_far
-      by (Delete gone) is true e so_far =
-          node_at-delete (tree_at records n) gone path ∙ ap (λ b. cond b None (node_at (tree_at records n) path)) (path_eq_turned gone path ∙ e) ∙ sym (ap put_by is)
-      by (Delete gone) is false e so_far =
-          node_at-delete (tree_at records n) gone path ∙ ap (λ b. cond b None (node_at (tree_at records n) path)) (path_eq_turned gone path ∙ e) ∙ so_far
-      by (Snap time) is true e so_far = absurd (false≢true e)
-      by (Snap time) is false e so_far = node_at-snap (tree_at records n) time path ∙ so_far
-
-      go : (o : Option Rec) → slice_get records n ≡ o → node_at (tree_at records n) path ≡ left (Last n) → node_at (tree_at records (suc n)) path ≡ left (Last (suc n))
-      go None is so_far = ap (λ rs. node_at (tree_of rs) path) (take_past n records is) ∙ so_far ∙ sym (ap left (last_past n is))
-      go (Some rec) is so_far =
-          ap (λ rs. node_at (tree_of rs) path) (take_next n records rec is) ∙ ap (λ t. node_at t path) (tree_of-push (take n records) rec)
-          ∙ by rec is (changes rec) refl so_far ∙ sym (ap left (last_next n rec is))
 
 -- ---- the elements behind the first four
 

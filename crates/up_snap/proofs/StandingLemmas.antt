@@ -8,8 +8,8 @@ use Rattle.up_log_tree.specs.Fits.{IsLog, snapshot_user}
 use Rattle.up_log_tree.specs.Trees.{node_at, tree_at}
 use Rattle.up_answers.specs.SnapshotTrees.{made_up, snapshots_to}
 use Rattle.up_snap.specs.Shown.{first_to, is_short, kept_node, old_path, renamed, shown_node, shown_root}
-use Rattle.up_snap.specs.Standing.{node_of}
-use Rattle.up_snap.specs.declared.old.OldNode.{OldNode}
+use Rattle.up_mem_tree.specs.Nodes.{node_of}
+use Rattle.up_mem_tree.specs.declared.nodes.NodeRef.{NodeRef}
 use Rattle.up_snap.specs.declared.shown.Shown.{Shown}
 use Rattle.up_snap.proofs.ShownLemmas.{calendar, first_is, told}
 
@@ -28,7 +28,7 @@ module _ (owner : List ℕ) (records : List Rec) (path : PathName) where
       ap (λ b. if b then kept_node owner records path (shown.position - 1) else Some (made_up owner shown.time shown.position path)) (ap (is_under path) (sym is) ∙ below)
       ∙ ap (λ b. if b then option_map (renamed path) (node_at (tree_at records (shown.position - 1)) (old_path owner path)) else None) short
 
-  pub some_shown : (shown : Shown) (root old : PathName) (node : OldNode) → root ≡ shown_root path.owner shown.time → is_under path root ≡ true → is_short path ≡ true → old ≡ old_path owner path →
+  pub some_shown : (shown : Shown) (root old : PathName) (node : NodeRef) → root ≡ shown_root path.owner shown.time → is_under path root ≡ true → is_short path ≡ true → old ≡ old_path owner path →
       Some (node_of node) ≡ node_at (tree_at records (shown.position - 1)) old → Some (renamed path (node_of node)) ≡ shown_node owner records path shown
   some_shown shown root old node is below short same found =
       ap (option_map (renamed path)) (found ∙ ap (node_at (tree_at records (shown.position - 1))) same) ∙ sym (kept_shown shown root is below short)

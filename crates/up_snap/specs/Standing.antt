@@ -1,29 +1,15 @@
 -- What is found at a path of a snapshot tree. (That it is what stands there is proved; nothing outside rests on these
 -- definitions.)
-use Rattle.std.specs.Prelude.{Option, Some, None}
 use Rattle.up_names.specs.Texts.{UserName}
 use Rattle.up_names.specs.PathNames.{PathName}
-use Rattle.up_entry.specs.declared.records.Rec.{Rec}
-use Rattle.up_entry.specs.declared.records.Rec.TheVariants.{Put, Delete, Snap}
 use Rattle.up_log_tree.specs.declared.node.Node.{Node}
+use Rattle.up_mem_tree.specs.Nodes.{node_of}
 use Rattle.up_answers.specs.SnapshotTrees.{made_up}
 use Rattle.up_snap.specs.Shown.{renamed}
-use Rattle.up_snap.specs.declared.old.OldNode.{OldNode}
 use Rattle.up_snap.specs.declared.standing.Standing.{Standing}
 use Rattle.up_snap.specs.declared.standing.Standing.TheVariants.{Kept, MadeUp}
-
--- an item as a record has put it
-abbrev pub node_of : OldNode → Node
-node_of old = record { entry = old.entry.now; text = old.text.now }
 
 -- the item that stands at a path: one that the tree had, under this name, or a directory that is made up
 abbrev pub standing_node : UserName → PathName → Standing → Node
 standing_node owner path (Kept old) = renamed path (node_of old)
 standing_node owner path (MadeUp shown) = made_up owner shown.time shown.position path
-
--- what a record has put
-abbrev pub put_by : Option Rec → Option Node
-put_by (Some (Put entry text)) = Some (record { entry = entry; text = text })
-put_by (Some (Delete gone)) = None
-put_by (Some (Snap time)) = None
-put_by None = None

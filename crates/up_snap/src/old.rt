@@ -1,24 +1,14 @@
 //! What stood at a path after the first records of a log.
 ghost use Rattle.std.specs.Prelude.{◌≡◌, take, option_map, IfOk};
-ghost use Rattle.std.specs.Option.{option_copied};
 ghost use Rattle.up_log_tree.specs.Changes.{last_change};
 ghost use Rattle.up_log_tree.specs.Trees.{node_at, tree_at};
 ghost use Rattle.up_snap.specs.Shown.{old_path};
-ghost use Rattle.up_snap.specs.Standing.{node_of, put_by};
+ghost use Rattle.up_mem_tree.specs.Nodes.{node_of};
 
 use crate::moments::within;
 use std::alloc::{AllocError, Global};
-use up_bytes::Bytes;
-use up_entry::{Entry, Rec};
-use up_mem_tree::MemTree;
+use up_mem_tree::{MemTree, NodeRef, put_by};
 use up_names::{Path, User};
-
-/// What a record has put at a path: its entry, and the text of a control file.
-#[derive(Clone, Copy)]
-pub(crate) struct OldNode<'a> {
-    pub(crate) entry: &'a Entry,
-    pub(crate) text: &'a Bytes,
-}
 
 /// The path that a snapshot shows at a path: the elements behind the four of its moment.
 pub(crate) fn old_path(owner: &User, path: &Path) -> Result<Path, AllocError>
@@ -54,22 +44,12 @@ fn change_then(tree: &MemTree, path: &Path, n: u64) -> Result<Option<u64>, Alloc
     Err(AllocError)
 }
 
-/// What a record has put.
-fn put_by(rec: Option<&Rec>) -> Option<OldNode<'_>>
-    ensures { option_map node_of result ≡ put_by (option_copied rec.entry) }
-{
-    match rec {
-        Some(Rec::Put(entry, text)) => Some(OldNode { entry, text }),
-        Some(Rec::Delete(_)) | Some(Rec::Snap(_)) | None => None,
-    }
-}
-
 /// What stood at a path after the first `n` records.
 pub(crate) fn node_then<'a>(
     tree: &'a MemTree,
     path: &Path,
     n: u64,
-) -> Result<Option<OldNode<'a>>, AllocError>
+) -> Result<Option<NodeRef<'a>>, AllocError>
     ensures { IfOk result (λ found. option_map node_of found
         ≡ node_at (tree_at tree.now.log n) path.now) }
 {

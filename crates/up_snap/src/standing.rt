@@ -11,10 +11,11 @@ ghost use Rattle.up_names.specs.PathNames.{PathName, is_under};
 ghost use Rattle.up_snap.specs.Firsts.{IsTimed, bearing_at, sooner};
 ghost use Rattle.up_ends.specs.Moments.{IsMoment};
 ghost use Rattle.up_snap.specs.Shown.{first_to, old_path, shown_node, shown_root};
-ghost use Rattle.up_snap.specs.Standing.{node_of, standing_node};
+ghost use Rattle.up_mem_tree.specs.Nodes.{node_of};
+ghost use Rattle.up_snap.specs.Standing.{standing_node};
 
 use crate::moments::root_at;
-use crate::old::{OldNode, node_then, old_path};
+use crate::old::{node_then, old_path};
 use crate::shown::Shown;
 use crate::written::moment_of;
 use std::alloc::{AllocError, Global};
@@ -23,13 +24,13 @@ use up_bytes::Bytes;
 use up_entry::{Attr, Entry, Kind};
 use up_list::Found;
 use up_lists::Items;
-use up_mem_tree::MemTree;
+use up_mem_tree::{MemTree, NodeRef};
 use up_names::{Path, User};
 
 /// What stands at a path: an item that the tree had then, or a directory that is made up.
 #[derive(Clone, Copy)]
 pub(crate) enum Standing<'a> {
-    Kept(OldNode<'a>),
+    Kept(NodeRef<'a>),
     MadeUp(Shown),
 }
 
@@ -155,7 +156,7 @@ pub(crate) fn standing_by<'a>(
 }
 
 /// What stood after the first `n` records at the path that a snapshot shows at this one.
-fn node_shown<'a>(tree: &'a MemTree, path: &Path, n: u64) -> Result<Option<OldNode<'a>>, AllocError>
+fn node_shown<'a>(tree: &'a MemTree, path: &Path, n: u64) -> Result<Option<NodeRef<'a>>, AllocError>
     ensures { IfOk result (λ found. option_map node_of found
         ≡ node_at (tree_at tree.now.log n) (old_path tree.now.owner path.now)) }
 {

@@ -14,4 +14,4 @@ mod state;
 
 pub use old::Old;
 pub use state::TreeState;
-pub use up_mem_tree::Node;
+pub use up_mem_tree::NodeRef;

@@ -1,11 +1,12 @@
 //! The tree as it was after its first records.
-ghost use Rattle.std.specs.Prelude.{◌≡◌, ◌≤◌, ◌<◌, ◌+◌, length, slice_get, take, IfOk, OnOk};
+ghost use Rattle.std.specs.Prelude.{◌≡◌, ◌≤◌, ◌<◌, ◌+◌, length, option_map, slice_get, take, IfOk, OnOk};
 ghost use Rattle.std.specs.Option.{option_copied};
 ghost use Rattle.up_log_tree.specs.Trees.{children, node_at, tree_at};
+ghost use Rattle.up_mem_tree.specs.Nodes.{node_of};
 
 use std::alloc::AllocError;
 use std::marker::Model;
-use up_mem_tree::{MemTree, Node};
+use up_mem_tree::{MemTree, NodeRef};
 use up_names::Path;
 
 /// A tree as it was after some first records of its log.
@@ -24,8 +25,8 @@ impl Model for Old {
 
 impl Old {
     /// What stood at a path.
-    pub fn node(&self, path: &Path) -> Option<&Node>
-        ensures { option_copied result ≡ node_at self.now path.now }
+    pub fn node(&self, path: &Path) -> Option<NodeRef<'_>>
+        ensures { option_map node_of result ≡ node_at self.now path.now }
     {
         self.tree.node(path)
     }

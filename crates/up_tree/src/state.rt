@@ -22,6 +22,7 @@ ghost use Rattle.up_log_tree.specs.Logs.{bytes_of};
 ghost use Rattle.up_log_tree.specs.Rights.{facts_of, governing_prefix};
 ghost use Rattle.up_log_tree.specs.Sizes.{size_of};
 ghost use Rattle.up_log_tree.specs.Trees.{children, node_at, tree_at, tree_of};
+ghost use Rattle.up_mem_tree.specs.Nodes.{node_of};
 ghost use Rattle.up_tree.specs.States.{Applies, IsKept, Opens, Resolves, disk_after, entries_of, fixed_of, read_by, records_in};
 
 use crate::old::{Old, old_tree};
@@ -36,7 +37,7 @@ use up_entry::{Rec, write_rec};
 use up_group::GroupText;
 use up_journal::{AppendWhy, Journal, Limits, OpenFault, OpenWhy};
 use up_lists::Items;
-use up_mem_tree::{MemTree, Node};
+use up_mem_tree::{MemTree, NodeRef};
 use up_names::{Path, User};
 
 /// A tree over its log. It is seen as its owner, its limits and the records of its log, each of which fits those before it. After a
@@ -170,8 +171,8 @@ impl<D: Disk> TreeState<D> {
     }
 
     /// What stands at a path.
-    pub fn node(&self, path: &Path) -> Option<&Node>
-        ensures { option_copied result ≡ node_at (tree_of self.now.log) path.now }
+    pub fn node(&self, path: &Path) -> Option<NodeRef<'_>>
+        ensures { option_map node_of result ≡ node_at (tree_of self.now.log) path.now }
     {
         self.tree.node(path)
     }

@@ -7,7 +7,7 @@ use up_disk::MemDisk;
 use up_entry::Kind;
 use up_group::GroupText;
 use up_names::Path;
-use up_tree::{Node, TreeState};
+use up_tree::{NodeRef, TreeState};
 
 /// Does a command of a tree.
 pub fn turn(
@@ -168,7 +168,7 @@ fn add_nearest(found: Option<(u64, &AccessText)>, answer: &mut Answer) {
 }
 
 // The kind of a node, its sequence, and its text or a link's target.
-fn add_node(found: Option<&Node>, answer: &mut Answer) {
+fn add_node(found: Option<NodeRef<'_>>, answer: &mut Answer) {
     let Some(node) = found else {
         return answer.word("none");
     };

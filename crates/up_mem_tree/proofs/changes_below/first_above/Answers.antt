@@ -1,4 +1,4 @@
-use Rattle.std.proofs.Common.{◌≤◌, ◌<◌, ◌+◌, ◌-◌, ◌/◌, length, arith}
+use Rattle.std.proofs.Common.{◌<◌, ◌+◌, ◌-◌, ◌/◌, arith}
 use Rattle.up_mem_tree.proofs.Fronts.{above_rest, front_within, low_front}
 use Rattle.up_mem_tree.proofs.changes_below.first_above.Goals as goal
 

@@ -8,7 +8,7 @@ use Rattle.up_mem_tree.proofs.rooms.reserve_own.Goals as goal
 pub returns-in-There-clause-same : goal.returns-in-There-clause-same
 returns-in-There-clause-same c =
     let there = read_at c.args.slots.now.items c.in-There.id c.index_mut.result.now (subst (IsInRange c.args.slots.now.items) c.in-There.is c.requires.range) c.index_mut.ensures.value in
-    set_alike c.args.slots.now.items c.in-There.id c.index_mut.result.now _ there (known_alike _ c.index_mut.result.now refl refl refl refl refl refl refl c.reserve_change.ensures.items)
+    set_alike c.args.slots.now.items c.in-There.id c.index_mut.result.now _ there (known_alike _ c.index_mut.result.now refl refl refl refl refl refl c.reserve_change.ensures.items)
 
 pub returns-in-There-clause-others : goal.returns-in-There-clause-others
 returns-in-There-clause-others c id apart = get-set c.args.slots.now.items c.in-There.id id _ (λ same. subst (λ own. IsApart own id) c.in-There.is apart (sym same))

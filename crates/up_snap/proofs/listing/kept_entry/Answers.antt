@@ -2,7 +2,7 @@ use Rattle.std.proofs.Common.{ap, sym, ◌∙◌, subst, IfOk}
 use Rattle.std.specs.Prelude.{◌≡◌, option_map}
 use Rattle.up_names.specs.Faults.{Gives}
 use Rattle.up_names.specs.PathNames.{joined}
-use Rattle.up_snap.specs.Standing.{node_of}
+use Rattle.up_mem_tree.specs.Nodes.{node_of}
 use Rattle.up_snap.proofs.KeptLemmas.{entry_made}
 use Rattle.up_snap.proofs.listing.kept_entry.Goals as goal
 

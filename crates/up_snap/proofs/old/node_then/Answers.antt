@@ -1,6 +1,6 @@
 use Rattle.std.proofs.Common.{sym, ap, ◌∙◌}
-use Rattle.up_snap.proofs.OldLemmas.{left, left_is}
-use Rattle.up_snap.specs.Standing.{put_by}
+use Rattle.up_mem_tree.proofs.Lasts.{left, left_is}
+use Rattle.up_mem_tree.specs.Nodes.{put_by}
 use Rattle.up_snap.proofs.old.node_then.Goals as goal
 
 pub returns-in-Some : goal.returns-in-Some

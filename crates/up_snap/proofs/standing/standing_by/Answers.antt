@@ -1,7 +1,7 @@
 use Rattle.std.proofs.Common.{refl, sym, ap, ◌∙◌}
 use Rattle.std.specs.Prelude.{option_map}
 use Rattle.up_snap.specs.Shown.{old_path, shown_root}
-use Rattle.up_snap.specs.Standing.{node_of}
+use Rattle.up_mem_tree.specs.Nodes.{node_of}
 use Rattle.up_snap.proofs.ShortLemmas.{short_path}
 use Rattle.up_snap.proofs.StandingLemmas.{made_shown, none_shown, some_shown}
 use Rattle.up_snap.proofs.standing.standing_by.Goals as goal

@@ -6,4 +6,4 @@ pub returns-in-None : goal.returns-in-None
 returns-in-None c = not_deletable c.args.self.now c.requires c.args.path.now c.in-None.ensures
 
 pub returns-in-Some : goal.returns-in-Some
-returns-in-Some c = c.is_bare.ensures ∙ deletable c.args.self.now c.requires c.args.path.now c.in-Some.slot.now c.in-Some.ensures
+returns-in-Some c = c.is_bare.ensures ∙ deletable c.args.self.now c.requires c.args.path.now c.in-Some.slot.now c.node_of_slot.result (c.node_of_slot.ensures c.args.path.now c.in-Some.ensures) c.in-Some.ensures

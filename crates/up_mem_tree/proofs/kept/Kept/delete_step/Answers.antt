@@ -1,16 +1,12 @@
-use Rattle.std.proofs.Common.{◌≡◌, ◌+◌, Option, None, length, refl, sym, ap, subst, ◌∙◌}
+use Rattle.std.proofs.Common.{◌≡◌, ◌+◌, None, length, refl, sym, ap, subst, ◌∙◌}
 use Rattle.std.proofs.lemmas.Bool.{false≢true}
 use Rattle.up_entry.specs.declared.records.Rec.TheVariants.{Delete}
 use Rattle.up_mem_tree.specs.Kept.{paths_of, slots_of}
 use Rattle.up_mem_tree.specs.Slots.{IsIdOf}
 use Rattle.up_mem_tree.specs.Steps.{access_change, group_change, without_path}
-use Rattle.up_log_tree.specs.declared.node.Node.{Node}
 use Rattle.up_mem_tree.proofs.Aboves.{above_in, item_named, named_has_above}
 use Rattle.up_mem_tree.proofs.RecordChanges.{children_without, delete_stands}
 use Rattle.up_mem_tree.proofs.kept.Kept.delete_step.Goals as goal
-
-none : Option Node
-none = None
 
 pub unreachable-requires : goal.unreachable-requires
 unreachable-requires c =
@@ -27,7 +23,6 @@ returns-clause-step c =
     let position : c.len.result + 1 ≡ length self.log.items + 1 = ap (λ n. n + 1) (c.len.ensures ∙ self.log.ok.0) in
     record {
       position = position;
-      node = refl;
       group = c.changes_by_delete-access.ensures.group self.owner ∙ ap (group_change self.owner path None) position;
       own = subst (IsIdOf (paths_of self) (slots_of self) path) c.in-Some.is c.ids_of-found.ensures.own;
       above = above_in self (Delete path) path None c.in-Some.own c.in-Some.own refl (without_path path) c.changes_by_delete-access.result.0

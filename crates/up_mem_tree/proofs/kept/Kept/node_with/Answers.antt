@@ -1,9 +1,8 @@
-use Rattle.std.proofs.Common.{◌∙◌}
-use Rattle.up_mem_tree.proofs.Readings.{no_node, node_told}
+use Rattle.up_mem_tree.proofs.Readings.{no_node}
 use Rattle.up_mem_tree.proofs.kept.Kept.node_with.Goals as goal
 
 pub returns-in-Some : goal.returns-in-Some
-returns-in-Some c = c.as_ref.ensures.value ∙ node_told c.args.self.now c.requires.stands c.args._path.now c.in-Some.slot.now (c.in-Some.ensures c.args._path.now c.requires.own)
+returns-in-Some c = c.node_of_slot.ensures c.args._path.now (c.in-Some.ensures c.args._path.now c.requires.own)
 
 pub returns-in-None : goal.returns-in-None
 returns-in-None c = no_node c.args.self.now c.requires.stands c.args._path.now (c.in-None.ensures c.args._path.now c.requires.own)

@@ -22,7 +22,6 @@ returns-clause-step c =
     let id_same = c.own_id-id.ensures ∙ ap (λ slots. own_id (known_all slots) c.in_ok-own.own) c.as_slice.ensures.value in
     record {
       position = c.requires.fits.sequence;
-      node = ap Some c.in-Ok.ensures;
       group = c.in_ok-access.ensures.group ∙ ap (group_change self.owner entry.name (Some node)) c.requires.fits.sequence;
       own = subst (λ parent. IsOwnOf (paths_of self) (slots_of self) entry.name parent c.in_ok-own.own) (sym c.put_above.ensures.id) (c.in_ok-own.ensures.own (paths_of self) (slots_of self) c.ids_of-found.ensures.own);
       above = above_in self (Put entry text) entry.name (Some node) c.own_id-id.result (own_id (slots_of self) c.in_ok-own.own) id_same (with_path entry.name) c.in_ok-access.access

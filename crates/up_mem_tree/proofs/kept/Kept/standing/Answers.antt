@@ -1,8 +1,9 @@
 use Rattle.std.proofs.Common.{◌≡◌, ◌-◌, ◌+◌, ◌<◌, Some, refl, sym, subst, ap, ◌∙◌, arith}
-use Rattle.std.specs.Option.{option_copied}
+use Rattle.std.specs.Prelude.{option_map}
 use Rattle.up_names.specs.PathNames.{cut}
-use Rattle.up_log_tree.specs.Trees.{node_at, tree_of}
+use Rattle.up_log_tree.specs.Trees.{tree_of}
 use Rattle.up_mem_tree.specs.Kept.{paths_of, slots_of}
+use Rattle.up_mem_tree.specs.Nodes.{node_of}
 use Rattle.up_mem_tree.specs.Slots.{IsDeepest}
 use Rattle.up_mem_tree.proofs.Standings.{NoneAbove, from_root, node_found, none_at_all, none_deeper, none_found, none_higher}
 use Rattle.up_mem_tree.proofs.Upward.{never, up_to}
@@ -27,7 +28,7 @@ returns-in-Some-node_in c =
     let path = c.args.path.now in
     let i = c.loop-up.invariant in
     let m = c.in-Some.depth - c.loop-up._up in
-    node_found (tree_of self.log.items) path m c.in-Some-node_in.node.now (omega (arith, i.0, i.1)) (c.in-Some-node_in.ensures (cut m path) i.2) i.3
+    node_found (tree_of self.log.items) path m (node_of c.in-Some-node_in.node) (omega (arith, i.0, i.1)) (c.in-Some-node_in.ensures (cut m path) i.2) i.3
 
 pub unreachable-requires : goal.unreachable-requires
 unreachable-requires c =
@@ -45,7 +46,7 @@ loop-up-preserved c =
     let m = c.in-Some.depth - c.loop-up._up in
     let positive : 0 < m = omega (arith, c.loop-up-test.true) in
     let less : m - 1 ≡ c.in-Some.depth - (c.loop-up._up + 1) = omega arith in
-    let here = ap option_copied (sym c.in_default-node_in.is) ∙ c.node_in.ensures (cut m path) i.2 in (
+    let here = ap (option_map node_of) (sym c.in_default-node_in.is) ∙ c.node_in.ensures (cut m path) i.2 in (
       omega (arith, c.loop-up-test.true),
       i.1,
       up_to self c.requires path m c.loop-up.id positive (omega (arith, i.0, i.1)) i.2 c.id_above.result (c.id_above.ensures (cut m path) i.2) c.in-Some-id_above.above c.in-Some-id_above.is
