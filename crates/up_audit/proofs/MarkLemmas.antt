@@ -20,8 +20,9 @@ use Rattle.up_log_tree.proofs.Trees.{tree_sorted}
 use Rattle.up_log_tree.specs.Changes.{change_before, last_change, path_of_change, positions_of, record_at}
 use Rattle.up_log_tree.specs.Trees.{Tree, node_at, tree_at, tree_of}
 use Rattle.up_log_tree.specs.declared.node.Node.{Node}
+use Rattle.up_mem_tree.proofs.Lasts as lasts
+use Rattle.up_mem_tree.specs.Nodes.{put_by}
 use Rattle.up_snap.proofs.OldLemmas as old
-use Rattle.up_snap.specs.Standing.{put_by}
 
 -- ---- tests
 
@@ -113,9 +114,9 @@ module _ (records : List Rec) (r : Ref) where
   names_tree n among =
       let found = found_in (λ (item : PathName × Node). is_among (references_of item.1.entry) r) (tree_at records n) (sym (among_tree (tree_at records n)) ∙ among) in
       let there : node_at (tree_at records n) found.item.0 ≡ Some found.item.1 = listed_found (tree_at records n) found.place found.item (tree_sorted (take n records)) found.there in
-      go found.item.0 found.item.1 found.passes (changes.Last records found.item.0 n) refl (sym (old.left_is records found.item.0 n) ∙ there)
+      go found.item.0 found.item.1 found.passes (changes.Last records found.item.0 n) refl (sym (lasts.left_is records found.item.0 n) ∙ there)
     where
-      go : (path : PathName) (node : Node) → is_among (references_of node.entry) r ≡ true → (last : Option ℕ) → changes.Last records path n ≡ last → old.left records path last ≡ Some node → Names n
+      go : (path : PathName) (node : Node) → is_among (references_of node.entry) r ≡ true → (last : Option ℕ) → changes.Last records path n ≡ last → lasts.left records path last ≡ Some node → Names n
       go path node named None is left = absurd (some_none node (sym left))
       go path node named (Some at) is left = record { path = path; at = at; last = is; named = put_named (record_at records at) r node left named }
 
@@ -123,7 +124,7 @@ module _ (records : List Rec) (r : Ref) where
   unfolding node_at
   tree_names n names =
       let put = named_put (record_at records names.at) r names.named in
-      let there : node_at (tree_at records n) names.path ≡ Some put.0 = old.left_is records names.path n ∙ ap (old.left records names.path) names.last ∙ put.1 in
+      let there : node_at (tree_at records n) names.path ≡ Some put.0 = lasts.left_is records names.path n ∙ ap (lasts.left records names.path) names.last ∙ put.1 in
       let listed = found_listed names.path (tree_at records n) put.0 there in
       among_tree (tree_at records n) ∙ any_at (λ (item : PathName × Node). is_among (references_of item.1.entry) r) (tree_at records n) listed.place (listed.key, put.0) listed.there put.2
 
