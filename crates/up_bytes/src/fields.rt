@@ -70,8 +70,8 @@ pub trait Fields: Sized {
         ensures { result ≡ size_of (spelling self.now) };
 }
 
-/// Takes a number and so many values from the front of the input. The number reserves nothing before they are there. A
-/// refused call leaves the place where it was.
+/// Takes a number and so many values from the front of the input. The number reserves nothing before they are there, and the list
+/// keeps no memory beyond them. A refused call leaves the place where it was.
 #[tactic(auto, unfolding(crate::specs::Reading::list_at))]
 pub fn read_list<T: Fields + Drop>(
     alloc: Global,
@@ -87,7 +87,8 @@ pub fn read_list<T: Fields + Drop>(
 {
     let mut ahead = input.fork();
     let count = ahead.num()?;
-    let values = take_items(alloc, &mut ahead, count)?;
+    let mut values = take_items(alloc, &mut ahead, count)?;
+    values.shrink();
     *input = ahead;
     Ok(values)
 }

@@ -75,6 +75,13 @@ impl<T> Items<T> {
         self.items.push(value)
     }
 
+    /// Gives back what memory the list has beyond its items, where that can be had.
+    pub fn shrink(&mut self)
+        ensures { self.new ≡ self.old }
+    {
+        self.items.shrink_to_fit();
+    }
+
     /// The number of items.
     pub fn len(&self) -> u64
         ensures { result ≡ length self.now }
