@@ -22,6 +22,13 @@ use up_policy::Loaded;
 use up_rights::Right;
 use up_wire::Reply;
 
+/// What stands in the place of a path's directory: nothing, or a file. A root has no directory.
+#[derive(Clone, Copy)]
+struct Above {
+    is_missing: bool,
+    is_file: bool,
+}
+
 /// What a Put by a user leads to: the record that is to be added, or the refusal. Links and rights are tested first, then what stands
 /// at the path and above it, then the text of a control file.
 ///
@@ -82,12 +89,13 @@ fn refusal_of(
     ensures { IfOk result (λ refusal. unless refusal
         ≡ may_put (look_in tree.now loaded.now user.now) put.now) }
 {
-    let right = right_to_put(tree.node(&put.entry.name));
+    let found = tree.node(&put.entry.name);
+    let right = right_to_put(found);
     let look = TreeLook::new(tree, loaded, user);
     if let Some(refusal) = check(alloc, &look, &put.entry.name, true, Some(right))? {
         return Ok(Some(refusal));
     }
-    place_refusal(tree, put)
+    place_refusal(tree, found, put)
 }
 
 /// The record of a Put that nothing refuses but its text, or that refusal.
@@ -155,15 +163,17 @@ fn at_position(mut entry: Entry, position: u64) -> Entry
     entry
 }
 
-/// The refusal of a Put by what stands at the path and above it, where there is one.
-fn place_refusal(tree: &MemTree, put: &Checked) -> Result<Option<Reply>, AllocError>
+/// The refusal of a Put by what stands at the path, which was found already, and above it, where there is one.
+fn place_refusal(
+    tree: &MemTree,
+    found: Option<NodeRef<'_>>,
+    put: &Checked,
+) -> Result<Option<Reply>, AllocError>
     ensures { IfOk result (λ refusal. unless refusal
-        ≡ place_refusal (node_at (tree_of tree.now.log) put.now.entry.name)
-        (tree_of tree.now.log) put.now) }
+        ≡ place_refusal (option_map node_of found.entry) (tree_of tree.now.log) put.now) }
 {
-    let orphan = lacks_parent(tree, &put.entry.name)?;
-    let in_file = is_in_file(tree, &put.entry.name)?;
-    Ok(refusal_at(tree.node(&put.entry.name), orphan, in_file, put))
+    let above = place_above(tree, &put.entry.name)?;
+    Ok(refusal_at(found, above.is_missing, above.is_file, put))
 }
 
 /// The same, once it is known whether the parent is not there, and whether it is a file.
@@ -206,25 +216,24 @@ fn sequence_refusal(there: NodeRef<'_>, sequence: i64) -> Option<Reply>
     None
 }
 
-/// Whether the parent of a path is not there. A root has none.
-fn lacks_parent(tree: &MemTree, path: &Path) -> Result<bool, AllocError>
-    ensures { IfOk result (λ lacks. lacks ≡ lacks_parent (tree_of tree.now.log) path.now) }
+/// What stands in the place of a path's directory.
+fn place_above(tree: &MemTree, path: &Path) -> Result<Above, AllocError>
+    ensures missing { IfOk result (λ above. above.is_missing ≡ lacks_parent (tree_of tree.now.log) path.now) }
+    ensures file { IfOk result (λ above. above.is_file ≡ is_in_file (tree_of tree.now.log) path.now) }
 {
     let above = path.parent()?;
     match &above {
-        Some(parent) => Ok(tree.node(parent).is_none()),
-        None => Ok(false),
-    }
-}
-
-/// Whether the parent of a path is a file.
-fn is_in_file(tree: &MemTree, path: &Path) -> Result<bool, AllocError>
-    ensures { IfOk result (λ within. within ≡ is_in_file (tree_of tree.now.log) path.now) }
-{
-    let above = path.parent()?;
-    match &above {
-        Some(parent) => Ok(is_file(tree.node(parent))),
-        None => Ok(false),
+        Some(parent) => {
+            let found = tree.node(parent);
+            Ok(Above {
+                is_missing: found.is_none(),
+                is_file: is_file(found),
+            })
+        }
+        None => Ok(Above {
+            is_missing: false,
+            is_file: false,
+        }),
     }
 }
 
