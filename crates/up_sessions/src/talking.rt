@@ -63,6 +63,15 @@ impl<'a, D: Disk, P: Loader> Ask for SessionAsk<'a, D, P> {
     ghost joined = { λ a b c p q. (q.0 ∙ p.0, q.1 ∙ p.1) };
 }
 
+// A file that is put: its path, its time, the sequence that is handed in, and its bytes.
+#[derive(Clone, Copy)]
+struct NewFile<'a> {
+    path: &'a Path,
+    time: i64,
+    sequence: i64,
+    bytes: &'a [u8],
+}
+
 impl<D: Disk> Sessions<D> {
     /// The user of the session that is open at a number puts a file at a path, with a time and a sequence, at a moment in seconds since
     /// 1970, before the year 10000. `Failed` never comes, since the host always answers.
@@ -92,10 +101,12 @@ impl<D: Disk> Sessions<D> {
             opened.place,
             peers,
             &opened.session,
-            path,
-            time,
-            sequence,
-            bytes,
+            NewFile {
+                path,
+                time,
+                sequence,
+                bytes,
+            },
             Moment::of(now),
         )
     }
@@ -138,24 +149,20 @@ fn put_at<D: Disk, P: Loader>(
     place: usize,
     peers: &mut P,
     session: &Session,
-    path: &Path,
-    time: i64,
-    sequence: i64,
-    bytes: &[u8],
+    file: NewFile<'_>,
     moment: Moment,
 ) -> Result<u64, ClientFault>
     requires { place < length hosts.old }
     ensures { OneOf place (TalksTo D.Disk P.Loader (others place hosts.old) session.now.user moment
-        (put_talk session.now.user path.now time sequence bytes.now) result)
+        (put_talk session.now.user file.entry.path.now file.entry.time file.entry.sequence
+        file.entry.bytes.now) result)
         hosts.old peers.old hosts.new peers.new }
 {
     let (before, rest) = hosts.split_at_mut(place);
     let Some((host, after)) = rest.split_first_mut() else {
         unreachable!()
     };
-    put_among(
-        alloc, host, before, after, peers, session, path, time, sequence, bytes, moment,
-    )
+    put_among(alloc, host, before, after, peers, session, file, moment)
 }
 
 // Puts a file at a host among others: those before it, and those after it.
@@ -166,14 +173,12 @@ fn put_among<D: Disk, P: Loader>(
     after: &[Host<D>],
     peers: &mut P,
     session: &Session,
-    path: &Path,
-    time: i64,
-    sequence: i64,
-    bytes: &[u8],
+    file: NewFile<'_>,
     moment: Moment,
 ) -> Result<u64, ClientFault>
     ensures { TalksTo D.Disk P.Loader (before.now ++ after.now) session.now.user moment
-        (put_talk session.now.user path.now time sequence bytes.now) result
+        (put_talk session.now.user file.entry.path.now file.entry.time file.entry.sequence
+        file.entry.bytes.now) result
         host.old host.new peers.old peers.new }
 {
     let mut ask = SessionAsk {
@@ -184,7 +189,15 @@ fn put_among<D: Disk, P: Loader>(
         session,
         moment,
     };
-    put(alloc, &mut ask, session.user(), path, time, sequence, bytes)
+    put(
+        alloc,
+        &mut ask,
+        session.user(),
+        file.path,
+        file.time,
+        file.sequence,
+        file.bytes,
+    )
 }
 
 // Gets a file from the host at a place.
