@@ -1,5 +1,6 @@
 -- Access texts (Upspin access control document). Lines that grant nobody are this project's own.
-use Rattle.std.specs.Prelude.{ℕ, Bool, ◌==◌, not, if◌then◌else◌, List, [], ◌∷◌, map, Option, Some, None, option_map, option_and_then, Result}
+use Rattle.std.specs.Prelude.{ℕ, Bool, ◌==◌, not, if◌then◌else◌, List, [], ◌∷◌, map, Option, Some, None}
+use Rattle.std.specs.Prelude.{option_map, option_and_then, Result}
 use Rattle.std.specs.List.{list_any, before_first, after_first}
 use Rattle.std.specs.Str.{byte}
 use Rattle.up_names.specs.Texts.{Text, UserName}
@@ -12,6 +13,7 @@ use Rattle.up_rights.specs.Words.{rights_of}
 use Rattle.up_access.specs.declared.Rule.{Rule}
 
 infixl 10 ◌>>=◌
+-- what comes next, where the first was found
 abbrev pub ◌>>=◌ : {A B : Type 0} → Option A → (A → Option B) → Option B
 found >>= next = option_and_then next found
 

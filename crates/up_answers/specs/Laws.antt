@@ -1,5 +1,6 @@
 -- Laws of answers: nothing stands below a link, and what a user is answered depends on what the user sees alone.
-use Rattle.std.specs.Prelude.{◌≡◌, ◌≢◌, ℕ, ◌<◌, ◌≤◌, ◌⊎◌, ◌↔◌, true, false, List, [], ◌∷◌, ◌++◌, length, take, ⊤, if◌then◌else◌, ◌&&◌, is_some, Contains, IsTrue, Option, Some, None}
+use Rattle.std.specs.Prelude.{◌≡◌, ◌≢◌, ℕ, ◌<◌, ◌≤◌, ◌⊎◌, ◌↔◌, true, false, List, [], ◌∷◌, ◌++◌, length, take, ⊤}
+use Rattle.std.specs.Prelude.{if◌then◌else◌, ◌&&◌, is_some, Contains, IsTrue, Option, Some, None}
 use Rattle.std.specs.Str.{bytes_eq}
 use Rattle.up_names.specs.Texts.{UserName}
 use Rattle.up_names.specs.PathNames.{PathName, control_of, cut, ends_in_access, is_under, parent_of}

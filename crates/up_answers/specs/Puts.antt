@@ -1,5 +1,6 @@
 -- Put (Upspin overview; the order of its refusals, and which rights are tested, are this project's own).
-use Rattle.std.specs.Prelude.{ℕ, zero, suc, ◌+◌, ◌==◌, ℤ, pos, negsuc, Bool, true, false, not, ◌&&◌, ◌||◌, ⊤, Option, Some, None, is_none, is_some, Result}
+use Rattle.std.specs.Prelude.{ℕ, zero, suc, ◌+◌, ◌==◌, ℤ, pos, negsuc, Bool, true, false, not, ◌&&◌, ◌||◌, ⊤}
+use Rattle.std.specs.Prelude.{Option, Some, None, is_none, is_some, Result}
 use Rattle.std.specs.Prelude as std
 use Rattle.up_names.specs.PathNames.{PathName, parent_of}
 use Rattle.up_entry.specs.declared.puts.Checked.{Checked}

@@ -1,6 +1,7 @@
 -- The snapshot tree of a log: under the moment of each snapshot, the tree as it was (Upspin overview; paths, and the directories
 -- that are made up, are this project's own).
-use Rattle.std.specs.Prelude.{ℕ, zero, suc, pos, Bool, false, nat_le, List, [], ◌∷◌, ◌++◌, length, fold, map, filter, slice_get, Option, Some, None}
+use Rattle.std.specs.Prelude.{ℕ, zero, suc, pos, Bool, false, nat_le, List, [], ◌∷◌, ◌++◌, length, fold, map, filter, slice_get}
+use Rattle.std.specs.Prelude.{Option, Some, None}
 use Rattle.std.specs.FinMap.Entries as entries
 use Rattle.std.specs.Map.{values_of}
 use Rattle.up_names.specs.Texts.{UserName}

@@ -1,6 +1,7 @@
 -- The reply to Watch: what happened under a path, or what there is (Upspin overview; batches and sequences are this project's
 -- own).
-use Rattle.std.specs.Prelude.{ℕ, zero, suc, ℤ, pos, negsuc, int_le, Bool, false, not, ◌&&◌, nat_lt, if◌then◌else◌, List, [], length, take, filter, slice_get, Option, Some, None, unwrap_or}
+use Rattle.std.specs.Prelude.{ℕ, zero, suc, ℤ, pos, negsuc, int_le, Bool, false, not, ◌&&◌, nat_lt, if◌then◌else◌}
+use Rattle.std.specs.Prelude.{List, [], length, take, filter, slice_get, Option, Some, None, unwrap_or}
 use Rattle.std.specs.Option.{option_map}
 use Rattle.std.specs.Map.{values_of}
 use Rattle.up_names.specs.Texts.{UserName}

@@ -1,6 +1,6 @@
 -- The records of a log are read, one payload after the other.
-use Rattle.std.proofs.Common.{◌≡◌, ◌≤◌, ◌+◌, IfSome, ℕ, zero, suc, List, [], ◌∷◌, ◌++◌, length, map, take, drop, Option, Some, None, option_map, Result, Ok, Err, IsErrAnd, IfErr, ◌⊎◌, inl, inr, ⊎_elim, refl, sym, ap, ◌∙◌, subst, arith, slice_get}
-use Rattle.std.proofs.lemmas.List.{length-map, map-append}
+use Rattle.std.proofs.Common.{◌≡◌, ◌+◌, IfSome, ℕ, List, [], ◌∷◌, ◌++◌, map, take, Option, Some, None, option_map, Result, Ok, Err, IsErrAnd, IfErr, ◌⊎◌, inl, inr, ⊎_elim, refl, sym, ap, ◌∙◌, subst, slice_get}
+use Rattle.std.proofs.lemmas.List.{map-append}
 use Rattle.up_blocks.specs.Kept.{IsIndex, IsTaken, log_seen, record_of, untold}
 use Rattle.up_blocks.specs.Records.{decoded, fits}
 use Rattle.up_blocks.specs.declared.record.BlockRecord.{BlockRecord}
@@ -13,8 +13,8 @@ use Rattle.up_journal.specs.declared.fault.OpenWhy.{OpenWhy}
 use Rattle.up_journal.specs.declared.fault.OpenWhy.TheVariants as open_why
 use Rattle.up_journal.specs.declared.fault.ReadWhy.{ReadWhy}
 use Rattle.up_journal.specs.declared.fault.ReadWhy.TheVariants as read_why
-use Rattle.up_journal.specs.Records.{ReadUpTo, replay, replay_from}
-use Rattle.up_journal.proofs.Logs.{fits_more, fits_none, fits_step}
+use Rattle.up_journal.specs.Records.{ReadUpTo}
+use Rattle.up_journal.proofs.Logs.{fits_more, fits_step}
 use Rattle.up_journal.proofs.Records.{take_next}
 
 -- the log up to the record with that number, from 0
@@ -49,63 +49,6 @@ fits_next None n payload before records numbers is taken fitting =
 fits_next (Some payloads) n payload before records numbers is taken fitting =
     let log = map record_of (take n payloads) in
     subst (λ l. EachFits fits l) (sym (told_next payloads n payload is)) (fits_step fits decoded log payload (log ++ record_of payload ∷ []) fitting taken.step)
-
--- nothing is read yet
-pub fits_first : (told : Option (List (List ℕ))) (records : List Kept) → records ≡ [] → EachFits fits (up_to 0 told records)
-fits_first told records none = subst (λ r. EachFits fits (up_to 0 told r)) (sym none) (start told)
-  where
-    start : (told : Option (List (List ℕ))) → EachFits fits (up_to 0 told [])
-    start None = fits_none fits
-    start (Some payloads) = fits_none fits
-
-pub index_none : (told : Option (List (List ℕ))) (records : List Kept) (numbers : List (List ℕ × ℕ)) → records ≡ [] → numbers ≡ [] → IsIndex (up_to 0 told records) records numbers
-index_none told records numbers none empty = subst (λ r. IsIndex (up_to 0 told r) r numbers) (sym none) (subst (λ n. IsIndex (up_to 0 told []) [] n) (sym empty) (start told))
-  where
-    start : (told : Option (List (List ℕ))) → IsIndex (up_to 0 told []) [] []
-    start None = record { same = refl; held = record { same = refl }; sized = record { same = refl } }
-    start (Some payloads) = record { same = refl; held = record { same = refl }; sized = record { same = refl } }
-
--- all is read
-take_all : {X : Type 0} (xs : List X) (n : ℕ) → length xs ≤ n → take n xs ≡ xs
-take_all [] zero le = refl
-take_all [] (suc n) le = refl
-take_all (x ∷ xs) zero le = absurd (omega (arith, le))
-take_all (x ∷ xs) (suc n) le = ap (λ ys. x ∷ ys) (take_all xs n (omega (arith, le)))
-
-drop_all : {X : Type 0} (xs : List X) (n : ℕ) → length xs ≤ n → drop n xs ≡ []
-drop_all [] zero le = refl
-drop_all [] (suc n) le = refl
-drop_all (x ∷ xs) zero le = absurd (omega (arith, le))
-drop_all (x ∷ xs) (suc n) le = drop_all xs n (omega (arith, le))
-
-take_whole : {X : Type 0} (xs : List X) (n : ℕ) → length xs ≡ n → take n xs ≡ xs
-take_whole xs n is = take_all xs n (omega (arith, is))
-
-pub index_all : (told : Option (List (List ℕ))) (sizes : List ℕ) (n : ℕ) (records : List Kept) (numbers : List (List ℕ × ℕ)) → IfSome told (λ payloads. map length payloads ≡ sizes) → n ≡ length sizes
-    → IsIndex (up_to n told records) records numbers → IsIndex (log_seen told records) records numbers
-index_all None sizes n records numbers sized all index = index
-index_all (Some payloads) sizes n records numbers sized all index =
-    let count : length payloads ≡ n = sym (length-map payloads length) ∙ ap length sized ∙ sym all in
-    subst (λ l. IsIndex (map record_of l) records numbers) (take_whole payloads n count) index
-
-pub fits_all : (told : Option (List (List ℕ))) (sizes : List ℕ) (n : ℕ) (records : List Kept) → IfSome told (λ payloads. map length payloads ≡ sizes) → n ≡ length sizes
-    → EachFits fits (up_to n told records) → EachFits fits (log_seen told records)
-fits_all None sizes n records sized all fitting = fitting
-fits_all (Some payloads) sizes n records sized all fitting =
-    let count : length payloads ≡ n = sym (length-map payloads length) ∙ ap length sized ∙ sym all in
-    subst (λ l. EachFits fits (map record_of l)) (take_whole payloads n count) fitting
-
-pub log_all : (told : Option (List (List ℕ))) (sizes : List ℕ) (n gate : ℕ) (records : List Kept) → IfSome told (λ payloads. map length payloads ≡ sizes) → n ≡ length sizes
-    → ReadUpTo (log_step decoded fits) [] told n gate (up_to n told records) → (payloads : List (List ℕ)) → told ≡ Some payloads → replay (log_step decoded fits) [] payloads ≡ Ok (map record_of payloads)
-log_all None sizes n gate records sized all so_far payloads is = absurd (cc)
-log_all (Some found) sizes n gate records sized all so_far payloads is =
-    let same : found ≡ payloads = cc in
-    let count : length found ≡ n = sym (length-map found length) ∙ ap length sized ∙ sym all in
-    subst (λ l. replay (log_step decoded fits) [] l ≡ Ok (map record_of l)) same
-    (so_far.rest found refl ∙ ended found n count ∙ ap (λ l. Ok (map record_of l)) (take_whole found n count))
-  where
-    ended : (ps : List (List ℕ)) (m : ℕ) → length ps ≡ m → replay_from (log_step decoded fits) gate (map record_of (take m ps)) (drop m ps) ≡ Ok (map record_of (take m ps))
-    ended ps m is = ap (λ l. replay_from (log_step decoded fits) gate (map record_of (take m ps)) l) (drop_all ps m (omega (arith, is)))
 
 -- ---- a fault or want of memory is no damage
 

@@ -1,5 +1,6 @@
 -- What contracts see of a store. This project's own.
-use Rattle.std.specs.Prelude.{◌≡◌, ◌≢◌, ℕ, Bool, true, false, if◌then◌else◌, List, length, is_some, IsSome, Some, Result, Ok, Err, IfErr, IfOk, IsErrOf}
+use Rattle.std.specs.Prelude.{◌≡◌, ◌≢◌, ℕ, Bool, true, false, if◌then◌else◌, List, length, is_some, IsSome, Some}
+use Rattle.std.specs.Prelude.{Result, Ok, Err, IfErr, IfOk, IsErrOf}
 use Rattle.up_blocks.specs.Kept.{kept_of, record_of, untold}
 use Rattle.up_blocks.specs.Records.{block_in, blocks_in, holds, put_record, size_in, size_of, sizes_of}
 use Rattle.up_blocks.specs.declared.fault.BlockWhy.{BlockWhy}

@@ -1,5 +1,6 @@
 -- What a store keeps in memory. This project's own.
-use Rattle.std.specs.Prelude.{◌≡◌, ◌≤◌, ◌+◌, ◌&&◌, ℕ, Bool, true, not, nat_le, is_some, List, [], ◌∷◌, ◌++◌, map, replicate, Option, Some, None}
+use Rattle.std.specs.Prelude.{◌≡◌, ◌≤◌, ◌+◌, ◌&&◌, ℕ, Bool, true, not, nat_le, is_some, List, [], ◌∷◌, ◌++◌, map, replicate}
+use Rattle.std.specs.Prelude.{Option, Some, None}
 use Rattle.std.specs.FinMap.Entries.{find, put, where_key}
 use Rattle.std.specs.Ordering.{eq_by_cmp}
 use Rattle.up_blocks.specs.Records.{blocks_of, decoded, fits, held_sizes, largest_block, largest_room, reference_cmp}
@@ -49,8 +50,13 @@ further_seen (Some payloads) further = further_record decoded further
 
 -- the store over a journal that tells this of its payloads, as contracts see it
 abbrev pub store_state : {D : Type 0} → State D → Option (List (List ℕ)) → List Kept → LogState D BlockRecord
-store_state journal told records =
-    record { disk = journal.disk; limits = journal.limits; log = log_seen told records; doubtful = journal.doubtful; further = further_seen told journal.further }
+store_state journal told records = record {
+  disk = journal.disk;
+  limits = journal.limits;
+  log = log_seen told records;
+  doubtful = journal.doubtful;
+  further = further_seen told journal.further;
+}
 
 -- ---- where the blocks are
 

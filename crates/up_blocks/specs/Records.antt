@@ -1,6 +1,7 @@
 -- The records of a store's log, and the blocks that a log of them leaves. References are the SHA-256 (FIPS 180-4) of the bytes, as
 -- Upspin's store servers have them; all else is this project's own.
-use Rattle.std.specs.Prelude.{◌≡◌, ◌==◌, ◌&&◌, ◌+◌, ℕ, Bool, true, false, not, nat_le, if◌then◌else◌, List, [], ◌∷◌, length, map, is_some, Option, Some, None, Result}
+use Rattle.std.specs.Prelude.{◌≡◌, ◌==◌, ◌&&◌, ◌+◌, ℕ, Bool, true, false, not, nat_le, if◌then◌else◌, List, [], ◌∷◌, length, map, is_some}
+use Rattle.std.specs.Prelude.{Option, Some, None, Result}
 use Rattle.std.specs.Cmp.Lexicographic.{slice_cmp}
 use Rattle.std.specs.FinMap.Entries.{find, put, where_key}
 use Rattle.std.specs.List.{fold}

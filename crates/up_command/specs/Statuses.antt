@@ -7,7 +7,8 @@ use Rattle.up_ends.specs.Writing.{WritesPart}
 use Rattle.up_command.specs.declared.output.Stop.{Stop}
 use Rattle.up_command.specs.declared.output.Stop.TheVariants as output
 use Rattle.up_command.specs.declared.status.Status.{Status}
-use Rattle.up_command.specs.declared.status.Status.TheVariants.{Done, BadLine, ReadFault, WriteFault, OutOfMemory, HelperFault, DiskFault, TooLong, Damaged, ListenFault, BadUser, AskFault, Full, Usage}
+use Rattle.up_command.specs.declared.status.Status.TheVariants.{Done, BadLine, ReadFault, WriteFault, OutOfMemory, HelperFault, DiskFault}
+use Rattle.up_command.specs.declared.status.Status.TheVariants.{TooLong, Damaged, ListenFault, BadUser, AskFault, Full, Usage}
 
 -- the number of a status
 abbrev pub code_of : Status → ℕ

@@ -9,8 +9,8 @@ use Rattle.up_text.specs.Words.{decoded}
 use Rattle.up_text.specs.declared.requests.ClientLine.{ClientLine}
 use Rattle.up_text.specs.declared.requests.ClientLine.TheVariants as calls
 
--- the next step, where there was a first one
 infixl 10 ◌>>=◌
+-- the next step, where there was a first one
 abbrev pub ◌>>=◌ : {A B : Type 0} → Option A → (A → Option B) → Option B
 found >>= next = option_and_then next found
 

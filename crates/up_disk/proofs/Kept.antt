@@ -46,9 +46,6 @@ synced_cut (Cut size ∷ calls) n = let rest = synced_cut calls n in grind (arit
 abbrev pub Since : List ℕ → List Call → ℕ → List ℕ → Type 0
 Since first calls t image = (k : ℕ) × (t ≤ k) × (k ≤ length calls) × MayLeave first first (take k calls) image
 
-pub elapses_same : (first : List ℕ) (calls : List Call) → Elapses (length calls) (length calls) (Since first calls) (Since first calls) (MayLeave first first calls)
-elapses_same first calls = record { later = omega arith; nothing_else = λ t image le left. inl left; keeps = λ t image le left. left }
-
 pub elapses_more : (first : List ℕ) (calls : List Call) (call : Call)
     → Elapses (length calls) (length (calls ++ call ∷ [])) (Since first calls) (Since first (calls ++ call ∷ [])) (MayLeave first first (calls ++ call ∷ []))
 elapses_more first calls call =

@@ -1,10 +1,12 @@
 -- What each call of a disk in memory does, which a disk with a hook repeats. What every disk promises comes first in
 -- each. This project's own.
-use Rattle.std.specs.Prelude.{◌≡◌, ◌≤◌, ◌+◌, ◌/◌, ◌⊎◌, ℕ, max, List, length, take, true, false, Result, option_map, IfSome, IsErr, OnOk, OnErr}
+use Rattle.std.specs.Prelude.{◌≡◌, ◌≤◌, ◌+◌, ◌/◌, ◌⊎◌, ℕ, max, List, length, take, true, false}
+use Rattle.std.specs.Prelude.{Result, option_map, IfSome, IsErr, OnOk, OnErr}
 use Rattle.up_lists.specs.Counts.{HasCause, StaysUnless}
 use Rattle.up_lists.specs.Calls.{IsCalled, fails_next}
 use Rattle.up_disk.specs.Disk.{CutShort, Follows, Only, Steps, TimePasses, Torn, part, written}
-use Rattle.up_disk.specs.Memory.{content_of, faults_of, left_since_of, length_of, may_leave_of, moment_of, plan_of, room_of, IsCut, IsSynced, IsUntouched, IsWritten}
+use Rattle.up_disk.specs.Memory.{content_of, faults_of, left_since_of, length_of, may_leave_of, moment_of, plan_of, room_of, IsCut}
+use Rattle.up_disk.specs.Memory.{IsSynced, IsUntouched, IsWritten}
 use Rattle.up_disk.specs.declared.memory.MemDisk.{MemDisk}
 
 -- a read into a buffer fails where its number is listed, and only there, and leaves the disk as it was

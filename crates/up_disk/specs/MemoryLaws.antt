@@ -13,8 +13,12 @@ leaves_bytes first bytes calls is = subst (λ (b : List ℕ). MayLeave first fir
 -- an image that a crash may leave now is one of those since any earlier moment
 pub since_now : (first : List ℕ) (calls : List Call) (t : ℕ) (image : List ℕ) → t ≤ length calls → MayLeave first first calls image
     → (k : ℕ) × (t ≤ k) × (k ≤ length calls) × MayLeave first first (take k calls) image
-since_now first calls t image le left =
-    (length calls, le, omega arith, subst (λ (l : List Call). MayLeave first first l image) (sym (take_all (length calls) calls (omega arith))) left)
+since_now first calls t image le left = (
+  length calls,
+  le,
+  omega arith,
+  subst (λ (l : List Call). MayLeave first first l image) (sym (take_all (length calls) calls (omega arith))) left,
+)
 
 -- an image that a crash may leave since now is one that it may leave now
 pub now_only : (first : List ℕ) (calls : List Call) (image : List ℕ)

@@ -1,7 +1,8 @@
 -- What a read gives is one of the crash images of a disk in memory, and so is each image by choice.
 use Rattle.std.specs.Prelude.{List, [], ◌∷◌, ◌++◌, ℕ, ◌≡◌, ◌≤◌, ◌+◌, ◌-◌, min, max, length, take, drop, replicate, refl}
 use Rattle.std.proofs.Common.{sym, ◌∙◌, ap, arith, length-append, length-drop, length-take, length-take-le, inl, inr}
-use Rattle.std.proofs.lemmas.List.{drop_at, take_min, take-take, take-append-le, drop-drop, drop_all, take_all, append-nil, length-replicate}
+use Rattle.std.proofs.lemmas.List.{drop_at, take_min, take-take, take-append-le, drop-drop, drop_all}
+use Rattle.std.proofs.lemmas.List.{take_all, append-nil, length-replicate}
 use Rattle.std.proofs.lemmas.Bool.{cases_lt}
 use Rattle.up_disk.specs.Disk.{CutShort, Torn}
 use Rattle.up_disk.specs.Pending.{done, content_after, MayMake, MayLeave, padded, put_at}

@@ -1,8 +1,8 @@
 -- How a text goes to a sink piece by piece. For the loops of every crate that writes.
 use Rattle.std.proofs.Common.{◌≡◌, ℕ, ◌-◌, List, [], ◌++◌, length, take, drop, refl, sym, ap, subst, ◌∙◌, append_assoc, append-nil, take-append-drop}
 use Rattle.std.proofs.lemmas.List.{take_rest}
-use Rattle.std.proofs.KnownBytes.{Appends-nil, Appends-trans, Appends-kept}
-use Rattle.std.specs.Io.KnownBytes.{Appends, Keeps}
+use Rattle.std.proofs.KnownBytes.{Appends-nil, Appends-trans}
+use Rattle.std.specs.Io.KnownBytes.{Appends}
 use Rattle.std.specs.declared.option.Option.{Option}
 use Rattle.up_ends.specs.Writing.{Going, WritesPart}
 
@@ -24,14 +24,6 @@ Going-taken {old} {mid} {now} {all} n left before written =
     let cut : left ≡ take n left ++ take (length left - n) (drop n left) =
     sym (take-append-drop n left) ∙ ap (λ xs. take n left ++ xs) (sym (take_rest left n)) in
     Going-more (take n left) _ (subst (λ xs. Going old mid xs all) cut before) written
-
--- the sink kept what it held
-pub Going-kept : {old mid now : Option (List ℕ)} {rest all : List ℕ} → Going old mid rest all → Keeps mid now → Going old now rest all
-Going-kept {old} {mid} {now} before kept = record {
-  front = before.front;
-  written = Appends-kept old mid now before.front before.written kept;
-  whole = before.whole;
-}
 
 -- nothing is left
 pub Going-all : {old now : Option (List ℕ)} {all : List ℕ} → Going old now [] all → Appends old now all

@@ -52,8 +52,9 @@ pub fn foreign<D: Disk>(
     foreign_in(alloc, state.memory(), user, request, loaded)
 }
 
-/// The same for a request whose texts were read. It goes on from what was kept of the call before with less loaded, where the tree still
-/// has as many records, and keeps as much for the next. After an `Err` nothing is known of what is kept.
+/// The groups that have to be loaded for a user's request whose texts were read: those that [`foreign`] gives. It goes on from what was
+/// kept of the call before with less loaded, where the tree still has as many records, and keeps as much for the next. After an `Err`
+/// nothing is known of what is kept.
 pub fn foreign_asked<D: Disk>(
     alloc: Global,
     state: &TreeState<D>,

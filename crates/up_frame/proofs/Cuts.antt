@@ -63,10 +63,6 @@ pub each-append : (limit : ℕ) (xs ys : List (List ℕ)) → AllByRecursion (Is
 each-append limit [] ys p q = q
 each-append limit (x ∷ xs) ys p q = (p.0, each-append limit xs ys p.1 q)
 
--- no frame was found yet
-pub Cuts-none : (limit : ℕ) (bytes : List ℕ) → Cuts limit bytes [] 0
-Cuts-none limit bytes = record { whole = refl; each = tt; before = refl; within = omega arith }
-
 -- one more whole frame
 pub Cuts-more : (limit : ℕ) (bytes : List ℕ) (payloads : List (List ℕ)) (n length_of : ℕ) → IsBytes bytes → Cuts limit bytes payloads n → IsWhole limit (drop n bytes) length_of
     → Cuts limit bytes (payloads ++ take length_of (drop (n + 4) bytes) ∷ []) (n + 4 + length_of)
@@ -91,22 +87,6 @@ Cuts-more limit bytes payloads n k fits cuts whole =
       within = omega (arith, cuts.within, whole.there);
     } in
     subst (λ (p : List ℕ). Cuts limit bytes (payloads ++ p ∷ []) (n + 4 + k)) same made
-
--- ---- how bytes read that were cut
-
-pub reads-bad : (limit : ℕ) (bytes : List ℕ) (payloads : List (List ℕ)) (n : ℕ) → Cuts limit bytes payloads n → IsBad limit (drop n bytes) → Reads limit bytes payloads [] (Some n)
-reads-bad limit bytes payloads n cuts bad = (record { tail = drop n bytes; whole = cuts.whole; each = cuts.each; bad = bad; before = cuts.before }, refl)
-
-pub reads-rest : (limit : ℕ) (bytes : List ℕ) (payloads : List (List ℕ)) (n : ℕ) → Cuts limit bytes payloads n → IsPartial limit (drop n bytes) → Reads limit bytes payloads (drop n bytes) None
-reads-rest limit bytes payloads n cuts partial = record { whole = cuts.whole; each = cuts.each; partial = partial }
-
-frames-none : (payloads : List (List ℕ)) → length (frames payloads) ≡ 0 → payloads ≡ []
-frames-none [] e = refl
-frames-none (p ∷ ps) e = absurd (omega (arith, e, length-append (frame p) (frames ps), length-frame p))
-
--- nothing was whole
-pub cuts-nothing : (limit : ℕ) (bytes : List ℕ) (payloads : List (List ℕ)) → Cuts limit bytes payloads 0 → payloads ≡ []
-cuts-nothing limit bytes payloads cuts = frames-none payloads (sym cuts.before)
 
 -- ---- a stream, and a piece behind it
 

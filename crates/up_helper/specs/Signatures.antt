@@ -1,5 +1,6 @@
 -- What `upspin verify` and `upspin sign` answer. They stand in for a helper in tests, and protect nothing. This project's own.
-use Rattle.std.specs.Prelude.{ℕ, Bool, true, false, ◌==◌, if◌then◌else◌, List, [], ◌∷◌, ◌++◌, codes, Option, Some, None, option_and_then, IsTrue}
+use Rattle.std.specs.Prelude.{ℕ, Bool, true, false, ◌==◌, if◌then◌else◌, List, [], ◌∷◌, ◌++◌, codes}
+use Rattle.std.specs.Prelude.{Option, Some, None, option_and_then, IsTrue}
 use Rattle.std.specs.List.{list_any}
 use Rattle.std.specs.Result.{result_ok}
 use Rattle.std.specs.Str.{bytes_eq}
@@ -16,8 +17,8 @@ signature_of key message = sha256 (key ++ message)
 abbrev pub verdict_of : List ℕ → List ℕ → List ℕ → Bool
 verdict_of key message signature = bytes_eq signature (signature_of key message)
 
--- the ? of an answer that may be none
 infixl 10 ◌>>=◌
+-- what comes next, where there is an answer
 abbrev pub ◌>>=◌ : {A B : Type 0} → Option A → (A → Option B) → Option B
 found >>= next = option_and_then next found
 

@@ -1,5 +1,6 @@
 -- What every call leaves is left by two calls, one after the other.
-use Rattle.std.proofs.Common.{◌≡◌, ◌≤◌, ◌+◌, ℕ, zero, suc, List, [], ◌∷◌, length, map, refl, sym, ap, subst, ◌∙◌, arith, append-nil, Option, Some, None, option_map, slice_get}
+use Rattle.std.proofs.Common.{◌≡◌, ◌≤◌, ◌+◌, ℕ, zero, suc, List, [], ◌∷◌, length, map, refl, sym, ap, subst, ◌∙◌, arith, append-nil}
+use Rattle.std.proofs.Common.{Option, Some, None, option_map, slice_get}
 use Rattle.up_calls.proofs.GatherLemmas.{is_there, stays_same, stays_trans}
 use Rattle.up_calls.proofs.SettledLemmas.{settled_same, settled_trans}
 use Rattle.up_calls.proofs.TurnLemmas.{later_trans, stays_more}
@@ -97,7 +98,12 @@ module _ {D : Type 0} (disks : Ghosts D) where
   -- the same host stays settled
   pub host_same : (host after : HostState D) → after ≡ host → StaysSettled disks host after
   host_same host after h = subst (λ (a : HostState D). StaysSettled disks host a) (sym h)
-      (record { owners = refl; trees = trees_same host.trees; store = settled_same disks host.store.state; keys = settled_same disks host.keys.state })
+      (record {
+        owners = refl;
+        trees = trees_same host.trees;
+        store = settled_same disks host.store.state;
+        keys = settled_same disks host.keys.state;
+      })
 
   -- what stays settled over each of two calls stays so over both
   pub stays_then : (a b c : HostState D) → StaysSettled disks a b → StaysSettled disks b c → StaysSettled disks a c

@@ -81,9 +81,6 @@ module _ (front old : List ℕ) (at : ℕ) (place : length front ≡ at) where
       is = ap (λ (l : List ℕ). l ++ byte ∷ [] ++ drop (at + 1) old) head ∙ ap (λ (l : List ℕ). front ++ byte ∷ [] ++ l) tail ∙ append_assoc front (byte ∷ []) (behind ++ ready.whole.rest);
     }
 
-pub whole_closed : (behind front image : List ℕ) → Whole 0 behind front image → Closed front image
-whole_closed behind front image whole = record { rest = 0 ∷ (behind ++ whole.rest); is = whole.is; some = omega arith; closed = refl }
-
 -- behind an open gate the front goes on to the next one
 pub whole_next : (bytes front image : List ℕ) → Whole 1 (bytes ++ 0 ∷ []) front image → Closed (front ++ 1 ∷ bytes) image
 whole_next bytes front image whole = record {

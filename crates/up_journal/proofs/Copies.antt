@@ -1,5 +1,5 @@
 -- The image that is made of a log, and what a log that was moved to it has become.
-use Rattle.std.proofs.Common.{◌≡◌, ◌≤◌, ◌<◌, ◌+◌, ◌-◌, ◌||◌, ◌^◌, ℕ, zero, suc, Bool, true, false, nat_le, nat_lt, List, [], ◌∷◌, ◌++◌, length, get_or, map, take, drop, Option, Some, None, IfSome, Result, Ok, Err, sym, ◌∙◌, ap, subst, inl, inr, ⊎_elim, arith, append_assoc, length-append, length-take-le}
+use Rattle.std.proofs.Common.{◌≡◌, ◌≤◌, ◌<◌, ◌+◌, ◌-◌, ◌||◌, ◌^◌, ℕ, zero, suc, Bool, false, nat_le, nat_lt, List, [], ◌∷◌, ◌++◌, length, get_or, map, take, drop, Option, Some, None, IfSome, Result, Ok, Err, sym, ◌∙◌, ap, subst, inl, inr, ⊎_elim, arith, append_assoc, length-append, length-take-le}
 use Rattle.std.proofs.lemmas.Bool.{cases_eq}
 use Rattle.std.proofs.lemmas.Bool.Decides.{nat_tests}
 use Rattle.std.proofs.lemmas.List.{drop_at, length-map, take-append-le, take_all}
@@ -179,19 +179,6 @@ size_next limits spans n gate d good inside place kept tested =
       omega (arith, kept_small limits n gate span.size good tested),
       kept_more limits sizes n span.size kept seen keeps,
     )
-
--- one that passes them
-pub size_over : (limits : Limits) (spans : List Span) (n gate : ℕ) (d : Span) → n < length spans → gate ≡ gate_behind (take n (sizes_of spans)) → KeepUpTo limits (sizes_of spans) n
-    → true ≡ (nat_le limits.records n || nat_lt limits.device (gate + 1 + (get_or spans n d).size + 37)) → IsTooLong limits (sizes_of spans) n
-size_over limits spans n gate d inside place kept tested =
-    let span = get_or spans n d in
-    let sizes = sizes_of spans in
-    record {
-      kept = kept;
-      size = span.size;
-      next = size_at spans n span (slice_get-get_or spans n d inside);
-      over = full_as limits sizes n gate span.size true (omega (arith, inside, length-map spans (λ (s : Span). s.size))) place tested;
-    }
 
 -- ---- answers
 

@@ -83,9 +83,6 @@ place_of (y ∷ xs) x found (suc n) is =
     ⊎_elim (λ front. inl (front.0, ap (λ ys. y ∷ ys) front.1)) (λ end. inr (end.0, ap (λ ys. y ∷ ys) end.1)) (place_of xs x found n is)
 
 module _ {R : Type 0} (fits : List R → R → Bool) where
-  pub fits_none : EachFits fits []
-  fits_none = record { each = λ n rec is. absurd (cc) }
-
   pub fits_more : (log : List R) (rec : R) → EachFits fits log → fits log rec ≡ true → EachFits fits (log ++ rec ∷ [])
   fits_more log rec all last = record {
     each = λ n found is. ⊎_elim

@@ -2,7 +2,6 @@
 use Rattle.std.proofs.Common.{◌≡◌, ◌≤◌, ◌<◌, ◌+◌, ◌^◌, ℕ, true, false, nat_le, List, [], ◌∷◌, ◌++◌, length, take, drop, Option, Some, None, IfSome, Result, Ok, Err, refl, sym, ◌∙◌, ap, subst, arith, length-drop, length-take-le}
 use Rattle.std.proofs.lemmas.List.{take-append-drop}
 use Rattle.std.proofs.lemmas.Bool.Decides.{nat_tests}
-use Rattle.std.proofs.lemmas.Slice.Eq.{bytes_eq-Decides}
 use Rattle.std.specs.List.{AllByRecursion}
 use Rattle.up_disk.specs.Disk.{part}
 use Rattle.up_journal.specs.Damages.{Damage, Damaged}
@@ -103,14 +102,6 @@ all_within gate device (span ∷ spans) inside within = (omega (arith, inside, w
 
 pub gates_within : (largest : ℕ) (spans : List Span) (gate : ℕ) (link : List ℕ) (device : ℕ) (content : Option (List ℕ)) → AreGates format1 largest spans gate link device content → AllByRecursion (EndsBy device) spans
 gates_within largest spans gate link device content gates = all_within gate device spans (omega (arith, gates.inside)) (behind_within 5 spans 8 gate gates.placed)
-
--- the front of a device, before the first gate is read
-pub first_gates : (largest device : ℕ) (content : Option (List ℕ)) → 9 < device → IfSome content (λ bytes. has_name format1 bytes ≡ true) → AreGates format1 largest [] 8 [] device content
-first_gates largest device content long named = record { placed = refl; fitting = tt; inside = omega arith; long = refl; told = told content named }
-  where
-    told : (content : Option (List ℕ)) → IfSome content (λ bytes. has_name format1 bytes ≡ true) → IfSome content (λ bytes. IsFront format1 (take 8 bytes) (payloads_at [] bytes) [])
-    told None named = tt
-    told (Some bytes) named = record { is = (bytes_eq-Decides (take 8 bytes) format1.name).0 named; linked = refl }
 
 -- the damage that a refusal names
 pub damage_at : {T : Type 0} (largest : ℕ) (content : Option (List ℕ)) (gate place : ℕ) → IfSome content (λ bytes. old_log_of largest bytes ≡ Err (Damaged gate)) → ◌≡◌ {A = Result T MoveWhy} (Err (why.Old gate)) (Err (why.Old place))

@@ -1,11 +1,11 @@
 -- What is found on a device.
-use Rattle.std.proofs.Common.{◌≡◌, ◌≤◌, ◌<◌, ◌+◌, ◌^◌, ℕ, Bool, true, false, cond, nat_le, List, [], ◌∷◌, ◌++◌, length, take, drop, Option, Some, None, option_map, is_some, IfSome, Result, Ok, Err, IfOk, refl, sym, ◌∙◌, ap, subst, ◌⊎◌, inl, inr, arith, length-drop, length-take-le}
-use Rattle.std.proofs.lemmas.List.{drop_all, take-append-drop, drop-drop}
+use Rattle.std.proofs.Common.{◌≡◌, ◌≤◌, ◌<◌, ◌+◌, ◌^◌, ℕ, Bool, true, false, cond, nat_le, List, [], ◌∷◌, ◌++◌, length, take, drop, Option, Some, None, is_some, IfSome, Result, Ok, Err, IfOk, refl, sym, ◌∙◌, ap, subst, ◌⊎◌, inl, inr, arith, length-drop, length-take-le}
+use Rattle.std.proofs.lemmas.List.{take-append-drop, drop-drop}
 use Rattle.std.proofs.lemmas.Bool.Decides.{nat_tests}
 use Rattle.std.proofs.lemmas.Slice.Eq.{bytes_eq-Decides}
 use Rattle.std.specs.Str.{bytes_eq}
 use Rattle.up_refs.specs.Sha256.{sha256}
-use Rattle.up_disk.specs.Disk.{Elapses, LeavesOnly, Only, Torn, part, written}
+use Rattle.up_disk.specs.Disk.{Elapses, LeavesOnly, Only, Torn, part}
 use Rattle.up_disk.proofs.Moments.{goes_on, joined, started, weaker}
 use Rattle.up_disk.specs.declared.disk.Disk.{Ghosts}
 use Rattle.up_journal.specs.Cells.{Closed, OnlyRead}
@@ -75,17 +75,6 @@ old_is read told damaged (Damaged other) is = absurd (cc)
 old_is read told damaged (Chain other want have) is = absurd (cc)
 old_is read told damaged OldFormat is = damaged
 
--- a fault and want of memory are no damage
-pub fault_is : {A X : Type 0} (read : A → Result X Damage) (told : Option A) → IsDamageOf read told why.Fault
-fault_is read told (Damaged other) is = absurd (cc)
-fault_is read told (Chain other want have) is = absurd (cc)
-fault_is read told OldFormat is = absurd (cc)
-
-pub memory_is : {A X : Type 0} (read : A → Result X Damage) (told : Option A) → IsDamageOf read told why.OutOfMemory
-memory_is read told (Damaged other) is = absurd (cc)
-memory_is read told (Chain other want have) is = absurd (cc)
-memory_is read told OldFormat is = absurd (cc)
-
 -- ---- the name of a device
 
 -- the name that was read is this one, or another
@@ -118,19 +107,11 @@ broken_cases true true m is = absurd (cc)
 broken_cases true false m is = (refl, refl)
 broken_cases false b m is = absurd (cc)
 
-closed_cases : (a b : Bool) (m : ℕ) → at_gate.Closed ≡ cond a (cond b (at_gate.Open m) at_gate.Broken) at_gate.Closed → a ≡ false
-closed_cases true true m is = absurd (cc)
-closed_cases true false m is = absurd (cc)
-closed_cases false b m is = refl
-
 pub open_by : (head largest n : ℕ) (bytes : List ℕ) → at_gate.Open n ≡ gate_at head largest bytes → (is_open bytes ≡ true) × (is_whole head largest bytes ≡ true) × (size_at bytes ≡ n)
 open_by head largest n bytes is = gate_cases (is_open bytes) (is_whole head largest bytes) n (size_at bytes) is
 
 pub broken_by : (head largest : ℕ) (bytes : List ℕ) → at_gate.Broken ≡ gate_at head largest bytes → (is_open bytes ≡ true) × (is_whole head largest bytes ≡ false)
 broken_by head largest bytes is = broken_cases (is_open bytes) (is_whole head largest bytes) (size_at bytes) is
-
-pub closed_by : (head largest : ℕ) (bytes : List ℕ) → at_gate.Closed ≡ gate_at head largest bytes → is_open bytes ≡ false
-closed_by head largest bytes is = closed_cases (is_open bytes) (is_whole head largest bytes) (size_at bytes) is
 
 some_left : (gate : ℕ) (bytes : List ℕ) → gate < length bytes → 0 < length (drop gate bytes)
 some_left gate bytes inside = omega (arith, length-drop gate bytes)
@@ -202,37 +183,6 @@ next_at gate n next hashed buffer (Some bytes) is same read = is ∙ ap sha256 (
 told_at : (content : Option (List ℕ)) (P : List ℕ → Type 0) → IfSome content P → (bytes : List ℕ) → content ≡ Some bytes → P bytes
 told_at None P holds bytes is = absurd (cc)
 told_at (Some found) P holds bytes is = (let same : found ≡ bytes = cc in subst P same holds)
-
-pub kept_found : {D : Type 0} (disks : Ghosts D) (disk : D) (limits : Limits) (spans : List Span) (gate : ℕ) (head : List ℕ) → AreLimits limits → AreGates format2 limits.largest spans gate head (disks.size_of disk) (disks.content disk)
-    → IfSome (disks.content disk) (λ bytes. length bytes ≡ disks.size_of disk) → disks.size_of disk < 2 ^ 64 → IfSome (disks.content disk) (λ bytes. is_open (drop gate bytes) ≡ false) → Only (disks.content disk) (disks.may_leave disk)
-    → IsKept disks disk limits spans gate head None
-kept_found disks disk limits spans gate head good gates sized small closed only = record {
-  good = good;
-  gates = gates;
-  small = omega (arith, gates.inside, small);
-  doubt = λ n is. absurd (cc);
-  images = λ bytes image is left. shape bytes image (is_same bytes image is (only image left)) (told_at (disks.content disk) (λ b. length b ≡ disks.size_of disk) sized bytes is) (told_at (disks.content disk) (λ b. is_open (drop gate b) ≡ false) closed bytes is);
-}
-  where
-    is_same : (bytes image : List ℕ) → disks.content disk ≡ Some bytes → disks.content disk ≡ Some image → bytes ≡ image
-    is_same bytes image first second = (let e = sym first ∙ second in cc)
-
-    shape : (bytes image : List ℕ) → bytes ≡ image → length bytes ≡ disks.size_of disk → is_open (drop gate bytes) ≡ false → Closed (take gate bytes) image
-    shape bytes image same long shut = record {
-      rest = drop gate bytes;
-      is = sym same ∙ sym (take-append-drop gate bytes);
-      some = some_left gate bytes (omega (arith, gates.inside, long));
-      closed = shut;
-    }
-
--- a new device, once it is begun
-pub new_begun : (was now : Option (List ℕ)) (size : ℕ) → IfSome was (λ bytes. length bytes ≡ size) → size ≤ 9 → now ≡ option_map (written 0 (format2.name ++ 0 ∷ [])) was → IfSome now (λ bytes. bytes ≡ format2.name ++ 0 ∷ [])
-new_begun None None size sized short is = tt
-new_begun None (Some bytes) size sized short is = absurd (cc)
-new_begun (Some bytes) None size sized short is = tt
-new_begun (Some bytes) (Some now) size sized short is =
-    let begun : now ≡ written 0 (format2.name ++ 0 ∷ []) bytes = cc in
-    begun ∙ ap (λ (l : List ℕ). format2.name ++ 0 ∷ l) (drop_all 9 bytes (omega (arith, sized, short)))
 
 pub kept_new : {D : Type 0} (disks : Ghosts D) (disk : D) (limits : Limits) → AreLimits limits → 8 < disks.size_of disk → IfSome (disks.content disk) (λ bytes. bytes ≡ format2.name ++ 0 ∷ [])
     → Only (disks.content disk) (disks.may_leave disk) → IsKept disks disk limits [] 8 format2.first_link None

@@ -42,11 +42,6 @@ seen_as None None gate was now told same = nothing_seen gate now ∙ sym (nothin
 seen_as None (Some bytes) gate was now told same = absurd (cc)
 seen_as (Some bytes) next gate was now told same = same refl
 
-pub seen_none : (content next : Option (List ℕ)) (gate : ℕ) (now : Option ℕ) → is_some next ≡ is_some content → (IsSome content → further_seen next gate now ≡ None) → further_seen next gate now ≡ None
-seen_none None None gate now told same = nothing_seen gate now
-seen_none None (Some bytes) gate now told same = absurd (cc)
-seen_none (Some bytes) next gate now told same = same refl
-
 pub seen_one : (content next : Option (List ℕ)) (gate : ℕ) (now : Option ℕ) (was : Option (List ℕ)) (payload : List ℕ) (further : Option (List ℕ)) → is_some next ≡ is_some content → (IsSome content → further_seen next gate now ≡ further)
     → IsOneFurther was payload further → IsOneFurther was payload (further_seen next gate now)
 seen_one None None gate now was payload further told same one = inl (nothing_seen gate now)

@@ -3,7 +3,8 @@
 use Rattle.std.specs.Prelude.{◌≡◌, ◌≢◌, ◌⊎◌, ◌<◌, ◌≤◌, ◌+◌, ℕ, true, false, List, [], ◌∷◌, ◌++◌, length, drop, Result, Ok, Err}
 use Rattle.std.specs.List.{AllByRecursion}
 use Rattle.up_journal.specs.Damages.{Damage, Damaged, Chain, OldFormat}
-use Rattle.up_journal.specs.Gates.{Format, behind_gates, first_gate, front_of, head_size_of, is_open, link_at, link_behind, record_list, size_at}
+use Rattle.up_journal.specs.Gates.{Format, behind_gates, first_gate, front_of, head_size_of, is_open, link_at}
+use Rattle.up_journal.specs.Gates.{link_behind, record_list, size_at}
 
 -- From a gate on, the bytes are the records of these payloads after open gates, of which the first carries that link, and then
 -- the rest, from another gate on. Each payload keeps the limit.

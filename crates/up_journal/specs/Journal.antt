@@ -1,5 +1,6 @@
 -- What contracts see of a journal, and what its images stand for. This project's own.
-use Rattle.std.specs.Prelude.{◌≡◌, ◌⊎◌, ◌<◌, ◌≤◌, ◌^◌, ◌+◌, ◌||◌, ℕ, Bool, false, nat_le, nat_lt, List, [], ◌∷◌, ◌++◌, length, sum_by, Option, Some, None, Ok}
+use Rattle.std.specs.Prelude.{◌≡◌, ◌⊎◌, ◌<◌, ◌≤◌, ◌^◌, ◌+◌, ◌||◌, ℕ, Bool, false, nat_le, nat_lt, List, [], ◌∷◌, ◌++◌, length, sum_by}
+use Rattle.std.specs.Prelude.{Option, Some, None, Ok}
 use Rattle.up_journal.specs.Format2.{head_size, log_of}
 use Rattle.up_journal.specs.Gates.{first_gate}
 use Rattle.up_journal.specs.declared.limits.Limits.{Limits}

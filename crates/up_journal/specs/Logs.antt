@@ -1,6 +1,7 @@
 -- What the records of a journal stand for where the state is the list of them, whatever they are: a reader above the journal says
 -- which record a payload decodes to, and which record fits after others. This project's own.
-use Rattle.std.specs.Prelude.{◌≡◌, ◌≢◌, ◌⊎◌, ℕ, Bool, true, false, if◌then◌else◌, List, [], ◌∷◌, ◌++◌, length, map, take, slice_get, is_ok, is_some, Option, Some, None, option_and_then, Result, Ok, IfOk, IfSome, OnErr, OnOk}
+use Rattle.std.specs.Prelude.{◌≡◌, ◌≢◌, ◌⊎◌, ℕ, Bool, true, false, if◌then◌else◌, List, [], ◌∷◌, ◌++◌, length, map, take, slice_get, is_ok}
+use Rattle.std.specs.Prelude.{is_some, Option, Some, None, option_and_then, Result, Ok, IfOk, IfSome, OnErr, OnOk}
 use Rattle.up_disk.specs.declared.disk.Disk.{Ghosts}
 use Rattle.up_disk.specs.Leaving.{Leaves, LeavesNow}
 use Rattle.up_journal.specs.Damages.{Damage}
@@ -112,8 +113,13 @@ pub record ResolvesLog {D R E : Type 0} (disks : Ghosts D) (read : ℕ → List 
 
 -- the log over a journal, as contracts see it
 abbrev pub log_state : {D R : Type 0} → (List ℕ → Option R) → State D → List R → LogState D R
-log_state decode journal log =
-    record { disk = journal.disk; limits = journal.limits; log = log; doubtful = journal.doubtful; further = further_record decode journal.further }
+log_state decode journal log = record {
+  disk = journal.disk;
+  limits = journal.limits;
+  log = log;
+  doubtful = journal.doubtful;
+  further = further_record decode journal.further;
+}
 
 -- What a reader keeps over its journal: the sizes are those of the spellings of its records, the payloads lead to them, and a crash
 -- leaves what the journal says.

@@ -1,5 +1,6 @@
 -- A log that is moved from a device of the first format to one of the second. This project's own.
-use Rattle.std.specs.Prelude.{◌≡◌, ◌⊎◌, ◌<◌, ◌≤◌, ℕ, Bool, true, false, List, length, map, take, Option, Some, option_map, Result, Ok, Err, IfSome}
+use Rattle.std.specs.Prelude.{◌≡◌, ◌⊎◌, ◌<◌, ◌≤◌, ℕ, Bool, true, false, List, length, map, take, Option, Some, option_map}
+use Rattle.std.specs.Prelude.{Result, Ok, Err, IfSome}
 use Rattle.std.specs.List.{slice_get}
 use Rattle.up_disk.specs.declared.disk.Disk.{Ghosts}
 use Rattle.up_lists.specs.Counts.{Rose}

@@ -1,6 +1,7 @@
 -- What the records of a journal stand for, whatever they are: a reader above it says what a state is, and what a payload makes
 -- of one. This project's own.
-use Rattle.std.specs.Prelude.{◌≡◌, ◌⊎◌, ◌+◌, ℕ, List, [], ◌∷◌, length, drop, Option, Some, None, option_and_then, option_map, IsSome, Result, Ok, Err}
+use Rattle.std.specs.Prelude.{◌≡◌, ◌⊎◌, ◌+◌, ℕ, List, [], ◌∷◌, length, drop, Option, Some, None, option_and_then, option_map, IsSome}
+use Rattle.std.specs.Prelude.{Result, Ok, Err}
 use Rattle.up_disk.specs.Disk.{LeavesOnly}
 use Rattle.up_disk.specs.declared.disk.Disk.{Ghosts}
 use Rattle.up_journal.specs.Damages.{Damage, Damaged}

@@ -22,7 +22,7 @@ pub const FIRST_GATE: u64 = 8;
 /// The bytes of a gate, and of the length and the link behind it.
 pub const HEAD: u64 = 37;
 
-/// The same in the first format, in which no record carries a link.
+/// The bytes of a gate and of the length behind it in the first format, in which no record carries a link.
 pub const OLD_HEAD: u64 = 5;
 
 /// The bytes of an open and of a closed gate. Any byte but the first is a closed gate.

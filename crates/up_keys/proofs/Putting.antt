@@ -9,11 +9,11 @@ use Rattle.up_disk.specs.declared.disk.Disk.{Ghosts}
 use Rattle.up_disk.proofs.Moments.{started}
 use Rattle.up_disk.specs.Leaving.{Leaves, LeavesNow}
 use Rattle.up_journal.specs.Journal.{IsSettled, MayHave, StandsFor, State, is_full, with_further}
-use Rattle.up_journal.specs.Logs.{EachFits, LogState, MayHaveLog, StandsForLog, log_state}
+use Rattle.up_journal.specs.Logs.{LogState, MayHaveLog, StandsForLog, log_state}
 use Rattle.up_journal.specs.declared.fault.AppendWhy.{AppendWhy}
 use Rattle.up_journal.specs.declared.fault.AppendWhy.TheVariants as append
 use Rattle.up_journal.specs.declared.limits.Limits.{Limits}
-use Rattle.up_journal.proofs.Logs.{adds_err, adds_none, adds_ok, fits_more, fits_none, keeps_full, keeps_len}
+use Rattle.up_journal.proofs.Logs.{adds_err, adds_none, adds_ok, fits_more, keeps_full, keeps_len}
 use Rattle.up_keys.specs.Keys.{AreLast, IsKeys, PutsRecord}
 use Rattle.up_keys.specs.Answers.{PutsAsked}
 use Rattle.up_keys.specs.Records.{decoded, fits, has_bounds, keys_of, largest_room, record_in, records_in, user_cmp, with_record}
@@ -35,10 +35,6 @@ pub last_more : (log : List KeyRecord) (known : KeyRecord) (last : List (UserNam
 last_more log known last are =
     subst (λ keys. AreNumbers Some (log ++ known ∷ []) (put user_cmp known.user (length log) last) keys) (sym (keys_more log known))
     (numbers_put Some user_cmp log known known.user known last (keys_of log) are refl)
-
--- where there is no record yet, each fits
-pub none_fit : (log : List KeyRecord) → log ≡ [] → EachFits fits log
-none_fit log none = subst (λ l. EachFits fits l) (sym none) (fits_none fits)
 
 abbrev fails : AppendWhy → Result ℕ AppendWhy
 fails reason = Err reason

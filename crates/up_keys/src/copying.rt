@@ -9,7 +9,7 @@ use up_lists::Items;
 use up_names::User;
 use up_wire::{KeyCard, KeyRecord};
 
-/// The same record.
+/// A copy of a record, in memory of its own.
 pub fn copied(alloc: Global, known: &KeyRecord) -> Result<KeyRecord, AllocError>
     ensures { IfOk result (λ copy. copy ≡ known.now) }
 {

@@ -218,24 +218,3 @@ module _ {D : Type 0} (disks : Ghosts D) (turn : Turn) (old new : State D) (repl
       let records : new.log ≡ old.log ++ added_in (log_of old) turn =
       made.steps.log ∙ (ap (λ r. old.log ++ (if is_changed r then added_in (log_of old) turn else [])) (made.answered goes) ∙ ap (λ rs. old.log ++ rs) (adds_answered (log_of old) turn)) in
       λ i. record { owner = (made.grows.stays i).0; limits = (made.grows.stays i).1; records = records i }
-
--- any other reply goes on
-pub others_go_on : (failed : Bool) (given : Reply) → given ≢ reply.OutOfMemory → given ≢ reply.Io → is_hindered failed given ≡ false
-others_go_on failed (reply.Ok d) h k = refl
-others_go_on failed (reply.Invalid what) h k = refl
-others_go_on failed reply.WrongHost h k = refl
-others_go_on failed (reply.FollowLink entry) h k = refl
-others_go_on failed reply.Private h k = refl
-others_go_on failed (reply.Permission right) h k = refl
-others_go_on failed reply.NotExist h k = refl
-others_go_on failed reply.NotDir h k = refl
-others_go_on failed reply.IsDir h k = refl
-others_go_on failed reply.Exist h k = refl
-others_go_on failed (reply.BadSequence n) h k = refl
-others_go_on failed reply.NotEmpty h k = refl
-others_go_on failed (reply.BadBlock reference) h k = refl
-others_go_on failed (reply.BadText line) h k = refl
-others_go_on failed (reply.TooLarge size) h k = refl
-others_go_on failed (reply.Full n) h k = refl
-others_go_on failed reply.Io h k = absurd (k refl)
-others_go_on failed reply.OutOfMemory h k = absurd (h refl)

@@ -15,6 +15,7 @@ use Rattle.up_log_tree.specs.Logs.{Log, bytes_of}
 -- ---- one test after another, up to the first refusal
 
 infixl 10 ◌>>=◌
+-- the next test, where the first refused nothing; the first refusal is the reply
 abbrev pub ◌>>=◌ : {A B : Type 0} → Result A Reply → (A → Result B Reply) → Result B Reply
 (std.Ok x) >>= f = f x
 (std.Err refusal) >>= f = std.Err refusal

@@ -1,5 +1,6 @@
 -- What each request on a tree is tested for first: links, and then rights (this project's own order and answers).
-use Rattle.std.specs.Prelude.{◌≡◌, ℕ, zero, suc, Bool, true, false, not, if◌then◌else◌, List, [], ◌∷◌, ◌++◌, length, Option, Some, None, Result, Ok, Err}
+use Rattle.std.specs.Prelude.{◌≡◌, ℕ, zero, suc, Bool, true, false, not, if◌then◌else◌, List, [], ◌∷◌, ◌++◌, length, Option, Some, None}
+use Rattle.std.specs.Prelude.{Result, Ok, Err}
 use Rattle.std.specs.Option.{option_or, option_and_then}
 use Rattle.up_names.specs.PathNames.{PathName, cut, parent_of}
 use Rattle.up_rights.specs.declared.Right.{Right}

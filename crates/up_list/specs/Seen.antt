@@ -1,5 +1,6 @@
 -- What contracts see of a view of a tree.
-use Rattle.std.specs.Prelude.{◌≡◌, ℕ, ⊤, Bool, true, false, List, Contains, Option, Some, None, is_some, IsSome, if◌then◌else◌, [], slice_index_or}
+use Rattle.std.specs.Prelude.{◌≡◌, ℕ, ⊤, Bool, true, false, List, Contains, Option, Some, None, is_some, IsSome}
+use Rattle.std.specs.Prelude.{if◌then◌else◌, [], slice_index_or}
 use Rattle.std.specs.FinMap.Entries.{find, is_some-find}
 use Rattle.std.specs.Map.{keys_of}
 use Rattle.std.specs.Option.{option_and_then, option_map}

@@ -1,6 +1,7 @@
 -- How the rows of a pattern are found by a walk, level by level, from the path of the literal elements in front: what is met in
 -- each directory on the way. (That these are the rows is proved; nothing outside rests on these definitions.)
-use Rattle.std.specs.Prelude.{ℕ, zero, suc, ◌-◌, ◌==◌, Bool, not, ◌&&◌, ◌||◌, if◌then◌else◌, List, [], ◌++◌, length, map, filter, slice_index_or, Option, Some, None}
+use Rattle.std.specs.Prelude.{ℕ, zero, suc, ◌-◌, ◌==◌, Bool, not, ◌&&◌, ◌||◌, if◌then◌else◌}
+use Rattle.std.specs.Prelude.{List, [], ◌++◌, length, map, filter, slice_index_or, Option, Some, None}
 use Rattle.std.specs.List.{filter_map, flat_map}
 use Rattle.up_names.specs.PathNames.{PathName}
 use Rattle.up_entry.specs.declared.entries.Entry.{Entry}

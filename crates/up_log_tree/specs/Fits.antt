@@ -1,5 +1,6 @@
 -- Which record fits a log as its next one. This project's own.
-use Rattle.std.specs.Prelude.{◌≡◌, ◌≢◌, ℕ, Bool, true, false, not, ◌&&◌, ◌==◌, ◌+◌, ◌≤◌, nat_lt, nat_le, ⊤, List, [], ◌∷◌, ◌++◌, length, take, codes, slice_get, Contains, Option, Some, None, is_none, is_some, IsSome, MatchOption, Ok, is_ok}
+use Rattle.std.specs.Prelude.{◌≡◌, ◌≢◌, ℕ, Bool, true, false, not, ◌&&◌, ◌==◌, ◌+◌, ◌≤◌, nat_lt, nat_le, ⊤, List, [], ◌∷◌, ◌++◌, length}
+use Rattle.std.specs.Prelude.{take, codes, slice_get, Contains, Option, Some, None, is_none, is_some, IsSome, MatchOption, Ok, is_ok}
 use Rattle.std.specs.List.{list_any}
 use Rattle.std.specs.Str.{byte, bytes_eq}
 use Rattle.up_names.specs.Texts.{Text, UserName}

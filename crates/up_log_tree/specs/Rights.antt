@@ -1,5 +1,6 @@
 -- What a tree says of rights: the texts of its Access and Group files (Upspin access control document).
-use Rattle.std.specs.Prelude.{⊤, Bool, true, false, ◌&&◌, if◌then◌else◌, List, [], codes, find, Option, Some, None, is_some, Result, Ok, Err}
+use Rattle.std.specs.Prelude.{⊤, Bool, true, false, ◌&&◌, if◌then◌else◌, List, [], codes, find, Option, Some, None, is_some}
+use Rattle.std.specs.Prelude.{Result, Ok, Err}
 use Rattle.std.specs.Map.{keys_of}
 use Rattle.std.specs.Option.{option_map}
 use Rattle.up_names.specs.declared.fault.TextFault.{TextFault}

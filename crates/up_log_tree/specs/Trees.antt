@@ -1,6 +1,7 @@
 -- A tree: a finite map from paths to nodes (Upspin overview), and the tree that a log gives. The records of a log are this
 -- project's own.
-use Rattle.std.specs.Prelude.{ℕ, ◌-◌, Bool, true, false, not, List, [], ◌∷◌, length, take, fold, filter, find, slice_get, Option, Some, None, is_some, unwrap_or}
+use Rattle.std.specs.Prelude.{ℕ, ◌-◌, Bool, true, false, not, List, [], ◌∷◌, length, take, fold, filter, find, slice_get}
+use Rattle.std.specs.Prelude.{Option, Some, None, is_some, unwrap_or}
 use Rattle.std.specs.FinMap.Entries as entries
 use Rattle.std.specs.List.{cons_option}
 use Rattle.std.specs.Map.{keys_of}

@@ -28,10 +28,6 @@ pub or-right : (a b : Bool) → b ≡ true → (a || b) ≡ true
 or-right true b h = refl
 or-right false b h = h
 
-and-both : (a b : Bool) → a ≡ true → b ≡ true → (a && b) ≡ true
-and-both true b ha hb = hb
-and-both false b ha hb = cc
-
 -- ---- lists
 
 pub list_any-map : {X Y : Type 0} (test : Y → Bool) (f : X → Y) (xs : List X) → list_any test (map f xs) ≡ list_any (λ x. test (f x)) xs
@@ -192,12 +188,6 @@ walk-back whole again d from left rest stuck walk = record {
   same = walk.same ∙ ap (λ b. b || later again (d ∷ from)) stuck ∙ matches-many again from;
   back = λ more. more;
 }
-
--- there is none more to take
-pub walk-none : (whole : Bool) (again : List Term) (left : List Term) (rest : List ℕ)
-    → matches left rest ≡ false → Walks whole again [] left rest → whole ≡ false
-unfolding later
-walk-none whole again left rest stuck walk = walk.same ∙ ap (λ b. b || false) stuck
 
 -- at the end of the text no later place is left
 pub walk-end : (whole : Bool) (again : List Term) (from : List ℕ) (left : List Term) → Walks whole again from left [] → whole ≡ list_all is_many left

@@ -1,5 +1,6 @@
 -- Patterns of Glob: a literal user name, and elements after it, cleaned as those of a path (this project's own).
-use Rattle.std.specs.Prelude.{ℕ, Bool, true, false, ◌-◌, ◌&&◌, ◌||◌, not, nat_lt, if◌then◌else◌, List, [], ◌∷◌, ◌++◌, length, take, map, slice_get, Option, Some, None, is_some, unwrap_or, option_and_then, Result, Ok, Err, codes, position}
+use Rattle.std.specs.Prelude.{ℕ, Bool, true, false, ◌-◌, ◌&&◌, ◌||◌, not, nat_lt, if◌then◌else◌, List, [], ◌∷◌, ◌++◌, length, take, map}
+use Rattle.std.specs.Prelude.{slice_get, Option, Some, None, is_some, unwrap_or, option_and_then, Result, Ok, Err, codes, position}
 use Rattle.std.specs.List.{before_first}
 use Rattle.std.specs.Option.{option_map_or}
 use Rattle.std.specs.Str.{bytes_eq, chars}

@@ -17,7 +17,8 @@ use Rattle.up_journal.specs.Logs.{LogState}
 use Rattle.up_journal.specs.declared.limits.Limits.{Limits}
 use Rattle.up_keys.specs.Keys as keys
 use Rattle.up_names.specs.Texts.{UserName}
-use Rattle.up_shared.specs.Sharing.{AreSeats, EachPair, HasFailed, HasLooked, IsQuiet, IsTreeSeat, SeatsLater, TreeSeatLater, is_seat_of, seat_for, seen_by, tree_seen, views_of}
+use Rattle.up_shared.specs.Sharing.{AreSeats, EachPair, HasFailed, HasLooked, IsQuiet, IsTreeSeat, SeatsLater, TreeSeatLater, is_seat_of}
+use Rattle.up_shared.specs.Sharing.{seat_for, seen_by, tree_seen, views_of}
 use Rattle.up_shared.specs.declared.shared.Seats.{Seats}
 use Rattle.up_shared.specs.declared.shared.Shared.{Shared}
 use Rattle.up_shared.specs.declared.shared.TreeCell.{TreeCell}
@@ -151,8 +152,13 @@ module _ {D : Type 0} where
 
   -- seats that stay are later than themselves
   pub seats_same : (a : Seats D) → SeatsLater a a
-  seats_same a =
-      record { trees = each_same TreeSeatLater tree_seat_same a.trees.items; store = Onward-self a.store; store_limits = refl; keys = Onward-self a.keys; keys_limits = refl }
+  seats_same a = record {
+    trees = each_same TreeSeatLater tree_seat_same a.trees.items;
+    store = Onward-self a.store;
+    store_limits = refl;
+    keys = Onward-self a.keys;
+    keys_limits = refl;
+  }
 
   -- seats that are later over each of two calls are so over both
   pub seats_trans : (a b c : Seats D) → SeatsLater a b → SeatsLater b c → SeatsLater a c
@@ -219,8 +225,11 @@ none_some x h = cc
 
 -- where no log gains own records, none does whatever log may
 pub own_wider : (but : Option LogName) (a b : Views) → OwnStays None a b → OwnStays but a b
-own_wider but a b h =
-    record { trees = λ owner differs. h.trees owner (none_some (LogName.OfTree owner)); store = λ differs. h.store (none_some LogName.OfStore); keys = λ differs. h.keys (none_some LogName.OfKeys) }
+own_wider but a b h = record {
+  trees = λ owner differs. h.trees owner (none_some (LogName.OfTree owner));
+  store = λ differs. h.store (none_some LogName.OfStore);
+  keys = λ differs. h.keys (none_some LogName.OfKeys);
+}
 
 -- ---- laws
 

@@ -69,7 +69,7 @@ fn refused(fault: EntryFault) -> Reply
     }
 }
 
-/// The same, once the request's texts were read.
+/// What a tree answers to a user's request on its snapshot tree, as [`snap_step`] has it, once the request's texts were read.
 pub fn snap_asked<D: Disk>(
     alloc: Global,
     state: &mut TreeState<D>,

@@ -1,5 +1,6 @@
 -- What the parts of a connection do. This project's own.
-use Rattle.std.specs.Prelude.{◌≡◌, ◌≢◌, ◌<◌, ◌+◌, ◌⊎◌, ℕ, Bool, true, false, List, [], ◌∷◌, ◌++◌, length, Option, Some, None, Result, Ok, Err}
+use Rattle.std.specs.Prelude.{◌≡◌, ◌≢◌, ◌<◌, ◌+◌, ◌⊎◌, ℕ, Bool, true, false, List, [], ◌∷◌, ◌++◌, length, Option, Some, None}
+use Rattle.std.specs.Prelude.{Result, Ok, Err}
 use Rattle.up_bytes.specs.declared.fields.Fields as fields
 use Rattle.up_ends.specs.Telling.{Coming, Gives, Grew}
 use Rattle.std.specs.Io.KnownBytes.{Appends}
@@ -63,8 +64,13 @@ around answerer verifier clock nonces = record { answerer = answerer; verifier =
 
 -- the two ends of a connection, by what source and sink tell
 abbrev pub ends : {S K : Type 0} → source.Ghosts S → sink.Ghosts K → S → K → Ends
-ends sources sinks from to =
-    record { left = sources.left from; given = sources.given from; read_faults = sources.faults from; held = sinks.held to; write_faults = sinks.faults to }
+ends sources sinks from to = record {
+  left = sources.left from;
+  given = sources.given from;
+  read_faults = sources.faults from;
+  held = sinks.held to;
+  write_faults = sinks.faults to;
+}
 
 -- the two ends of a connection, whose source has come to this
 abbrev pub ends_at : {K : Type 0} → Option (List ℕ) → ℕ → ℕ → sink.Ghosts K → K → Ends

@@ -38,7 +38,8 @@ pub fn run(alloc: Global, stage: &mut Stage, text: &str, answer: &mut Answer) ->
     Ok(())
 }
 
-/// The same over each image of the disk. Images that come to the same stand together, by their numbers.
+/// Runs the command over each image of the follower's disk, as [`run`] does over the disk, and leaves the disk as it is. Images of
+/// which the same is told stand together, by their numbers.
 pub fn images(alloc: Global, stage: &Stage, text: &str, answer: &mut Answer) -> Result<(), Fault> {
     answer.part();
     let mut told = Vec::new(alloc);
