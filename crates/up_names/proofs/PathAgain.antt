@@ -1,18 +1,15 @@
 -- Laws of the definitions alone: a path that some text names is named by its canonical text.
-use Rattle.std.proofs.Common.{◌≡◌, ℕ, ◌+◌, ◌<◌, ◌≤◌, Bool, true, false, cond, not, nat_lt, inl, inr, List, [], ◌∷◌, length, refl, sym, ap, subst, ◌∙◌, arith, Some, None, Result, Ok, Err}
+use Rattle.std.proofs.Common.{◌≡◌, ℕ, ◌+◌, ◌<◌, ◌≤◌, Bool, true, false, cond, inl, inr, List, [], ◌∷◌, length, refl, sym, ap, subst, ◌∙◌, arith, Some, None, Ok}
 use Rattle.std.specs.List.{list_all, list_any, before_first, after_first, slice_split}
-use Rattle.std.proofs.lemmas.Bool.{ltb-false, not-false, cases_lt}
+use Rattle.std.proofs.lemmas.Bool.{ltb-false, cases_lt}
 use Rattle.std.proofs.lemmas.List.{length-append, nil_from_length}
-use Rattle.up_names.specs.declared.fault.NameFault.{NameFault}
-use Rattle.up_names.specs.declared.fault.NameFault.TheVariants.{TooLong, Element}
-use Rattle.up_names.specs.PathNames.{PathName, is_slash, is_element, is_name, cleaned, pieces_of, first_bad, path_of, canonical, cut, extended, joined, IsCanonical}
+use Rattle.up_names.specs.PathNames.{PathName, is_slash, is_element, is_name, cleaned, pieces_of, first_bad, path_of, canonical, IsCanonical}
 use Rattle.up_names.specs.PathParts.{after_piece}
 use Rattle.up_names.specs.UserNames.{user_of}
 use Rattle.up_names.proofs.Owners.{peel, at_most_254, no_longer}
 use Rattle.up_names.proofs.UserLemmas.{user_of-again}
 use Rattle.up_names.proofs.Firsts.{length-parts}
-use Rattle.up_names.proofs.PathLaws.{IsReadFrom, read_from, cleaned-names, first_bad-all, proper-canonical, canonical-proper, canonical-injective}
-use Rattle.up_names.proofs.PathEdits.{cut_proper, extended_proper}
+use Rattle.up_names.proofs.PathLaws.{IsReadFrom, read_from, cleaned-names, first_bad-all, proper-canonical}
 use Rattle.up_names.proofs.PathPieces.{Going, going_begins, going_on, going_short}
 
 -- all pieces taken, none of them bad
@@ -73,25 +70,3 @@ path_of-again text path e =
       names = ap (list_all is_name) read.elements ∙ cleaned-names (pieces_of text) (first_bad-all _ (pieces_of text) read.good);
       short = short_again text path (ltb-false 4096 (length text) fits.0) read;
     })
-
--- Canonical paths of one text are one path.
-pub canonical-apart : (p q : PathName) → IsCanonical p → IsCanonical q → canonical p ≡ canonical q → p ≡ q
-canonical-apart p q of_p of_q = canonical-injective p q (canonical-proper p of_p) (canonical-proper q of_q)
-
--- The first elements of a canonical path make a canonical path, and so does a further one where it may be joined.
-pub cut-canonical : (n : ℕ) (path : PathName) → IsCanonical path → IsCanonical (cut n path)
-cut-canonical n path of_path = proper-canonical (cut n path) (cut_proper n path (canonical-proper path of_path))
-
-pub joined-canonical : (path longer : PathName) (element : List ℕ) → IsCanonical path → joined path element ≡ Ok longer → IsCanonical longer
-unfolding joined
-joined-canonical path longer element of_path e =
-    let named = joined_peel (not (is_name element)) (Element 0) _ longer e in
-    let fits = joined_peel (nat_lt 4096 (length (canonical (extended path element)))) (TooLong (length (canonical (extended path element)))) (Ok (extended path element)) longer named.1 in
-    subst IsCanonical (ok_same (extended path element) longer fits.1)
-    (proper-canonical (extended path element) (extended_proper path element (canonical-proper path of_path) (not-false _ named.0) (ltb-false 4096 _ fits.0)))
-  where
-    joined_peel : (refuses : Bool) (fault : NameFault) (rest : Result PathName NameFault) (path : PathName) → cond refuses (Err fault) rest ≡ Ok path → (refuses ≡ false) × (rest ≡ Ok path)
-    joined_peel refuses fault rest path e = peel refuses fault rest path e
-
-    ok_same : (p q : PathName) → ◌≡◌ {A = Result PathName NameFault} (Ok p) (Ok q) → p ≡ q
-    ok_same p q e = cc

@@ -64,9 +64,6 @@ pub cut_short : {owner text ends : List ℕ} → IsKept owner text ends → (n :
 cut_short {owner} {text} k n = let short = (kept_proper k).short in omega (arith, length-canonical-cut n (read_off owner text))
 
 -- where the text of the first n elements ends
-pub cut_end-zero : (path : PathName) → length path.owner + 1 ≡ length (canonical (cut 0 path))
-cut_end-zero path = sym (length-append path.owner (47 ∷ []))
-
 pub cut_end-suc : {owner text ends : List ℕ} → IsKept owner text ends → (n : ℕ) → n < length ends → get_or ends n 0 ≡ length (canonical (cut (suc n) (read_off owner text)))
 cut_end-suc {owner} {text} {ends} k n h =
     let path = read_off owner text in

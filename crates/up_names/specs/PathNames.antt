@@ -1,6 +1,7 @@
 -- Path names: an owner and a list of elements (Upspin overview). The limits, the allowed bytes and the rule for `..`
 -- at the root are this project's own.
-use Rattle.std.specs.Prelude.{◌≡◌, ℕ, Bool, ◌+◌, ◌-◌, ◌==◌, ◌&&◌, ◌||◌, not, nat_lt, nat_le, if◌then◌else◌, List, [], ◌∷◌, ◌++◌, length, take, map, filter, count_by, codes, Option, Some, None, Result, Ok, Err}
+use Rattle.std.specs.Prelude.{◌≡◌, ℕ, Bool, ◌+◌, ◌-◌, ◌==◌, ◌&&◌, ◌||◌, not, nat_lt, nat_le, if◌then◌else◌}
+use Rattle.std.specs.Prelude.{List, [], ◌∷◌, ◌++◌, length, take, map, filter, count_by, codes, Option, Some, None, Result, Ok, Err}
 use Rattle.std.specs.List.{list_all, list_any, before_first, after_first, slice_split, starts_with, ends_with, join_with_byte}
 use Rattle.std.specs.Str.{byte, bytes_eq, is_utf8}
 use Rattle.up_names.specs.Texts.{Text, UserName}

@@ -9,7 +9,8 @@ use Rattle.std.specs.Hash as fed
 use lib.Pointwise.{pointwise}
 use Rattle.std.proofs.lemmas.Bool.{and_parts, and_from, false≢true}
 use Rattle.std.proofs.lemmas.Bool.Decides.{same_from_decides}
-use Rattle.std.proofs.lemmas.Cmp.{nat_list_cmp_total, lists_total, on_total, then_total, tied_itself, nat_list_eq_equiv, lists_equiv, on_equiv, and_equiv}
+use Rattle.std.proofs.lemmas.Cmp.{nat_list_cmp_total, lists_total, on_total, then_total, tied_itself, nat_list_eq_equiv}
+use Rattle.std.proofs.lemmas.Cmp.{lists_equiv, on_equiv, and_equiv}
 use Rattle.std.specs.FinMap.{IsAntisymmetric, nat_cmp-IsAntisymmetric, slice_cmp-IsAntisymmetric}
 use Rattle.std.proofs.lemmas.Map.Lookups.{CmpEqualImpliesEq}
 use Rattle.std.proofs.lemmas.Slice.Eq.{bytes_eq-Decides, slice_eq-Decides}
@@ -63,8 +64,10 @@ is_eq-Equal Greater h = absurd (false≢true h)
 
 -- comparing two paths decides whether they are equal
 path_cmp-Decides : (p q : PathName) → Decides (is_eq (path_cmp p q)) (p ≡ q)
-path_cmp-Decides p q =
-    (λ h. path_exact p q (is_eq-Equal (path_cmp p q) h), λ same. ap (λ r. is_eq (path_cmp p r)) (sym same) ∙ ap is_eq (tied_itself path_cmp_total p))
+path_cmp-Decides p q = (
+  λ h. path_exact p q (is_eq-Equal (path_cmp p q) h),
+  λ same. ap (λ r. is_eq (path_cmp p r)) (sym same) ∙ ap is_eq (tied_itself path_cmp_total p),
+)
 
 -- `==` and the order say one thing
 pub path_cmp_eq : (p q : PathName) → path_eq p q ≡ is_eq (path_cmp p q)

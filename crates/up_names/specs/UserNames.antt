@@ -1,6 +1,7 @@
 -- User names: a local part, perhaps `+` and a suffix, then `@` and a domain (Upspin overview). Which characters and
 -- lengths are allowed, and the final period, are this project's own.
-use Rattle.std.specs.Prelude.{ℕ, Bool, ◌-◌, ◌==◌, ◌&&◌, ◌||◌, not, nat_eq, nat_lt, nat_le, if◌then◌else◌, [], ◌∷◌, ◌++◌, length, take, count_by, Option, Some, None, Result, Ok, Err}
+use Rattle.std.specs.Prelude.{ℕ, Bool, ◌-◌, ◌==◌, ◌&&◌, ◌||◌, not, nat_eq, nat_lt, nat_le}
+use Rattle.std.specs.Prelude.{if◌then◌else◌, [], ◌∷◌, ◌++◌, length, take, count_by, Option, Some, None, Result, Ok, Err}
 use Rattle.std.specs.List.{list_all, list_any, before_first, after_first, after_last, slice_split, starts_with, ends_with}
 use Rattle.std.specs.Char.{is_ascii_alphanumeric, is_ascii_digit, is_ascii_lowercase}
 use Rattle.std.specs.Str.{byte, str_to_ascii_lowercase}

@@ -14,6 +14,7 @@ ghost use Rattle.up_names.specs.PathOrderLaws.{path_cmp_eq, path_cmp_total, path
 use crate::fault::NameFault;
 use crate::path_parts::{MAX_LEN, behind_owner, is_name, parse_path, take_pieces};
 use crate::users::User;
+use smallvec::SmallVec;
 use std::alloc::AllocError;
 use std::cmp::Ordering;
 use std::hash::{Hash, Hasher};
@@ -36,8 +37,9 @@ pub enum Control {
 pub struct Path {
     owner: User,
     text: String,
-    /// Where each element ends in the text, which is at most at 4,096; the next begins behind the slash there.
-    ends: Vec<u16>,
+    /// Where each element ends in the text, which is at most at 4,096; the next begins behind the slash there. Most paths have few
+    /// elements: up to eight places take no memory of their own.
+    ends: SmallVec<u16, 8>,
 }
 
 impl Model for Path {
@@ -76,7 +78,7 @@ impl Path {
         Ok(Path {
             owner,
             text,
-            ends: Vec::new(alloc),
+            ends: SmallVec::new(alloc),
         })
     }
 
@@ -316,7 +318,7 @@ impl Path {
     {
         match n {
             0 => self.owner.text().len() + 1,
-            _ => self.ends[n - 1] as usize,
+            _ => self.ends.as_slice()[n - 1] as usize,
         }
     }
 
@@ -424,7 +426,7 @@ impl Clone for Path {
         Ok(Path {
             owner: self.owner.clone()?,
             text: self.text.clone()?,
-            ends: self.ends.as_slice().to_vec(*self.ends.allocator())?,
+            ends: SmallVec::from_slice(*self.ends.allocator(), self.ends.as_slice())?,
         })
     }
 }

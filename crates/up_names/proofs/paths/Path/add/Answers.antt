@@ -8,7 +8,7 @@ use Rattle.up_names.proofs.paths.Path.add.Goals.{After-len}
 
 -- a slash is written below the root alone
 below : (c : After-len) → not c.is_empty-below_root.result ≡ not (eqb (length c.self.inside.ends.items) 0)
-below c = ap not (c.is_empty-below_root.ensures ∙ ap (λ n. eqb n 0) c.self.inside.ends.ok.0)
+below c = ap not c.is_empty-below_root.ensures
 
 -- what is written
 long : (c : After-len) → string_bytes c.push_element.new.text ≡ cond (not c.is_empty-below_root.result) (string_bytes c.self.inside.text ++ 47 ∷ []) (string_bytes c.self.inside.text) ++ c.args.element.now

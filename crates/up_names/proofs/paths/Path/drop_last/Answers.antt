@@ -9,7 +9,7 @@ use Rattle.up_names.proofs.paths.Path.drop_last.Goals as goal
 
 -- the number of elements
 len_is : (c : goal.Else-len-eq0) → c.len-len.result ≡ length c.args.self.now.elements
-len_is c = c.len-len.ensures ∙ c.self.inside.ends.ok.0 ∙ len_seen c.self.invariant c.args.self.now c.self.view_is
+len_is c = c.len-len.ensures.value ∙ len_seen c.self.invariant c.args.self.now c.self.view_is
 
 pub front_len-front-requires : goal.front_len-front-requires
 front_len-front-requires c = omega (arith, len_is c)
@@ -18,7 +18,7 @@ pub truncate-requires : goal.truncate-requires
 truncate-requires c =
     let path = c.args.self.now in
     let text = c.self.inside.text in
-    let len : c.len-len.result ≡ length path.elements = c.len-len.ensures ∙ c.self.inside.ends.ok.0 ∙ len_seen c.self.invariant path c.self.view_is in
+    let len : c.len-len.result ≡ length path.elements = c.len-len.ensures.value ∙ len_seen c.self.invariant path c.self.view_is in
     let at = cut_boundary-at path (c.len-len.result - 1) (omega arith) (string_bytes text) (text_seen c.self.invariant path c.self.view_is) (IsUtf8-string_bytes text) c.front_len-front.result c.front_len-front.ensures.end in
     λ _. (at.0, λ _ below. at.1 below)
 
@@ -34,5 +34,5 @@ invariant_of-self c = (cut_is c).0
 pub returns-clause-last : goal.returns-clause-last
 returns-clause-last c =
     let path = c.args.self.now in
-    let len : c.len-len.result ≡ length path.elements = c.len-len.ensures ∙ c.self.inside.ends.ok.0 ∙ len_seen c.self.invariant path c.self.view_is in
+    let len : c.len-len.result ≡ length path.elements = c.len-len.ensures.value ∙ len_seen c.self.invariant path c.self.view_is in
     (cut_is c).1 ∙ ap (λ n. cut (n - 1) path) len

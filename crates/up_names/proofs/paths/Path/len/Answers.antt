@@ -4,4 +4,4 @@ use Rattle.up_names.proofs.PathEdits.{kept_len}
 use Rattle.up_names.proofs.paths.Path.len.Goals as goal
 
 pub returns : goal.returns
-returns c = c.len.ensures ∙ c.self.inside.ends.ok.0 ∙ kept_len c.self.invariant ∙ ap (λ (path : PathName). length path.elements) c.self.view_is
+returns c = c.len.ensures.value ∙ kept_len c.self.invariant ∙ ap (λ (path : PathName). length path.elements) c.self.view_is
