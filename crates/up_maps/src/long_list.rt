@@ -133,7 +133,23 @@ impl<T: Drop> LongList<T> {
         }
     }
 
-    /// The place of the first item that is not below `key`, by bisection: the length if all are.
+    /// The length where the last item is below `key`, else 0: before this place all items of a sorted list are below.
+    fn below_all<K: Below<T>>(&self, key: &K) -> u64
+        ensures bound { result ≤ length self.now.items }
+        ensures before { 0 < result → IsAt (K.below key.now) true self.now.items (result - 1) }
+    {
+        let len = self.len();
+        if len == 0 {
+            return 0;
+        }
+        match self.get(len - 1) {
+            Some(last) if key.is_below(last) => len,
+            Some(_) | None => 0,
+        }
+    }
+
+    /// The place of the first item that is not below `key`, by bisection: the length if all are. The last item is looked at first, so
+    /// that what comes behind all others is placed at once.
     pub fn find<K: Below<T>>(&self, key: &K) -> u64
         ensures bound { result ≤ length self.now.items }
         ensures before { 0 < result → IsAt (K.below key.now) true self.now.items (result - 1) }
@@ -142,7 +158,7 @@ impl<T: Drop> LongList<T> {
         ensures place { IsPartitionedBy (K.below key.now) self.now.items → IsPartitionPoint
             (λ x. K.below key.now x ≡ true) (λ x. K.below key.now x ≡ false) self.now.items result }
     {
-        let mut low = 0;
+        let mut low = self.below_all(key);
         let mut high = self.len();
         while low < high {
             let middle = low + (high - low) / 2;
