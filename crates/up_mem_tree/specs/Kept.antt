@@ -1,5 +1,6 @@
 -- What is kept in memory of a log, and how it stands for the log. This project's own.
-use Rattle.std.specs.Prelude.{◌≡◌, ◌<◌, ℕ, List, [], ◌∷◌, ◌++◌, map, length, slice_get, unwrap_or, true, false, Option, Some, None, MatchOption, ⊤}
+use Rattle.std.specs.Prelude.{◌≡◌, ◌<◌, ℕ, List, [], ◌∷◌, ◌++◌, map, length, slice_get, unwrap_or, true, false}
+use Rattle.std.specs.Prelude.{Option, Some, None, MatchOption, ⊤}
 use Rattle.std.specs.List.{range_with_len}
 use Rattle.std.specs.Vec.{vec_capacity, vec_len}
 use Rattle.up_names.specs.PathNames.{PathName, parent_of}

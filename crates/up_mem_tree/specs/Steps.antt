@@ -1,5 +1,6 @@
 -- What a record that puts or deletes makes of the slots. This project's own.
-use Rattle.std.specs.Prelude.{◌≡◌, ◌≢◌, ◌<◌, ◌≤◌, ◌+◌, ℕ, false, List, [], ◌∷◌, ◌++◌, length, filter, not, Option, Some, None, ⊤, Vec, option_map, unwrap_or, slice_get, MatchOption, if◌then◌else◌}
+use Rattle.std.specs.Prelude.{◌≡◌, ◌≢◌, ◌<◌, ◌≤◌, ◌+◌, ℕ, false, List, [], ◌∷◌, ◌++◌, length, filter, not}
+use Rattle.std.specs.Prelude.{Option, Some, None, ⊤, Vec, option_map, unwrap_or, slice_get, MatchOption, if◌then◌else◌}
 use Rattle.std.specs.List.{insert, remove}
 use Rattle.std.specs.Vec.{vec_capacity, vec_len}
 use Rattle.up_names.specs.PathNames.{PathName, control_of, parent_of}

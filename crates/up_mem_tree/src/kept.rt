@@ -5,6 +5,7 @@ ghost use Rattle.up_policy.specs.Trees.{owns_snapshots};
 
 use crate::slots::Slot;
 use std::alloc::Global;
+use std::cell::Cell;
 use up_entry::Rec;
 use up_maps::OrderedMap;
 use up_names::User;
@@ -22,6 +23,8 @@ pub(crate) struct Kept {
     pub(crate) snaps: OrderedMap<u64, u64>,
     /// Guesses of the slots of far paths, by marks of their texts. Nothing rests on them.
     pub(crate) guesses: OrderedMap<u64, usize>,
+    /// The slot at which the last walk ended: the next one often goes there again, or beside it. Nothing rests on it.
+    pub(crate) recent: Cell<usize>,
 }
 
 impl Kept {
@@ -39,6 +42,7 @@ impl Kept {
             slots: Vec::new(alloc),
             snaps: OrderedMap::new(alloc),
             guesses: OrderedMap::new(alloc),
+            recent: Cell::new(0),
         }
     }
 }

@@ -283,7 +283,7 @@ impl MemTree {
         changes_above(self.changes_below.as_slice(), &self.kept, path, above)
     }
 
-    /// The same in a list of its own.
+    /// The positions above `above` of the records that change a path under this one, in order, in a list of their own.
     pub fn changes_under(&self, path: &Path, above: u64) -> Result<Items<u64>, AllocError>
         ensures { IfOk result (λ found. found ≡ changes_under self.now.log path.now above) }
     {

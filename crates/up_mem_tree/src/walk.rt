@@ -1,4 +1,4 @@
-//! From the root, or from a slot that was guessed right, down to a path: each element is read once.
+//! From the root, or from a slot nearer to it, down to a path: each element is read once.
 ghost use Rattle.std.specs.Prelude.{◌≡◌, ◌<◌, length, ◌+◌, Some};
 ghost use Rattle.up_names.specs.PathNames.{cut};
 ghost use Rattle.up_mem_tree.specs.Kept.{Stands, paths_of, slots_of};
@@ -22,9 +22,13 @@ impl Kept {
         for n in start..path.len() {
             match self.step(id, path, n) {
                 Some(next) => id = next,
-                None => return Some((n, id)),
+                None => {
+                    self.note_end(first, id);
+                    return Some((n, id));
+                }
             }
         }
+        self.note_end(first, id);
         Some((path.len(), id))
     }
 
