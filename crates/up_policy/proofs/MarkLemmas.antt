@@ -1,13 +1,12 @@
 -- What passes the marks.
-use Rattle.std.proofs.Common.{◌≡◌, ℕ, ◌+◌, ◌<◌, ◌≤◌, Bool, true, false, ◌&&◌, List, [], ◌∷◌, ◌++◌, length, take, refl, sym, ap, ◌∙◌, inl, inr, arith, Some, slice_get, get_or, subst}
+use Rattle.std.proofs.Common.{◌≡◌, ℕ, ◌+◌, ◌<◌, ◌≤◌, false, ◌&&◌, List, [], ◌∷◌, ◌++◌, length, take, sym, ap, ◌∙◌, inl, inr, arith, Some, slice_get, get_or, subst}
 use Rattle.std.specs.Prelude.{IfSome, nat_eq, nat_le}
 use Rattle.std.specs.List.{list_any}
 use Rattle.std.specs.RandomState.{initial_hasher}
 use Rattle.std.specs.declared.hash.DefaultHasher.{DefaultHasher}
 use Rattle.std.specs.declared.hash.RandomState.{RandomState}
-use Rattle.std.proofs.lemmas.Bool.{and_from, and_parts, cases_lt, le-leb, leb-true, lt-leb}
+use Rattle.std.proofs.lemmas.Bool.{cases_lt}
 use Rattle.std.proofs.lemmas.Grind.{take_at_read}
-use Rattle.std.proofs.lemmas.List.{length-take-le}
 use Rattle.std.proofs.lemmas.List.Sums.{fold-append}
 use Rattle.std.proofs.lemmas.Option.{slice_get_within, slice_get-get_or, get_or_from_slice_get}
 use Rattle.up_names.specs.Texts.{Text}
@@ -47,32 +46,3 @@ none_more marks path k n before not_noted = record {
     | inr lower ↦ before.none m more lower
   ];
 }
-
--- and none does that has more elements than any that was noted
-pub none_deeper : (marks : Marks) (path : PathName) (k n : ℕ) → NonePass marks path k n → marks.depth ≤ n → NonePass marks path k (length path.elements)
-none_deeper marks path k n before deep = record {
-  none = λ m more within. elim (cases_lt n m) [
-    | inl beyond ↦
-        let size : length (take m path.elements) ≡ m = length-take-le m path.elements within in
-        and_false (list_any (nat_eq (hash_of marks.keys (take m path.elements))) marks.hashes.keys) _
-        (ap (λ s. nat_le s marks.depth) size ∙ lt-leb m marks.depth (omega arith))
-    | inr lower ↦ before.none m more lower
-  ];
-}
-  where
-    and_false : (a b : Bool) → b ≡ false → (a && b) ≡ false
-    and_false true b h = h
-    and_false false b h = refl
-
--- a directory passes whose hash was noted, with as many elements
-pub passes_by : (marks : Marks) (dir : PathName) → list_any (nat_eq (hash_of marks.keys dir.elements)) marks.hashes.keys ≡ true → length dir.elements ≤ marks.depth → may_have marks dir ≡ true
-passes_by marks dir noted deep = and_from _ _ noted (le-leb (length dir.elements) marks.depth deep)
-
--- what passed passes still, where hashes and depth only grow
-pub still_passes : (old new : Marks) → new.keys ≡ old.keys → ((hash : ℕ) → list_any (nat_eq hash) old.hashes.keys ≡ true → list_any (nat_eq hash) new.hashes.keys ≡ true) → old.depth ≤ new.depth → (dir : PathName) → may_have old dir ≡ true → may_have new dir ≡ true
-still_passes old new keys grown deep dir passed =
-    let both = and_parts (list_any (nat_eq (hash_of old.keys dir.elements)) old.hashes.keys) (nat_le (length dir.elements) old.depth) passed in
-    let size : length dir.elements ≤ old.depth = leb-true (length dir.elements) old.depth both.1 in
-    passes_by new dir
-    (ap (λ k. list_any (nat_eq (hash_of k dir.elements)) new.hashes.keys) keys ∙ grown (hash_of old.keys dir.elements) both.0)
-    (omega arith)

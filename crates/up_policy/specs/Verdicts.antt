@@ -1,5 +1,6 @@
 -- Who has which right where (Upspin access control document). The rule of snapshot trees is this project's own.
-use Rattle.std.specs.Prelude.{◌≡◌, Bool, true, false, ◌&&◌, ◌||◌, not, ⊤, IsTrue, MatchBool, MatchOption, if◌then◌else◌, [], ◌++◌, Any, Option, Some, None}
+use Rattle.std.specs.Prelude.{◌≡◌, Bool, true, false, ◌&&◌, ◌||◌, not, ⊤, IsTrue, MatchBool, MatchOption, if◌then◌else◌, [], ◌++◌, Any}
+use Rattle.std.specs.Prelude.{Option, Some, None}
 use Rattle.std.specs.Prelude as std
 use Rattle.std.specs.List.{list_any, flat_map}
 use Rattle.std.specs.Map.{keys_of}

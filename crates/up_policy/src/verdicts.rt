@@ -13,7 +13,7 @@ ghost use Rattle.up_policy.specs.Reached.{reached};
 ghost use Rattle.up_policy.specs.Verdicts.{HasRight, is_control, items_for, only_looks, right_test, rights_held, text_decides, without_text};
 
 use crate::facts::Facts;
-use crate::governors::{governor, governor_unless, owns_snapshots};
+use crate::governors::{governor_unless, owns_snapshots};
 use crate::loaded::Loaded;
 use crate::members::{has_user, items_in};
 use crate::met::Met;
@@ -65,13 +65,38 @@ fn right_test<F: Facts>(
         ≡ right_test (F.tree facts.now) (F.group_paths facts.now)
         loaded.now user.now right path.now) }
 {
-    let snapshots = owns_snapshots(facts.owner());
-    let early = without_text(snapshots, facts.owner(), user, right, path)?;
+    let asker = Asker::of(user, facts.owner());
+    let early = without_text(asker, facts.owner(), right, path)?;
     if let Some(answer) = early {
         return Ok(answer);
     }
-    let text = governor_unless(snapshots, facts, path);
-    text_decides(alloc, facts, loaded, user, right, text)
+    let text = governor_unless(asker.snapshots, facts, path);
+    text_decides(alloc, facts, loaded, asker, right, text)
+}
+
+/// A user who asks of a tree, and what is found once for all rights.
+#[derive(Clone, Copy)]
+struct Asker<'a> {
+    user: &'a User,
+    /// Whether the tree is a snapshot tree.
+    snapshots: bool,
+    /// Whether the user is the tree's owner.
+    owns: bool,
+}
+
+impl<'a> Asker<'a> {
+    /// A user who asks of the tree of this owner.
+    fn of(user: &'a User, owner: &User) -> Asker<'a>
+        ensures user { result.user.now ≡ user.now }
+        ensures snapshots { result.snapshots ≡ owns_snapshots owner.now }
+        ensures owns { result.owns ≡ bytes_eq user.now owner.now }
+    {
+        Asker {
+            user,
+            snapshots: owns_snapshots(owner),
+            owns: user == owner,
+        }
+    }
 }
 
 /// The set of all rights that a user has on a path of a tree, by the rules of [`can`]. The walk to the text that governs
@@ -106,12 +131,13 @@ fn rights_held<F: Facts>(
     ensures { IfOk result (λ rights. rights
         ≡ rights_held (F.tree facts.now) (F.group_paths facts.now) loaded.now user.now path.now) }
 {
-    let text = governor(facts, path);
-    let read = right_by(alloc, facts, loaded, user, Right::Read, path, text)?;
-    let write = right_by(alloc, facts, loaded, user, Right::Write, path, text)?;
-    let list = right_by(alloc, facts, loaded, user, Right::List, path, text)?;
-    let create = right_by(alloc, facts, loaded, user, Right::Create, path, text)?;
-    let delete = right_by(alloc, facts, loaded, user, Right::Delete, path, text)?;
+    let asker = Asker::of(user, facts.owner());
+    let text = governor_unless(asker.snapshots, facts, path);
+    let read = right_by(alloc, facts, loaded, asker, Right::Read, path, text)?;
+    let write = right_by(alloc, facts, loaded, asker, Right::Write, path, text)?;
+    let list = right_by(alloc, facts, loaded, asker, Right::List, path, text)?;
+    let create = right_by(alloc, facts, loaded, asker, Right::Create, path, text)?;
+    let delete = right_by(alloc, facts, loaded, asker, Right::Delete, path, text)?;
     let rights = with_held(RightSet::empty(), Right::Read, read);
     let rights = with_held(rights, Right::Write, write);
     let rights = with_held(rights, Right::List, list);
@@ -132,20 +158,21 @@ fn right_by<F: Facts>(
     alloc: Global,
     facts: &F,
     loaded: &Loaded,
-    user: &User,
+    asker: Asker<'_>,
     right: Right,
     path: &Path,
     text: Option<&AccessText>,
 ) -> Result<bool, AllocError>
-    requires { option_copied text ≡ governor (F.tree facts.now) path.now }
+    requires text { option_copied text ≡ governor (F.tree facts.now) path.now }
+    requires snapshots { asker.snapshots ≡ owns_snapshots (F.tree facts.now).owner }
+    requires owns { asker.owns ≡ bytes_eq asker.user.now (F.tree facts.now).owner }
     ensures { IfOk result (λ yes. yes
         ≡ right_test (F.tree facts.now) (F.group_paths facts.now)
-        loaded.now user.now right path.now) }
+        loaded.now asker.entry.user.now right path.now) }
 {
-    let snapshots = owns_snapshots(facts.owner());
-    match without_text(snapshots, facts.owner(), user, right, path)? {
+    match without_text(asker, facts.owner(), right, path)? {
         Some(answer) => Ok(answer),
-        None => text_decides(alloc, facts, loaded, user, right, text),
+        None => text_decides(alloc, facts, loaded, asker, right, text),
     }
 }
 
@@ -153,21 +180,22 @@ fn right_by<F: Facts>(
 /// that on an Access or a Group path write, create and delete are the owner's.
 #[tactic(auto, unfolding(crate::specs::Verdicts::without_text))]
 fn without_text(
-    snapshots: bool,
+    asker: Asker<'_>,
     owner: &User,
-    user: &User,
     right: Right,
     path: &Path,
 ) -> Result<Option<bool>, AllocError>
-    requires { snapshots ≡ owns_snapshots owner.now }
-    ensures { IfOk result (λ found. found ≡ without_text owner.now user.now right path.now) }
+    requires snapshots { asker.snapshots ≡ owns_snapshots owner.now }
+    requires owns { asker.owns ≡ bytes_eq asker.user.now owner.now }
+    ensures { IfOk result
+        (λ found. found ≡ without_text owner.now asker.entry.user.now right path.now) }
 {
-    if snapshots {
-        Ok(Some(only_looks(right) && is_base_of(user, owner)?))
-    } else if user == owner && only_looks(right) {
+    if asker.snapshots {
+        Ok(Some(only_looks(right) && is_base_of(asker.user, owner)?))
+    } else if asker.owns && only_looks(right) {
         Ok(Some(true))
     } else if is_control(path) && !only_looks(right) {
-        Ok(Some(user == owner))
+        Ok(Some(asker.owns))
     } else {
         Ok(None)
     }
@@ -179,22 +207,23 @@ fn text_decides<F: Facts>(
     alloc: Global,
     facts: &F,
     loaded: &Loaded,
-    user: &User,
+    asker: Asker<'_>,
     right: Right,
     text: Option<&AccessText>,
 ) -> Result<bool, AllocError>
+    requires { asker.owns ≡ bytes_eq asker.user.now (F.tree facts.now).owner }
     ensures { IfOk result (λ yes. yes
-        ≡ text_decides (F.tree facts.now) (F.group_paths facts.now) loaded.now user.now right
-        (option_copied text.entry)) }
+        ≡ text_decides (F.tree facts.now) (F.group_paths facts.now) loaded.now
+        asker.entry.user.now right (option_copied text.entry)) }
 {
     let Some(text) = text else {
-        return Ok(user == facts.owner());
+        return Ok(asker.owns);
     };
     let rules = text.rules();
-    if names_user(rules, right, user) {
+    if names_user(rules, right, asker.user) {
         return Ok(true);
     }
-    reaches_user(alloc, facts, loaded, user, right, rules)
+    reaches_user(alloc, facts, loaded, asker.user, right, rules)
 }
 
 /// Read and list leave a tree as it is.
