@@ -1,5 +1,6 @@
 -- Numbers in bytes: unsigned LEB128 in its shortest form, for numbers below 2 ^ 64.
-use Rattle.std.specs.Prelude.{◌≡◌, ℕ, zero, suc, ◌+◌, ◌*◌, ◌/◌, ◌%◌, ◌<◌, ◌≤◌, Bool, ◌||◌, List, [], ◌∷◌, length, drop, nat_lt, ◌==◌, slice_index, if◌then◌else◌}
+use Rattle.std.specs.Prelude.{◌≡◌, ℕ, zero, suc, ◌+◌, ◌*◌, ◌/◌, ◌%◌, ◌<◌, ◌≤◌, Bool, ◌||◌}
+use Rattle.std.specs.Prelude.{List, [], ◌∷◌, length, drop, nat_lt, ◌==◌, slice_index, if◌then◌else◌}
 use Rattle.std.specs.List.{list_any}
 
 -- LEB128: a byte below 128 is the last and stands for itself. One from 128 on has the low seven bits, and the

@@ -1,14 +1,15 @@
 -- Reading a field at the front of what is left: its value and what is left after it, or the fault. Short is the
 -- fault where the input ends within the field, and Spelling with the field's place where no spelling begins there.
-use Rattle.std.specs.Prelude.{◌≡◌, ◌≢◌, ℕ, zero, suc, ℤ, List, [], ◌∷◌, length, take, Option, Some, None, Result, Ok, Err, nat_lt, ◌==◌, slice_index, if◌then◌else◌}
+use Rattle.std.specs.Prelude.{◌≡◌, ◌≢◌, ℕ, zero, suc, ℤ, List, [], ◌∷◌, length, take, Option, Some, None}
+use Rattle.std.specs.Prelude.{Result, Ok, Err, nat_lt, ◌==◌, slice_index, if◌then◌else◌}
 use Rattle.up_bytes.specs.declared.fault.FieldFault.{FieldFault}
 use Rattle.up_bytes.specs.declared.fault.FieldFault.TheVariants.{Short, Spelling, OutOfMemory}
 use Rattle.up_bytes.specs.Num.{num_bytes, is_ended, is_misspelled, number}
 use Rattle.up_bytes.specs.Input.{Input, place, past}
 use Rattle.up_bytes.specs.Spelling.{from_zigzag}
 
--- one field after another, up to the first fault
 infixl 10 ◌>>=◌
+-- one field after another, up to the first fault
 abbrev pub ◌>>=◌ : {A B : Type 0} → Result A FieldFault → (A → Result B FieldFault) → Result B FieldFault
 (Ok x) >>= f = f x
 (Err e) >>= f = Err e

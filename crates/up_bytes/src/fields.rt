@@ -1,6 +1,6 @@
 //! Values of several fields, lists of them, and messages that are one of them.
 
-ghost use Rattle.std.specs.Prelude.{◌≡◌, ◌++◌, ℕ, suc, List, length, take, Result, Ok, Err, IfOk, OnErr, OnOk, is_ok, if◌then◌else◌};
+ghost use Rattle.std.specs.Prelude.{◌≡◌, [], ◌∷◌, ◌++◌, ℕ, suc, List, length, take, Result, Ok, Err, IfOk, OnErr, OnOk, is_ok, if◌then◌else◌};
 ghost use Rattle.up_bytes.specs.declared.fault.FieldFault.{FieldFault};
 ghost use Rattle.up_bytes.specs.Input.{Input};
 ghost use Rattle.up_bytes.specs.Sizes.{size_of};
@@ -104,11 +104,28 @@ fn take_items<T: Fields + Drop>(
     ensures first { (n : ℕ) (fault : FieldFault) → count ≡ suc n → T.comes_first input.old fault
         → result ≡ Err fault }
 {
-    let mut values = Items::new(alloc);
-    for _ in 0..count {
-        values.push(T::take(alloc, input)?)?;
+    let mut values = Vec::new(alloc);
+    for taken in 0..count {
+        push_next(&mut values, T::take(alloc, input)?, count - taken - 1)?;
     }
-    Ok(values)
+    Ok(Items::from_vec(values))
+}
+
+/// Adds a value, after which so many more are to come. A full list about doubles its room, but takes none beyond what is to
+/// come.
+fn push_next<T: Drop>(values: &mut Vec<T>, value: T, more: u64) -> Result<(), AllocError>
+    ensures { OnOk result (values.new.items ≡ values.old.items ++ value ∷ []) }
+{
+    let len = values.len();
+    if len == values.capacity() {
+        let room = 1 + more.min(len as u64);
+        if let Err(fault) = values.reserve_exact(room as usize) {
+            drop(value);
+            return Err(fault);
+        }
+    }
+    values.push_reserved(value);
+    Ok(())
 }
 
 /// Appends the number of the values, and then each, in its one spelling. A call that finds no memory appends nothing.

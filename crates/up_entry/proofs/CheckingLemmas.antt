@@ -1,11 +1,16 @@
--- The rules of Put one after another, cut where those of the names end.
-use Rattle.std.proofs.Common.{◌≡◌, ◌∙◌, ℕ, List, Option, Result, Ok, Err, ap, refl, sym}
-use Rattle.up_names.specs.PathNames.{PathName}
+-- The rules of Put one after another, cut where those of the names end; texts that are canonical ones.
+use Rattle.std.proofs.Common.{◌≡◌, ◌∙◌, ℕ, true, List, Option, Result, Ok, Err, ap, refl, sym, bytes_eq}
+use Rattle.std.proofs.lemmas.Slice.Eq.{bytes_eq-Decides}
+use Rattle.up_names.specs.declared.fault.NameFault.{NameFault}
+use Rattle.up_names.specs.PathNames.{PathName, canonical, IsCanonical}
+use Rattle.up_names.specs.UserNames.{user_of}
 use Rattle.up_entry.specs.declared.entries.Kind.{Kind}
 use Rattle.up_entry.specs.declared.puts.PutEntry.{PutEntry}
 use Rattle.up_entry.specs.declared.fault.EntryFault.{EntryFault}
+use Rattle.up_entry.specs.declared.fault.EntryFault.TheVariants.{Invalid}
+use Rattle.up_entry.specs.declared.what.What.{What}
 use Rattle.up_entry.specs.declared.what.What.TheVariants as what
-use Rattle.up_entry.specs.Checking.{◌>>=◌, path_or, link_or, signed_name_of, writer_of, kind_of, content_rules, names_of, rest_of, checked_of, checked_as}
+use Rattle.up_entry.specs.Checking.{◌>>=◌, path_or, user_or, link_or, signed_name_of, writer_of, kind_of, content_rules, names_of, rest_of, checked_of, checked_as}
 
 -- a rule and those behind it, and then one more
 then : {A B C : Type 0} (r : Result A EntryFault) (f : A → Result B EntryFault) (g : B → Result C EntryFault) (h : A → Result C EntryFault) → ((x : A) → (f x >>= g) ≡ h x) → ((r >>= f) >>= g) ≡ (r >>= h)
@@ -39,3 +44,15 @@ rest_breaks put user name signed_name writer fault e d = checked_parts put user 
 -- none is broken
 pub rules_hold : (put : PutEntry) (user : List ℕ) (name signed_name : PathName) (writer : List ℕ) (kind : Kind) (link : Option PathName) → names_of put user ≡ Ok (name, signed_name, writer) → rest_of put name ≡ Ok (kind, link) → checked_as put user ≡ Ok (checked_of put name signed_name writer kind link)
 rules_hold put user name signed_name writer kind link e d = checked_parts put user ∙ after_ok (names_of put user) _ (name, signed_name, writer) e ∙ after_ok (rest_of put name) _ (kind, link) d
+
+-- a text that is the canonical text of a path is one of that path
+pub path_or_its_text : (what : What) (text : List ℕ) (path : PathName) → bytes_eq text (canonical path) ≡ true → IsCanonical path → path_or what text ≡ Ok path
+path_or_its_text what text path same c =
+    ap (path_or what) ((bytes_eq-Decides text (canonical path)).0 same)
+    ∙ ap (λ (r : Result PathName NameFault). elim r as (λ _. Result PathName EntryFault) [ Ok found ↦ Ok found | Err fault ↦ Err (Invalid what) ]) c
+
+-- a text that is the canonical name of a user is one of that user
+pub user_or_its_name : (what : What) (text user : List ℕ) → bytes_eq text user ≡ true → user_of user ≡ Ok user → user_or what text ≡ Ok user
+user_or_its_name what text user same c =
+    ap (user_or what) ((bytes_eq-Decides text user).0 same)
+    ∙ ap (λ (r : Result (List ℕ) NameFault). elim r as (λ _. Result (List ℕ) EntryFault) [ Ok found ↦ Ok found | Err fault ↦ Err (Invalid what) ]) c

@@ -34,6 +34,10 @@ canonical_path-again path c =
     ap (λ (r : Result PathName NameFault). elim r as (λ _. Option PathName) [ Ok found ↦ cond (bytes_eq (canonical found) (canonical path)) (Some found) None | Err fault ↦ None ]) c
     ∙ cond-true (bytes_eq (canonical path) (canonical path)) (Some path) None ((bytes_eq-Decides (canonical path) (canonical path)).1 refl)
 
+-- a text that is the canonical text of a path is read as that path
+pub path_of_its_text : (text : List ℕ) (path : PathName) → bytes_eq text (canonical path) ≡ true → IsCanonical path → canonical_path text ≡ Some path
+path_of_its_text text path same c = ap canonical_path ((bytes_eq-Decides text (canonical path)).0 same) ∙ canonical_path-again path c
+
 canonical_path-is : (text : List ℕ) (path : PathName) → canonical_path text ≡ Some path → IsCanonical path × (canonical path ≡ text)
 unfolding canonical_path
 canonical_path-is text path is =
@@ -50,6 +54,10 @@ unfolding canonical_user
 canonical_user-again user c =
     ap (λ (r : Result (List ℕ) NameFault). elim r as (λ _. Option (List ℕ)) [ Ok found ↦ cond (bytes_eq found user) (Some found) None | Err fault ↦ None ]) c
     ∙ cond-true (bytes_eq user user) (Some user) None ((bytes_eq-Decides user user).1 refl)
+
+-- a text that is the canonical name of a user is read as that user
+pub user_of_its_name : (text user : List ℕ) → bytes_eq text user ≡ true → user_of user ≡ Ok user → canonical_user text ≡ Some user
+user_of_its_name text user same c = ap canonical_user ((bytes_eq-Decides text user).0 same) ∙ canonical_user-again user c
 
 canonical_user-is : (text user : List ℕ) → canonical_user text ≡ Some user → (user_of user ≡ Ok user) × (user ≡ text)
 unfolding canonical_user

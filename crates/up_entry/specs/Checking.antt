@@ -1,6 +1,7 @@
 -- The rules of an entry that is handed to Put, in their order (Upspin overview and access control document; the order,
 -- the limits, a control file's packing and the session's user as the only writer are this project's own).
-use Rattle.std.specs.Prelude.{◌≡◌, ◌≢◌, ℕ, negsuc, int_le, ◌≤ℤ◌, Bool, false, ◌==◌, if◌then◌else◌, List, [], length, Option, Some, None, Result, Ok, Err, ⊤}
+use Rattle.std.specs.Prelude.{◌≡◌, ◌≢◌, ℕ, negsuc, int_le, ◌≤ℤ◌, Bool, false, ◌==◌, if◌then◌else◌, List, [], length, Option, Some, None}
+use Rattle.std.specs.Prelude.{Result, Ok, Err, ⊤}
 use Rattle.std.specs.Str.{bytes_eq}
 use Rattle.up_names.specs.PathNames.{PathName, control_of, path_of}
 use Rattle.up_names.specs.PathOrder.{path_eq}
@@ -24,8 +25,8 @@ abbrev pub Gives : {X Y : Type 0} → (X → Y) → Result X EntryFault → Resu
 Gives view (Ok x) meant = meant ≡ Ok (view x)
 Gives view (Err fault) meant = fault ≢ OutOfMemory → meant ≡ Err fault
 
--- one rule after another, up to the first that fails
 infixl 10 ◌>>=◌
+-- one rule after another, up to the first that fails
 abbrev pub ◌>>=◌ : {A B : Type 0} → Result A EntryFault → (A → Result B EntryFault) → Result B EntryFault
 (Ok x) >>= f = f x
 (Err e) >>= f = Err e

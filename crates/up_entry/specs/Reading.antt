@@ -1,7 +1,8 @@
 -- Reading an entry or a record, field by field: its value and what is left after it, or the first fault. A field that
 -- the input ends within is Short. A field whose bytes are no spelling of a value that may stand there is Spelling, with
 -- the field's place.
-use Rattle.std.specs.Prelude.{ℕ, Bool, false, not, ◌&&◌, ◌||◌, ◌==◌, if◌then◌else◌, List, [], ◌∷◌, length, Option, Some, None, option_map, Result, Ok, Err}
+use Rattle.std.specs.Prelude.{ℕ, Bool, false, not, ◌&&◌, ◌||◌, ◌==◌, if◌then◌else◌, List, [], ◌∷◌, length, Option, Some, None, option_map}
+use Rattle.std.specs.Prelude.{Result, Ok, Err}
 use Rattle.std.specs.Str.{bytes_eq}
 use Rattle.up_bytes.specs.declared.fault.FieldFault.{FieldFault}
 use Rattle.up_bytes.specs.Input.{Input, place}
@@ -41,6 +42,7 @@ path_at input = do
   text ← text_at input
   known (place input) (canonical_path text.0) text.1
 
+-- a user: a canonical name
 unfoldable pub user_at : Input → Result (List ℕ × Input) FieldFault
 user_at input = do
   text ← text_at input
@@ -89,8 +91,15 @@ block_at input = do
   offset ← num_at reference.1
   size ← num_at offset.1
   packdata ← text_at size.1
-  Ok
-      (record { location = record { endpoint = endpoint.0; reference = reference.0 }; offset = offset.0; size = size.0; packdata = packdata.0 }, packdata.1)
+  Ok (
+    record {
+      location = record { endpoint = endpoint.0; reference = reference.0 };
+      offset = offset.0;
+      size = size.0;
+      packdata = packdata.0;
+    },
+    packdata.1,
+  )
 
 -- blocks: their number, and each of them
 abbrev pub blocks_at : Input → Result (List Block × Input) FieldFault

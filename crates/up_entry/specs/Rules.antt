@@ -1,6 +1,7 @@
 -- The single rules of an entry, each of what it looks at alone (Upspin overview and access control document; the limits and
 -- a control file's packing are this project's own).
-use Rattle.std.specs.Prelude.{ℕ, ◌+◌, Bool, true, false, not, ◌&&◌, ◌||◌, ◌==◌, nat_le, nat_lt, if◌then◌else◌, List, [], ◌∷◌, length, map, Option, Some, None}
+use Rattle.std.specs.Prelude.{ℕ, ◌+◌, Bool, true, false, not, ◌&&◌, ◌||◌, ◌==◌, nat_le, nat_lt, if◌then◌else◌, List, [], ◌∷◌, length, map}
+use Rattle.std.specs.Prelude.{Option, Some, None}
 use Rattle.std.specs.List.{list_all, sum}
 use Rattle.up_names.specs.PathNames.{PathName}
 use Rattle.up_names.specs.declared.paths.Control.{Control}

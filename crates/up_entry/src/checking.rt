@@ -133,7 +133,7 @@ fn content_of(alloc: Global, put: &PutEntry) -> Result<(Items<Block>, Bytes), Al
 fn signed_name_of(alloc: Global, put: &PutEntry, name: &Path) -> Result<Path, EntryFault>
     ensures { Gives (λ path. path) result (signed_name_of put.now name.now) }
 {
-    let signed_name = path_or(alloc, What::SignedName, put.signed_name.as_slice())?;
+    let signed_name = path_or_like(alloc, What::SignedName, put.signed_name.as_slice(), name)?;
     rule(What::SignedName, signed_name == *name)?;
     Ok(signed_name)
 }
@@ -143,7 +143,7 @@ fn signed_name_of(alloc: Global, put: &PutEntry, name: &Path) -> Result<Path, En
 fn writer_of(alloc: Global, put: &PutEntry, user: &User) -> Result<User, EntryFault>
     ensures { Gives (λ writer. writer) result (writer_of put.now user.now) }
 {
-    let writer = user_or(alloc, What::Writer, put.writer.as_slice())?;
+    let writer = user_or_like(alloc, What::Writer, put.writer.as_slice(), user)?;
     rule(What::Writer, writer == *user)?;
     Ok(writer)
 }
@@ -193,6 +193,17 @@ fn path_or(alloc: Global, what: What, text: &[u8]) -> Result<Path, EntryFault>
     }
 }
 
+/// The path of a text that has to be a path text: a copy of `like` where the text is the canonical one of `like`.
+#[tactic(auto, using(crate::proofs::CheckingLemmas::path_or_its_text))]
+fn path_or_like(alloc: Global, what: What, text: &[u8], like: &Path) -> Result<Path, EntryFault>
+    ensures { Gives (λ path. path) result (path_or what text.now) }
+{
+    if text == like.as_str().as_bytes() {
+        return Ok(like.clone()?);
+    }
+    path_or(alloc, what, text)
+}
+
 /// The user of a text that has to be a user name.
 fn user_or(alloc: Global, what: What, text: &[u8]) -> Result<User, EntryFault>
     ensures { Gives (λ user. user) result (user_or what text.now) }
@@ -201,6 +212,17 @@ fn user_or(alloc: Global, what: What, text: &[u8]) -> Result<User, EntryFault>
         Ok(user) => Ok(user),
         Err(fault) => Err(not_named(what, fault)),
     }
+}
+
+/// The user of a text that has to be a user name: a copy of `like` where the text is the canonical name of `like`.
+#[tactic(auto, using(crate::proofs::CheckingLemmas::user_or_its_name))]
+fn user_or_like(alloc: Global, what: What, text: &[u8], like: &User) -> Result<User, EntryFault>
+    ensures { Gives (λ user. user) result (user_or what text.now) }
+{
+    if text == like.text().as_bytes() {
+        return Ok(like.clone()?);
+    }
+    user_or(alloc, what, text)
 }
 
 /// What a text leads to that is not read as a name: want of memory, or this broken rule.

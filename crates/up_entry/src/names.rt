@@ -40,6 +40,35 @@ pub(crate) fn canonical_path(alloc: Global, text: &[u8]) -> Result<Option<Path>,
     }
 }
 
+/// Takes a path from the front of the input, as [`read_path`] does, but leaves the place anywhere where it is refused. Where
+/// its text is that of `like`, it is a copy of `like`, and nothing is parsed.
+#[tactic(auto, unfolding(crate::specs::Reading::path_at))]
+pub(crate) fn take_path_like(
+    alloc: Global,
+    input: &mut Reader,
+    like: &Path,
+) -> Result<Path, FieldFault>
+    ensures exact { Gives (λ path. (path, input.new)) result (path_at input.old) }
+    ensures first { FaultFirst (text_at input.old) result }
+{
+    let place = input.place();
+    match canonical_path_like(alloc, input.slice()?, like)? {
+        Some(path) => Ok(path),
+        None => Err(FieldFault::Spelling(place)),
+    }
+}
+
+/// The path that has this canonical text: a copy of `like` where the text is that of `like`.
+#[tactic(auto, using(crate::proofs::EntryFields::path_of_its_text))]
+fn canonical_path_like(alloc: Global, text: &[u8], like: &Path) -> Result<Option<Path>, AllocError>
+    ensures { IfOk result (λ found. found ≡ canonical_path text.now) }
+{
+    if text == like.as_str().as_bytes() {
+        return Ok(Some(like.clone()?));
+    }
+    canonical_path(alloc, text)
+}
+
 /// The path, where this is its canonical text.
 fn path_if_written(path: Path, text: &[u8]) -> Option<Path>
     ensures { result ≡ (if bytes_eq (canonical path) text.now then Some path else None) }
@@ -88,6 +117,35 @@ fn canonical_user(alloc: Global, text: &[u8]) -> Result<Option<User>, AllocError
             Ok(None)
         }
     }
+}
+
+/// Takes a user from the front of the input, as [`read_user`] does, but leaves the place anywhere where it is refused. Where
+/// its name is that of `like`, it is a copy of `like`, and nothing is parsed.
+#[tactic(auto, unfolding(crate::specs::Reading::user_at))]
+pub(crate) fn take_user_like(
+    alloc: Global,
+    input: &mut Reader,
+    like: &User,
+) -> Result<User, FieldFault>
+    ensures exact { Gives (λ user. (user, input.new)) result (user_at input.old) }
+    ensures first { FaultFirst (text_at input.old) result }
+{
+    let place = input.place();
+    match canonical_user_like(alloc, input.slice()?, like)? {
+        Some(user) => Ok(user),
+        None => Err(FieldFault::Spelling(place)),
+    }
+}
+
+/// The user that has this canonical name: a copy of `like` where the name is that of `like`.
+#[tactic(auto, using(crate::proofs::EntryFields::user_of_its_name))]
+fn canonical_user_like(alloc: Global, text: &[u8], like: &User) -> Result<Option<User>, AllocError>
+    ensures { IfOk result (λ found. found ≡ canonical_user text.now) }
+{
+    if text == like.text().as_bytes() {
+        return Ok(Some(like.clone()?));
+    }
+    canonical_user(alloc, text)
 }
 
 /// The user, where this is its canonical name.

@@ -6,7 +6,7 @@ ghost use Rattle.up_entry.specs.Reading.{attr_at, entry_at, heading_at, link_at,
 
 use crate::attrs::attr_of;
 use crate::entries::{Attr, Entry, Kind};
-use crate::names::{canonical_path, read_path, read_user};
+use crate::names::{canonical_path, read_path, take_path_like, take_user_like};
 use std::alloc::{AllocError, Global};
 use up_bytes::{FieldFault, Fields, Reader, read_list};
 use up_names::{Path, User};
@@ -98,10 +98,10 @@ fn take_heading(alloc: Global, input: &mut Reader, marks: bool) -> Result<Headin
     ensures first { FaultFirst (text_at input.old) result }
 {
     let name = read_path(alloc, input)?;
-    let signed_name = read_path(alloc, input)?;
+    let signed_name = take_path_like(alloc, input, &name)?;
     let packing = input.byte()?;
     let time = input.int()?;
-    let writer = match read_user(alloc, input) {
+    let writer = match take_user_like(alloc, input, name.owner()) {
         Ok(writer) => writer,
         Err(fault) => {
             drop(name);

@@ -12,21 +12,22 @@ returns-in_err-take-clause-exact g c =
     let total = with_front [] (items_at g.T.Fields.read_at c.args.count c.args.input.now) in
     rw (p.1, p.2) (λ known.
     sym (nothing_in_front (items_at g.T.Fields.read_at c.args.count c.args.input.now))
-    ∙ items_end g.T.Fields.read_at c.loop.values c.args.count c.loop.counter c.loop.input _ total c.loop-test.true (c.in_err-take.ensures.exact known) c.loop.invariant.read)
+    ∙ items_end g.T.Fields.read_at c.loop-taken.values.items c.args.count c.loop-taken.taken c.loop-taken.input _ total c.loop-taken-test.true (c.in_err-take.ensures.exact known) c.loop-taken.invariant.read)
 
-pub loop-preserved : goal.loop-preserved
-loop-preserved g c =
+pub loop-taken-preserved : goal.loop-taken-preserved
+loop-taken-preserved g c =
     let total = with_front [] (items_at g.T.Fields.read_at c.args.count c.args.input.now) in
     let value = c.in_ok-take.field-0 in
     record {
-      read = rw c.in_ok-push.ensures.items (items_more g.T.Fields.read_at c.loop.values c.args.count c.loop.counter c.loop.input value c.take.new.input total c.loop-test.true c.in_ok-take.ensures.exact c.loop.invariant.read);
+      read = rw c.in_ok-push_next.ensures (items_more g.T.Fields.read_at c.loop-taken.values.items c.args.count c.loop-taken.taken c.loop-taken.input value c.take.new.input total c.loop-taken-test.true c.in_ok-take.ensures.exact c.loop-taken.invariant.read);
       none = λ fault first.
-          let start = c.loop.invariant.none fault first in
+          let start = c.loop-taken.invariant.none fault first in
           absurd (ok_no_fault value fault (c.in_ok-take.ensures.first fault (subst (λ (i : Input). g.T.Fields.comes_first i fault) (sym start.1) first)));
     }
 
 pub returns-clause-exact : goal.returns-clause-exact
 returns-clause-exact g c =
     let total = with_front [] (items_at g.T.Fields.read_at c.args.count c.args.input.now) in
-    sym (nothing_in_front (items_at g.T.Fields.read_at c.args.count c.args.input.now))
-    ∙ items_done g.T.Fields.read_at c.loop.values c.args.count c.loop.counter c.loop.input total c.loop-test.false c.loop.invariant.read
+    rw c.from_vec.ensures
+    (sym (nothing_in_front (items_at g.T.Fields.read_at c.args.count c.args.input.now))
+    ∙ items_done g.T.Fields.read_at c.loop-taken.values.items c.args.count c.loop-taken.taken c.loop-taken.input total c.loop-taken-test.false c.loop-taken.invariant.read)

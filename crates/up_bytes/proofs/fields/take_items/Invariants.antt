@@ -5,8 +5,8 @@ use Rattle.up_bytes.specs.Reading.{items_at}
 use Rattle.up_bytes.proofs.Repeated.{with_front}
 use Rattle.up_bytes.proofs.fields.take_items.Given as goal
 
-abbrev pub invariant-loop : goal.invariant-loop
-invariant-loop g l = record {
-  read : with_front l.values (items_at g.T.Fields.read_at (l.count - l.counter) l.input) ≡ with_front [] (items_at g.T.Fields.read_at l.count l.initial.input);
-  none : (fault : FieldFault) → g.T.Fields.comes_first l.initial.input fault → (l.counter ≡ 0) × (l.input ≡ l.initial.input);
+abbrev pub invariant-loop-taken : goal.invariant-loop-taken
+invariant-loop-taken g l = record {
+  read : with_front l.values.items (items_at g.T.Fields.read_at (l.count - l.taken) l.input) ≡ with_front [] (items_at g.T.Fields.read_at l.count l.initial.input);
+  none : (fault : FieldFault) → g.T.Fields.comes_first l.initial.input fault → (l.taken ≡ 0) × (l.input ≡ l.initial.input);
 }
