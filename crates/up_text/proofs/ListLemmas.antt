@@ -10,10 +10,6 @@ use Rattle.up_text.specs.Lists.{◌>>=◌, all_endpoints, block_at, blocks_from,
 abbrev pub behind_front : {X : Type 0} → List X → Option (List X) → Option (List X)
 behind_front front rest = option_map (λ others. front ++ others) rest
 
-pub behind_none : {X : Type 0} (rest : Option (List X)) → behind_front [] rest ≡ rest
-behind_none None = refl
-behind_none (Some others) = refl
-
 pub behind_all : {X : Type 0} (front : List X) → behind_front front (Some []) ≡ Some front
 behind_all front = ap Some (append-nil front)
 
@@ -32,9 +28,6 @@ absurd_none is = absurd (true≢false (sym (ap is_some is)))
 -- the blocks so far, and those of the pieces that are left, are all of them
 pub record BlocksGoing (all : Option (List Block)) (so_far : List Block) (offset : Option ℕ) (left : List (List ℕ)) : Type 0 where
   pub whole : behind_front so_far (blocks_from offset left) ≡ all
-
-pub blocks_begin : (offset : Option ℕ) (pieces : List (List ℕ)) → BlocksGoing (blocks_from offset pieces) [] offset pieces
-blocks_begin offset pieces = record { whole = behind_none (blocks_from offset pieces) }
 
 next_block : (old new : List Block) (next : Option ℕ) (left : List (List ℕ)) (found : Option Block) →
     option_map (with_block old) found ≡ Some (new, next) →
@@ -110,9 +103,6 @@ fits_end going = sym going.whole
 
 pub record EndpointsGoing (all : Option (List Endpoint)) (so_far : List Endpoint) (left : List (List ℕ)) : Type 0 where
   pub whole : behind_front so_far (all_endpoints left) ≡ all
-
-pub endpoints_begin : (pieces : List (List ℕ)) → EndpointsGoing (all_endpoints pieces) [] pieces
-endpoints_begin pieces = record { whole = behind_none (all_endpoints pieces) }
 
 next_endpoint : (old new : List Endpoint) (left : List (List ℕ)) (found : Option Endpoint) →
     option_map (λ e. old ++ e ∷ []) found ≡ Some new →

@@ -1,5 +1,6 @@
 -- Laws of the lines that tell replies: which bytes stand in a line, and which replies have the same lines. This project's own.
-use Rattle.std.specs.Prelude.{◌≡◌, ◌↔◌, ℕ, ◌<◌, Bool, false, nat_le, if◌then◌else◌, List, length, map, codes, bytes_eq, ⊤, Option, Some, None}
+use Rattle.std.specs.Prelude.{◌≡◌, ◌↔◌, ℕ, ◌<◌, Bool, false, nat_le, if◌then◌else◌, List, length, map, codes, bytes_eq, ⊤}
+use Rattle.std.specs.Prelude.{Option, Some, None}
 use Rattle.std.specs.List.{list_any, AllByRecursion}
 use Rattle.up_bytes.specs.Spelling.{IsByte}
 use Rattle.up_names.specs.Texts.{Text}

@@ -1,6 +1,7 @@
 -- Words that are lists: the blocks of a file, and endpoints. This project's own. A list is cut at its commas, and a block at
 -- its colons, before anything in it is decoded; a word `-` is the empty list.
-use Rattle.std.specs.Prelude.{ℕ, ◌+◌, ◌^◌, Bool, ◌==◌, nat_lt, if◌then◌else◌, List, [], ◌∷◌, ◌++◌, length, Option, Some, None, option_map, codes, bytes_eq}
+use Rattle.std.specs.Prelude.{ℕ, ◌+◌, ◌^◌, Bool, ◌==◌, nat_lt, if◌then◌else◌, List, [], ◌∷◌, ◌++◌, length}
+use Rattle.std.specs.Prelude.{Option, Some, None, option_map, codes, bytes_eq}
 use Rattle.std.specs.List.{after_first, before_first, slice_split}
 use Rattle.std.specs.Option.{option_and_then}
 use Rattle.up_names.specs.Texts.{Text}
@@ -11,8 +12,8 @@ use Rattle.up_refs.specs.References.{reference_in}
 use Rattle.up_text.specs.Numbers.{num_of}
 use Rattle.up_text.specs.Words.{decoded}
 
--- what a text stands for, and then what is made of that
 infixl 10 ◌>>=◌
+-- what a text stands for, and then what is made of that
 abbrev pub ◌>>=◌ : {A B : Type 0} → Option A → (A → Option B) → Option B
 found >>= next = option_and_then next found
 

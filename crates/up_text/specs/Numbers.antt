@@ -1,5 +1,6 @@
 -- What number a word is.
-use Rattle.std.specs.Prelude.{ℕ, ◌^◌, Bool, false, nat_lt, ◌==◌, ◌&&◌, List, [], ◌∷◌, length, Option, None, Some, ℤ, pos, negsuc, decimal, bytes_eq, if◌then◌else◌}
+use Rattle.std.specs.Prelude.{ℕ, ◌^◌, Bool, false, nat_lt, ◌==◌, ◌&&◌, List, [], ◌∷◌, length, Option, None, Some}
+use Rattle.std.specs.Prelude.{ℤ, pos, negsuc, decimal, bytes_eq, if◌then◌else◌}
 use Rattle.std.specs.Char.{is_ascii_digit}
 use Rattle.std.specs.Fmt.{signed_decimal}
 use Rattle.std.specs.Str.Parse.{digits_value, signed_digits_value}

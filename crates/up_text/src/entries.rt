@@ -11,6 +11,7 @@ ghost use Rattle.up_text.specs.Lines.{behind_spaces};
 ghost use Rattle.up_text.specs.Words.{coded, field};
 
 use crate::words::{push_field, push_word};
+use itoa::Buffer;
 use std::alloc::AllocError;
 use up_entry::{Attr, Block, Endpoint, Entry, Kind};
 use up_names::Path;
@@ -44,8 +45,7 @@ pub(crate) fn add_num(out: &mut Vec<u8>, number: u64) -> Result<(), AllocError>
 pub(crate) fn push_num(out: &mut Vec<u8>, number: u64) -> Result<(), AllocError>
     ensures { OnOk result (out.new.items ≡ out.old.items ++ decimal number) }
 {
-    let digits = number.to_string(*out.allocator())?;
-    out.extend_from_slice(digits.as_bytes())
+    out.extend_from_slice(Buffer::new().format(number).as_bytes())
 }
 
 /// Adds a number that may be negative, behind a space.
@@ -53,8 +53,7 @@ fn add_int(out: &mut Vec<u8>, number: i64) -> Result<(), AllocError>
     ensures { OnOk result (out.new.items ≡ out.old.items
         ++ behind_spaces (signed_decimal number ∷ [])) }
 {
-    let digits = number.to_string(*out.allocator())?;
-    add_plain(out, digits.as_bytes())
+    add_plain(out, Buffer::new().format(number).as_bytes())
 }
 
 /// Adds the digits of a reference, behind a space.
