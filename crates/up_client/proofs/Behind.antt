@@ -2,7 +2,7 @@
 use Rattle.std.proofs.Common.{◌≡◌, ℕ, zero, suc, ◌+◌, ◌≤◌, Bool, true, false, nat_lt, if◌then◌else◌, List, [], ◌∷◌, ◌++◌, length, take, drop, Some, Result, Ok, Err, refl, sym, subst, ap, ◌∙◌, append_assoc, length-append, arith}
 use Rattle.std.proofs.lemmas.Bool.Decides.{nat_tests}
 use Rattle.std.proofs.lemmas.Bool.{and_parts}
-use Rattle.std.proofs.lemmas.List.{append-nil, drop_all, drop_more}
+use Rattle.std.proofs.lemmas.List.{drop_more}
 use Rattle.std.proofs.lemmas.Option.{get_or_from_slice_get, slice_get_within}
 use Rattle.std.specs.List.{list_all, slice_get}
 use Rattle.std.specs.Result.{IsErrAnd}
@@ -81,14 +81,6 @@ whole_fault n i path target next e fault is owner whole meant other =
     (too_long (length (canonical (extended next e))) (length (canonical (record { owner = next.owner; elements = (next.elements ++ e ∷ []) ++ drop (i + 1) path.elements })))
     (extended next e) (record { owner = next.owner; elements = (next.elements ++ e ∷ []) ++ drop (i + 1) path.elements }) fault
     (longer_text next.owner (next.elements ++ e ∷ []) (drop (i + 1) path.elements)) (meant other))
-
--- nothing is left: the path so far is the whole one
-pub whole_end : (n i : ℕ) (path target next : PathName) → length path.elements ≤ i → next.owner ≡ target.owner
-    → next.elements ++ drop i path.elements ≡ target.elements ++ drop n path.elements → short next ≡ Ok next → short (behind n path target) ≡ Ok next
-whole_end n i path target next above owner whole fits =
-    let all : next.elements ≡ target.elements ++ drop n path.elements = sym (append-nil next.elements) ∙ ap (λ (rest : List (List ℕ)). next.elements ++ rest) (sym (drop_all i path.elements above)) ∙ whole in
-    let same : next ≡ behind n path target = (λ j. record { owner = owner j; elements = all j }) in
-    subst (λ (p : PathName). short p ≡ Ok next) same fits
 
 -- a fault that is handed on means the same
 pub meant_handed : {X : Type 0} (result : Result X ClientFault) (fault : ClientFault) (meant : Result X ClientFault) → Meant {X = X} (Err fault) meant → IsErrAnd result (λ other. other ≡ fault) → Meant result meant

@@ -13,10 +13,6 @@ use Rattle.up_client.proofs.Holding.{talks_done, talks_stop, talks_then, talks_w
 pub record GoesOn {S X : Type 0} (asked : Ghosts S) (from : Talking X) (a : S) (to : Talking X) (b : S) : Type 0 where
   pub goes : (result : Result X ClientFault) (c : S) → Talks asked to b result c → Talks asked from a result c
 
--- at the start
-pub goes_nowhere : {S X : Type 0} (asked : Ghosts S) (talk : Talking X) (a : S) → GoesOn asked talk a talk a
-goes_nowhere asked talk a = record { goes = λ result c talks. talks }
-
 module _ {S : Type 0} (asked : Ghosts S) (same : (a : S) → asked.tied a a) (joined : (a b c : S) → asked.tied a b → asked.tied b c → asked.tied a c) where
   -- the first conversation of two ended well
   pub goes_then : {X Y : Type 0} (from : Talking Y) (talk : Talking X) (more : X → Talking Y) (a b c : S) (x : X)

@@ -1,5 +1,6 @@
 -- How a client follows links. The limit on their number is this project's own.
-use Rattle.std.specs.Prelude.{ℕ, Bool, zero, suc, true, false, ◌&&◌, nat_lt, if◌then◌else◌, ◌++◌, length, drop, Option, Some, None, option_map, Result, Ok, Err}
+use Rattle.std.specs.Prelude.{ℕ, Bool, zero, suc, true, false, ◌&&◌, nat_lt, if◌then◌else◌, ◌++◌, length, drop}
+use Rattle.std.specs.Prelude.{Option, Some, None, option_map, Result, Ok, Err}
 use Rattle.up_names.specs.declared.fault.NameFault.{NameFault}
 use Rattle.up_names.specs.declared.fault.NameFault.TheVariants as names
 use Rattle.up_names.specs.PathNames.{PathName, canonical, is_under}

@@ -7,7 +7,7 @@ ghost use Rattle.up_entry.specs.declared.entries.Endpoint.TheVariants.{Local};
 
 use crate::ask::Ask;
 use crate::fault::ClientFault;
-use crate::replies::{bytes_in, outcome, reply_to};
+use crate::replies::{bytes_in, reply_to};
 use std::alloc::{AllocError, Global};
 use up_bytes::Bytes;
 use up_entry::{Block, Endpoint};
@@ -72,7 +72,7 @@ fn fetch_here<A: Ask>(
 fn block_from(i: u64, block: &Block, reply: Reply) -> Result<Bytes, ClientFault>
     ensures { result ≡ block_from i block.now reply }
 {
-    let bytes = bytes_in(outcome(reply)?)?;
+    let bytes = bytes_in(reply)?;
     fitting(i, block, bytes)
 }
 

@@ -65,6 +65,16 @@ enum Step {
 fn step_in(more: u64, path: &Path, reply: Reply) -> Result<Step, ClientFault>
     ensures { Meant result (step_to more path.now reply) }
 {
+    match reply {
+        Reply::Ok(done) => Ok(Step::Done(done)),
+        other => step_from(more, path, other),
+    }
+}
+
+// The same of a reply that may lead on.
+fn step_from(more: u64, path: &Path, reply: Reply) -> Result<Step, ClientFault>
+    ensures { Meant result (step_to more path.now reply) }
+{
     match next_in(more, path, &reply) {
         Ok(next) => step_of(next, reply),
         Err(fault) => {

@@ -8,7 +8,7 @@ ghost use Rattle.up_client.specs.Talks.{Held, Talks};
 use crate::ask::Ask;
 use crate::fault::ClientFault;
 use crate::links::{AtPath, follow};
-use crate::replies::{outcome, position_in, reference_in, reply_to};
+use crate::replies::{position_in, reference_in, reply_to};
 use std::alloc::{AllocError, Global};
 use up_bytes::{Bytes, copy_of};
 use up_entry::{Block, Endpoint, Location, PutEntry};
@@ -136,7 +136,7 @@ fn block_at(alloc: Global, offset: u64, size: u64, reference: Reference) -> Bloc
 fn reference_from(piece: &[u8], reply: Reply) -> Result<Reference, ClientFault>
     ensures { result ≡ reference_from piece.now reply }
 {
-    let given = reference_in(outcome(reply)?)?;
+    let given = reference_in(reply)?;
     let wanted = Reference::of(piece);
     if given != wanted {
         return Err(ClientFault::Corrupt(wanted, given));

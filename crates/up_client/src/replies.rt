@@ -1,6 +1,8 @@
 //! What is made of one reply.
-ghost use Rattle.std.specs.Prelude.{◌≡◌};
-ghost use Rattle.up_client.specs.Replies.{bytes_in, outcome, position_in, reference_in};
+ghost use Rattle.std.specs.Prelude.{◌≡◌, ℕ, Err, Result};
+ghost use Rattle.up_client.specs.declared.fault.ClientFault.{ClientFault};
+ghost use Rattle.up_client.specs.declared.fault.ClientFault.TheVariants as client_fault;
+ghost use Rattle.up_client.specs.Replies.{◌>>=◌ as ◌then◌, bytes_in, outcome, position_in, reference_in};
 ghost use Rattle.up_client.specs.Talks.{Talks, reply_to};
 
 use crate::ask::{Ask, Failed};
@@ -38,26 +40,47 @@ pub(crate) fn outcome(reply: Reply) -> Result<Done, ClientFault>
 {
     match reply {
         Reply::Ok(done) => Ok(done),
-        Reply::OutOfMemory => Err(ClientFault::OutOfMemory),
-        reply => Err(ClientFault::Refused(reply)),
+        other => Err(refusal(other)),
+    }
+}
+
+// Why a reply is not what was asked for.
+fn refusal(reply: Reply) -> ClientFault
+    ensures { let odd : Result ℕ ClientFault = Err client_fault.Odd in
+        (outcome reply then (λ _. odd)) ≡ Err result }
+{
+    match reply {
+        Reply::Ok(done) => {
+            drop(done);
+            ClientFault::Odd
+        }
+        Reply::OutOfMemory => ClientFault::OutOfMemory,
+        other => ClientFault::Refused(other),
     }
 }
 
 /// The bytes of a block.
-pub(crate) fn bytes_in(done: Done) -> Result<Bytes, ClientFault>
-    ensures { result ≡ bytes_in done }
+pub(crate) fn bytes_in(reply: Reply) -> Result<Bytes, ClientFault>
+    ensures { result ≡ (outcome reply then bytes_in) }
 {
-    match done {
-        Done::Bytes(bytes) => Ok(bytes),
-        other => {
-            drop(other);
-            Err(ClientFault::Odd)
-        }
+    match reply {
+        Reply::Ok(Done::Bytes(bytes)) => Ok(bytes),
+        other => Err(refusal(other)),
     }
 }
 
 /// The reference of a block that was kept.
-pub(crate) fn reference_in(done: Done) -> Result<Reference, ClientFault>
+pub(crate) fn reference_in(reply: Reply) -> Result<Reference, ClientFault>
+    ensures { result ≡ (outcome reply then reference_in) }
+{
+    match reply {
+        Reply::Ok(done) => reference_of(done),
+        other => Err(refusal(other)),
+    }
+}
+
+// The reference of a block, of what was done.
+fn reference_of(done: Done) -> Result<Reference, ClientFault>
     ensures { result ≡ reference_in done }
 {
     match done {
