@@ -1,7 +1,8 @@
--- A host among others is asked, over an object that holds what stands behind it; and a client talks with it, over an object that holds it.
-use Rattle.std.proofs.Common.{◌≡◌, ◌++◌, ℕ, ℤ, SFits, to_z, of_z, w64, List, Option, Result, refl, sym, ap, subst, ◌∙◌}
+-- A host among others is asked, over an object that holds what stands behind it; and a client talks with it, over an object that holds all.
+use Rattle.std.proofs.Common.{◌≡◌, ◌<◌, ◌++◌, length, ℕ, ℤ, SFits, to_z, of_z, w64, List, Option, Some, Result, refl, sym, ap, subst, ◌∙◌}
 use Rattle.std.proofs.Math.Facts.{to_z-of_z}
 use Rattle.std.specs.List.{find}
+use Rattle.std.specs.Prelude.{slice_get, slice_set}
 use Rattle.up_client.specs.Putting.{put_talk}
 use Rattle.up_client.specs.Talks.{Held, Talking}
 use Rattle.up_client.specs.declared.fault.ClientFault.{ClientFault}
@@ -14,13 +15,15 @@ use Rattle.up_calls.specs.declared.event.Event.{Event}
 use Rattle.up_names.specs.PathNames.{PathName}
 use Rattle.up_names.specs.Texts.{UserName}
 use Rattle.up_peer.specs.declared.loader.Loader.{Ghosts}
+use Rattle.up_sessions.proofs.PlaceLemmas.{one_there, others_stay, set_same, set_there, set_twice}
 use Rattle.up_sessions.proofs.OddLemmas.{Any, Comes, ComesTo}
 use Rattle.up_sessions.proofs.IoLemmas.{IoByReply}
 use Rattle.up_sessions.proofs.SeenLemmas.{IsSeenAs, asked_seen}
 use Rattle.up_sessions.proofs.TalkLemmas.{held_seen, talks_whole}
 use Rattle.up_sessions.specs.Asking.{AsksOne, StaysHost}
-use Rattle.up_sessions.specs.Others.{LoadsFirst, behind, has_tree}
-use Rattle.up_sessions.specs.Talking.{TalksTo, answers_as}
+use Rattle.up_sessions.specs.Kept.{OneOf}
+use Rattle.up_sessions.specs.Others.{LoadsFirst, behind, has_tree, others}
+use Rattle.up_sessions.specs.Talking.{TalksTo, answers_as, answers_at}
 use Rattle.up_wire.specs.declared.replies.Reply.{Reply}
 use Rattle.up_wire.specs.declared.requests.Request.{Request}
 
@@ -61,40 +64,72 @@ module _ {D P L : Type 0} (near : Ghosts P) (peers : L → P) (before after : L 
         stays = stays;
       })
 
--- an object with the host besides, and with a session and a moment
-module _ {D P S N : Type 0} (disks : disk.Ghosts D) (loader : Ghosts P) (host : S → HostState D) (peers : S → P) (before after : S → List (HostState D)) (session : S → N) (user : N → UserName) (moment : S → ℕ) where
+-- an object with all hosts, a place among them, the peers, a session and a moment
+module _ {D P S N : Type 0} (disks : disk.Ghosts D) (loader : Ghosts P) (hosts : S → List (HostState D)) (peers : S → P) (place : S → ℕ) (session : S → N) (user : N → UserName) (moment : S → ℕ) where
   -- as whom it is asked
   abbrev pub answers_in : S → Request → Option Reply → S → Type 0
   answers_in old request given new =
-      answers_as disks loader (before old ++ after old) (user (session old)) (moment old) (host old, peers old) request given (host new, peers new)
-      × (before new ≡ before old) × (after new ≡ after old) × (session new ≡ session old) × (moment new ≡ moment old)
+      answers_at disks loader (place old) (user (session old)) (moment old) (hosts old, peers old) request given (hosts new, peers new)
+      × (place new ≡ place old) × (session new ≡ session old) × (moment new ≡ moment old)
 
-  -- what stays of it
-  record IsAt (hosts : List (HostState D)) (asker : UserName) (at : ℕ) (held : S) : Type 0 where
-    pub hosts_are : before held ++ after held ≡ hosts
+  -- what is seen of it: the host at the place, and the peers; all else stays
+  record IsAt (all : List (HostState D)) (i : ℕ) (asker : UserName) (at : ℕ) (held : S) (seen : HostState D × P) : Type 0 where
+    pub place_is : place held ≡ i
     pub user_is : user (session held) ≡ asker
     pub moment_is : moment held ≡ at
+    pub peers_are : peers held ≡ seen.1
+    pub there : slice_get (hosts held) i ≡ Some seen.0
+    pub whole : hosts held ≡ slice_set all i seen.0
 
-  step_seen : (hosts : List (HostState D)) (asker : UserName) (at : ℕ) (a b : S) (request : Request) (given : Option Reply) → IsAt hosts asker at a → answers_in a request given b
-      → answers_as disks loader hosts asker at (host a, peers a) request given (host b, peers b) × IsAt hosts asker at b
-  step_seen hosts asker at a b request given is step = (
-    subst (λ n. answers_as disks loader hosts asker n (host a, peers a) request given (host b, peers b)) is.moment_is
-        (subst (λ u. answers_as disks loader hosts u (moment a) (host a, peers a) request given (host b, peers b)) is.user_is
-        (subst (λ hs. answers_as disks loader hs (user (session a)) (moment a) (host a, peers a) request given (host b, peers b)) is.hosts_are step.0)),
-    record { hosts_are = (λ i. step.1 i ++ step.2 i) ∙ is.hosts_are; user_is = ap user step.3 ∙ is.user_is; moment_is = step.4 ∙ is.moment_is },
-  )
+  -- one answer, said of the place, the user, the moment and the others with which the conversation began
+  at_place : (all : List (HostState D)) (i : ℕ) (asker : UserName) (at : ℕ) (a b : S) (v : HostState D × P) (request : Request) (given : Option Reply) → IsAt all i asker at a v → answers_in a request given b
+      → OneOf i (λ host then old new. answers_as disks loader (others i all) asker at (host, old) request given (then, new)) (hosts a) v.1 (hosts b) (peers b)
+  at_place all i asker at a b v request given is step =
+      subst (λ p. OneOf i (λ host then old new. answers_as disks loader (others i all) asker at (host, old) request given (then, new)) (hosts a) p (hosts b) (peers b)) is.peers_are
+      (subst (λ hs. OneOf i (λ host then old new. answers_as disks loader hs asker at (host, old) request given (then, new)) (hosts a) (peers a) (hosts b) (peers b)) (ap (others i) is.whole ∙ others_stay all i v.0)
+      (subst (λ n. OneOf n (λ host then old new. answers_as disks loader (others n (hosts a)) asker at (host, old) request given (then, new)) (hosts a) (peers a) (hosts b) (peers b)) is.place_is
+      (subst (λ m. OneOf (place a) (λ host then old new. answers_as disks loader (others (place a) (hosts a)) asker m (host, old) request given (then, new)) (hosts a) (peers a) (hosts b) (peers b)) is.moment_is
+      (subst (λ u. OneOf (place a) (λ host then old new. answers_as disks loader (others (place a) (hosts a)) u (moment a) (host, old) request given (then, new)) (hosts a) (peers a) (hosts b) (peers b)) is.user_is step.0))))
 
-  -- so a conversation with the object is one with the host
-  pub talks_among : {X : Type 0} (talk said : Talking X) (result : Result X ClientFault) (old new : S) (then : HostState D) (last : P) → IoByReply talk → ComesTo (Comes Any) talk → said ≡ talk → then ≡ host new → last ≡ peers new
-      → Held answers_in said old result new → TalksTo disks loader (before old ++ after old) (user (session old)) (moment old) talk result (host old) then (peers old) last
-  talks_among {X} talk said result old new then last by comes same is also held =
+  step_seen : (all : List (HostState D)) (i : ℕ) (asker : UserName) (at : ℕ) (a b : S) (v : HostState D × P) (request : Request) (given : Option Reply) → IsAt all i asker at a v → answers_in a request given b
+      → (w : HostState D × P) × answers_as disks loader (others i all) asker at v request given w × IsAt all i asker at b w
+  step_seen all i asker at a b v request given is step =
+      let one = at_place all i asker at a b v request given is step in
+      let same : one.before ≡ v.0 = same_one one.before v.0 (sym one.there ∙ is.there) in (
+        (one.after, peers b),
+        subst (λ (host : HostState D). answers_as disks loader (others i all) asker at (host, v.1) request given (one.after, peers b)) same one.done,
+        record {
+          place_is = step.1 ∙ is.place_is;
+          user_is = ap user step.2 ∙ is.user_is;
+          moment_is = step.3 ∙ is.moment_is;
+          peers_are = refl;
+          there = ap (λ hs. slice_get hs i) one.whole ∙ set_there (hosts a) i v.0 one.after is.there;
+          whole = one.whole ∙ (ap (λ hs. slice_set hs i one.after) is.whole ∙ set_twice all i v.0 one.after);
+        },
+      )
+    where
+      same_one : (x y : HostState D) → Some x ≡ Some y → x ≡ y
+      same_one x y is = cc
+
+  -- so a conversation with the object is one with the host at the place
+  pub talks_at : {X : Type 0} (talk said : Talking X) (result : Result X ClientFault) (old new : S) → place old < length (hosts old) → IoByReply talk → ComesTo (Comes Any) talk → said ≡ talk → Held answers_in said old result new
+      → OneOf (place old) (TalksTo disks loader (others (place old) (hosts old)) (user (session old)) (moment old) talk result) (hosts old) (peers old) (hosts new) (peers new)
+  talks_at {X} talk said result old new within by comes same held =
+      let first = one_there (hosts old) (place old) within in
       let seen =
-      held_seen (λ s. (host s, peers s)) (IsAt (before old ++ after old) (user (session old)) (moment old)) answers_in (answers_as disks loader (before old ++ after old) (user (session old)) (moment old))
-      (step_seen (before old ++ after old) (user (session old)) (moment old)) talk old new result (record { hosts_are = refl; user_is = refl; moment_is = refl })
+      held_seen (IsAt (hosts old) (place old) (user (session old)) (moment old)) answers_in (answers_as disks loader (others (place old) (hosts old)) (user (session old)) (moment old))
+      (step_seen (hosts old) (place old) (user (session old)) (moment old)) talk old new (first.0, peers old) result
+      (record { place_is = refl; user_is = refl; moment_is = refl; peers_are = refl; there = first.1; whole = sym (set_same (hosts old) (place old) first.0 first.1) })
       (subst (λ (t : Talking X). Held answers_in t old result new) same held) in
-      talks_whole disks loader (before old ++ after old) (user (session old)) (moment old) talk (host old) then (peers old) last result by comes
-      (subst (λ (h : HostState D). Held (answers_as disks loader (before old ++ after old) (user (session old)) (moment old)) talk (host old, peers old) result (h, last)) (sym is)
-      (subst (λ p. Held (answers_as disks loader (before old ++ after old) (user (session old)) (moment old)) talk (host old, peers old) result (host new, p)) (sym also) seen.0))
+      record {
+        before = first.0;
+        after = seen.0.0;
+        there = first.1;
+        whole = seen.2.whole;
+        done =
+            talks_whole disks loader (others (place old) (hosts old)) (user (session old)) (moment old) talk first.0 seen.0.0 (peers old) (peers new) result by comes
+            (subst (λ p. Held (answers_as disks loader (others (place old) (hosts old)) (user (session old)) (moment old)) talk (first.0, peers old) result (seen.0.0, p)) (sym seen.2.peers_are) seen.1);
+      }
 
 -- a time and a sequence are passed on as they are
 pub same_put : (user : UserName) (path : PathName) (time sequence : ℤ) (bytes : List ℕ) → SFits w64 time → SFits w64 sequence

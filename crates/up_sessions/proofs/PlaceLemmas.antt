@@ -1,5 +1,5 @@
 -- One host among others.
-use Rattle.std.proofs.Common.{◌≡◌, ℕ, List, [], ◌∷◌, ◌++◌, length, Some, refl, sym, ap, subst}
+use Rattle.std.proofs.Common.{◌≡◌, ◌<◌, ℕ, zero, suc, List, [], ◌∷◌, ◌++◌, length, Some, refl, sym, ap, subst, arith}
 use Rattle.std.specs.Prelude.{slice_get, slice_set}
 use Rattle.up_sessions.specs.Others.{others}
 
@@ -28,3 +28,33 @@ replaced all before after x y place is at =
 pub the_others : {X : Type 0} (all before after : List X) (x : X) (place : ℕ) → all ≡ before ++ x ∷ after → length before ≡ place → others place all ≡ before ++ after
 the_others all before after x place is at =
     subst (λ xs. others place xs ≡ before ++ after) (sym is) (subst (λ n. others n (before ++ x ∷ after) ≡ before ++ after) at (others_at before after x))
+
+-- one stands at each place of a list
+pub one_there : {X : Type 0} (xs : List X) (i : ℕ) → i < length xs → (x : X) × (slice_get xs i ≡ Some x)
+one_there [] i within = absurd (omega (arith, within))
+one_there (x ∷ xs) zero within = (x, refl)
+one_there (x ∷ xs) (suc i) within = one_there xs i (omega (arith, within))
+
+-- what was written there stands there
+pub set_there : {X : Type 0} (xs : List X) (i : ℕ) (x y : X) → slice_get xs i ≡ Some x → slice_get (slice_set xs i y) i ≡ Some y
+set_there [] i x y is = absurd (cc)
+set_there (z ∷ xs) zero x y is = refl
+set_there (z ∷ xs) (suc i) x y is = set_there xs i x y is
+
+-- what stands there, written there, changes nothing
+pub set_same : {X : Type 0} (xs : List X) (i : ℕ) (x : X) → slice_get xs i ≡ Some x → slice_set xs i x ≡ xs
+set_same [] i x is = refl
+set_same (z ∷ xs) zero x is = let same : x ≡ z = cc in ap (λ y. y ∷ xs) same
+set_same (z ∷ xs) (suc i) x is = ap (λ ys. z ∷ ys) (set_same xs i x is)
+
+-- of two that were written there the later one stands there
+pub set_twice : {X : Type 0} (xs : List X) (i : ℕ) (x y : X) → slice_set (slice_set xs i x) i y ≡ slice_set xs i y
+set_twice [] i x y = refl
+set_twice (z ∷ xs) zero x y = refl
+set_twice (z ∷ xs) (suc i) x y = ap (λ ys. z ∷ ys) (set_twice xs i x y)
+
+-- and the others stay
+pub others_stay : {X : Type 0} (xs : List X) (i : ℕ) (x : X) → others i (slice_set xs i x) ≡ others i xs
+others_stay [] i x = refl
+others_stay (z ∷ xs) zero x = refl
+others_stay (z ∷ xs) (suc i) x = ap (λ ys. z ∷ ys) (others_stay xs i x)

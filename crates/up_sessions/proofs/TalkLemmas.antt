@@ -18,17 +18,17 @@ use Rattle.up_wire.specs.declared.replies.Reply.{Reply}
 use Rattle.up_wire.specs.declared.replies.Reply.TheVariants as replies
 use Rattle.up_wire.specs.declared.requests.Request.{Request}
 
--- a conversation over one state is one over another, where each answer is, while the state is such
-pub held_seen : {S W X : Type 0} (see : S → W) (such : S → Type 0) (answers : S → Request → Option Reply → S → Type 0) (others : W → Request → Option Reply → W → Type 0)
-    → ((a b : S) (q : Request) (x : Option Reply) → such a → answers a q x b → others (see a) q x (see b) × such b)
-    → (talk : Talking X) (a b : S) (result : Result X ClientFault) → such a → Held answers talk a result b → Held others talk (see a) result (see b) × such b
-held_seen see such answers others each talk a b result is ended = (ended, is)
-held_seen see such answers others each talk a b result is wanting = (wanting, is)
-held_seen see such answers others each talk a b result is (unanswered {request = request} none) =
-    let one = each a b request None is none in (unanswered one.0, one.1)
-held_seen see such answers others each talk a b result is (heard {request = request} {hear = hear} {next = next} reply answer rest) =
-    let one = each a next request (Some reply) is answer in
-    let more = held_seen see such answers others each (hear reply) next b result one.1 rest in (heard reply one.0 more.0, more.1)
+-- a conversation over one state is one over another that is seen of it, where each answer is
+pub held_seen : {S W X : Type 0} (sees : S → W → Type 0) (answers : S → Request → Option Reply → S → Type 0) (others : W → Request → Option Reply → W → Type 0)
+    → ((a b : S) (v : W) (q : Request) (x : Option Reply) → sees a v → answers a q x b → (w : W) × others v q x w × sees b w)
+    → (talk : Talking X) (a b : S) (v : W) (result : Result X ClientFault) → sees a v → Held answers talk a result b → (w : W) × Held others talk v result w × sees b w
+held_seen sees answers others each talk a b v result is ended = (v, ended, is)
+held_seen sees answers others each talk a b v result is wanting = (v, wanting, is)
+held_seen sees answers others each talk a b v result is (unanswered {request = request} none) =
+    let one = each a b v request None is none in (one.0, unanswered one.1, one.2)
+held_seen sees answers others each talk a b v result is (heard {request = request} {hear = hear} {next = next} reply answer rest) =
+    let one = each a next v request (Some reply) is answer in
+    let more = held_seen sees answers others each (hear reply) next b one.0 result one.2 rest in (more.0, heard reply one.1 more.1, more.2)
 
 -- ---- the counts
 

@@ -12,6 +12,7 @@ use Rattle.up_names.specs.PathNames.{PathName}
 use Rattle.up_names.specs.Texts.{UserName}
 use Rattle.up_peer.specs.declared.loader.Loader.{Ghosts}
 use Rattle.up_sessions.specs.Asking.{AsksOne, StaysHost}
+use Rattle.up_sessions.specs.Kept.{OneOf}
 use Rattle.up_sessions.specs.Others.{others}
 use Rattle.up_sessions.specs.Worlds.{AtHost, CountsRose, Hosts}
 use Rattle.up_wire.specs.declared.replies.Reply.{Reply}
@@ -23,6 +24,13 @@ abbrev pub answers_as : {D P : Type 0} → disk.Ghosts D → Ghosts P → List (
 answers_as disks loader hosts user moment a request (Some reply) b =
     (e : Event) × (e.reply ≡ reply) × AsksOne disks loader hosts (record { user = user; request = request }) moment e a.0 b.0 a.1 b.1
 answers_as disks loader hosts user moment a request None b = ⊥
+
+-- the host at a place answers a client, and the others stay
+abbrev pub answers_at : {D P : Type 0} → disk.Ghosts D → Ghosts P → ℕ → UserName → ℕ
+    → List (HostState D) × P → Request → Option Reply → List (HostState D) × P → Type 0
+answers_at disks loader place user moment a request given b =
+    OneOf place (λ host after old new. answers_as disks loader (others place a.0) user moment (host, old) request given (after, new))
+    a.0 a.1 b.0 b.1
 
 -- 1 where a client's fault tells of a reply Io
 abbrev pub io_in_fault : ClientFault → ℕ

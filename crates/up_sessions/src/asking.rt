@@ -1,5 +1,5 @@
 //! A session asks its host.
-ghost use Rattle.std.specs.Prelude.{◌≡◌, ◌<◌, ◌++◌, IfSome, IsSome, Some, length};
+ghost use Rattle.std.specs.Prelude.{◌≡◌, ◌<◌, IfSome, IsSome, length};
 ghost use Rattle.std.specs.Option.{option_copied};
 ghost use Rattle.up_ends.specs.Moments.{IsMoment};
 ghost use Rattle.up_sessions.specs.Asking.{AsksHost, AsksOne};
@@ -8,6 +8,7 @@ ghost use Rattle.up_sessions.specs.Kept.{OneOf};
 ghost use Rattle.up_sessions.specs.Worlds.{session_at, session_in};
 
 use crate::behind::Behind;
+use crate::moment::Moment;
 use crate::opened::Opened;
 use crate::sessions::Sessions;
 use std::alloc::Global;
@@ -38,15 +39,12 @@ impl<D: Disk> Sessions<D> {
         let Some(opened) = opened_in(&self.sessions, number) else {
             unreachable!()
         };
-        ask_at(
-            alloc,
-            &mut self.hosts,
-            opened.place,
+        let mut asker = Asker {
             peers,
-            &opened.session,
-            request,
-            now,
-        )
+            session: &opened.session,
+            moment: Moment::of(now),
+        };
+        ask_at(alloc, &mut self.hosts, opened.place, &mut asker, request)
     }
 }
 
@@ -60,49 +58,44 @@ pub(crate) fn opened_in(sessions: &[Option<Opened>], number: u64) -> Option<&Ope
     }
 }
 
-// Asks the host at a place.
-fn ask_at<D: Disk, P: Loader>(
+/// A session that asks at one moment, and the peers behind all hosts.
+#[derive(Drop)]
+pub(crate) struct Asker<'peers, 'session, P: Loader> {
+    pub(crate) peers: &'peers mut P,
+    pub(crate) session: &'session Session,
+    pub(crate) moment: Moment,
+}
+
+/// Asks the host at a place. The list is cut at it for this one call.
+pub(crate) fn ask_at<D: Disk, P: Loader>(
     alloc: Global,
     hosts: &mut [Host<D>],
     place: usize,
-    peers: &mut P,
-    session: &Session,
+    asker: &mut Asker<'_, '_, P>,
     request: &Request,
-    now: u64,
 ) -> Event
-    requires place { place < length hosts.old }
-    requires moment { IsMoment now }
-    ensures { OneOf place (AsksOne D.Disk P.Loader (others place hosts.old)
-        (record { user = session.now.user; request = request.now }) now result)
-        hosts.old peers.old hosts.new peers.new }
+    requires { place < length hosts.old }
+    ensures asks { OneOf place (AsksOne D.Disk P.Loader (others place hosts.old)
+        (record { user = asker.old.session.now.user; request = request.now }) asker.old.moment result)
+        hosts.old asker.old.peers.now hosts.new asker.new.peers.now }
+    ensures peers { asker.new.peers.ghost_name ≡ asker.old.peers.ghost_name }
+    ensures session { asker.new.session.now ≡ asker.old.session.now }
+    ensures moment { asker.new.moment ≡ asker.old.moment }
 {
     let (before, rest) = hosts.split_at_mut(place);
     let Some((host, after)) = rest.split_first_mut() else {
         unreachable!()
     };
-    ask_among(alloc, host, before, after, peers, session, request, now)
-}
-
-/// Asks a host among others: those before it, and those after it.
-pub(crate) fn ask_among<D: Disk, P: Loader>(
-    alloc: Global,
-    host: &mut Host<D>,
-    before: &[Host<D>],
-    after: &[Host<D>],
-    peers: &mut P,
-    session: &Session,
-    request: &Request,
-    now: u64,
-) -> Event
-    requires moment { IsMoment now }
-    ensures { AsksOne D.Disk P.Loader (before.now ++ after.now)
-        (record { user = session.now.user; request = request.now }) now result
-        host.old host.new peers.old peers.new }
-{
     let mut behind = Behind {
         before,
         after,
-        peers,
+        peers: asker.peers,
     };
-    host.ask(alloc, &mut behind, session, request, now)
+    host.ask(
+        alloc,
+        &mut behind,
+        asker.session,
+        request,
+        asker.moment.seconds(),
+    )
 }

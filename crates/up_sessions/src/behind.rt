@@ -14,15 +14,16 @@ use up_peer::Loader;
 use up_policy::LoadAnswer;
 use up_refs::Reference;
 
-/// The other hosts of a script, those before the asking one and those behind it, and the peers behind them.
+/// The other hosts of a script, those before the asking one and those behind it, and the peers behind them. Each part has a lifetime of
+/// its own: were two at one, nothing would be known afterwards of the list that was cut.
 #[derive(Drop)]
-pub(crate) struct Behind<'a, D: Disk, P: Loader> {
-    pub(crate) before: &'a [Host<D>],
-    pub(crate) after: &'a [Host<D>],
-    pub(crate) peers: &'a mut P,
+pub(crate) struct Behind<'before, 'after, 'peers, D: Disk, P: Loader> {
+    pub(crate) before: &'before [Host<D>],
+    pub(crate) after: &'after [Host<D>],
+    pub(crate) peers: &'peers mut P,
 }
 
-impl<'a, D: Disk, P: Loader> Loader for Behind<'a, D, P> {
+impl<'before, 'after, 'peers, D: Disk, P: Loader> Loader for Behind<'before, 'after, 'peers, D, P> {
     ghost loads = { λ old question answer new.
         LoadsFirst P.Loader
         (find (has_tree question.name.owner) (old.before.now ++ old.after.now))

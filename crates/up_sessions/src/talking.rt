@@ -1,15 +1,11 @@
 //! A session puts and gets files.
 ghost use Rattle.std.proofs.Common.{◌∙◌};
-ghost use Rattle.std.specs.Prelude.{◌≡◌, ◌<◌, ◌++◌, IfSome, IsSome, Some, length, refl};
-ghost use Rattle.up_client.specs.Getting.{get_talk};
-ghost use Rattle.up_client.specs.Putting.{put_talk};
+ghost use Rattle.std.specs.Prelude.{◌≡◌, ◌<◌, IfSome, IsSome, length, refl};
 ghost use Rattle.up_ends.specs.Moments.{IsMoment};
-ghost use Rattle.up_sessions.specs.Kept.{OneOf};
-ghost use Rattle.up_sessions.specs.Others.{others};
-ghost use Rattle.up_sessions.specs.Talking.{GetsAt, PutsAt, TalksTo, answers_as};
+ghost use Rattle.up_sessions.specs.Talking.{GetsAt, PutsAt, answers_at};
 ghost use Rattle.up_sessions.specs.Worlds.{session_at};
 
-use crate::asking::{ask_among, opened_in};
+use crate::asking::{Asker, ask_at, opened_in};
 use crate::moment::Moment;
 use crate::sessions::Sessions;
 use std::alloc::Global;
@@ -19,57 +15,38 @@ use up_disk::Disk;
 use up_host::Host;
 use up_names::Path;
 use up_peer::Loader;
-use up_sign::Session;
 use up_wire::{Reply, Request};
 
-// A host among others as whom a client asks, for a session and at one moment.
+// What a client asks for a session: the host at a place among all hosts.
 #[derive(Drop)]
-struct SessionAsk<'a, D: Disk, P: Loader> {
-    host: &'a mut Host<D>,
-    before: &'a [Host<D>],
-    after: &'a [Host<D>],
-    peers: &'a mut P,
-    session: &'a Session,
-    moment: Moment,
+struct SessionAsk<'hosts, 'peers, 'session, D: Disk, P: Loader> {
+    hosts: &'hosts mut [Host<D>],
+    place: usize,
+    asker: Asker<'peers, 'session, P>,
+    ghost within: { place < length hosts.now },
 }
 
-impl<'a, D: Disk, P: Loader> Ask for SessionAsk<'a, D, P> {
+impl<'hosts, 'peers, 'session, D: Disk, P: Loader> Ask
+    for SessionAsk<'hosts, 'peers, 'session, D, P> {
     ghost answers = { λ old request given new.
-        answers_as D.Disk P.Loader (old.before.now ++ old.after.now) old.session.now.user old.moment
-        (old.host.now, old.peers.now) request given (new.host.now, new.peers.now)
-        × (new.before.now ≡ old.before.now) × (new.after.now ≡ old.after.now)
-        × (new.session.now ≡ old.session.now) × (new.moment ≡ old.moment) };
+        answers_at D.Disk P.Loader old.place old.asker.session.now.user old.asker.moment
+        (old.hosts.now, old.asker.peers.now) request given (new.hosts.now, new.asker.peers.now)
+        × (new.place ≡ old.place) × (new.asker.session.now ≡ old.asker.session.now)
+        × (new.asker.moment ≡ old.asker.moment) };
 
     ghost faults = { λ _. 0 };
 
-    ghost tied = { λ old new. (new.host.ghost_name ≡ old.host.ghost_name) × (new.peers.ghost_name ≡ old.peers.ghost_name) };
+    ghost tied = { λ old new. (new.hosts.ghost_name ≡ old.hosts.ghost_name)
+        × (new.asker.peers.ghost_name ≡ old.asker.peers.ghost_name) };
 
     fn ask(&mut self, alloc: Global, request: &Request) -> Result<Reply, Failed> {
-        let event = ask_among(
-            alloc,
-            self.host,
-            self.before,
-            self.after,
-            self.peers,
-            self.session,
-            request,
-            self.moment.seconds(),
-        );
+        let event = ask_at(alloc, self.hosts, self.place, &mut self.asker, request);
         Ok(event.reply)
     }
 
     ghost same = { λ a. (refl, refl) };
 
     ghost joined = { λ a b c p q. (q.0 ∙ p.0, q.1 ∙ p.1) };
-}
-
-// A file that is put: its path, its time, the sequence that is handed in, and its bytes.
-#[derive(Clone, Copy)]
-struct NewFile<'a> {
-    path: &'a Path,
-    time: i64,
-    sequence: i64,
-    bytes: &'a [u8],
 }
 
 impl<D: Disk> Sessions<D> {
@@ -95,19 +72,24 @@ impl<D: Disk> Sessions<D> {
         let Some(opened) = opened_in(&self.sessions, number) else {
             unreachable!()
         };
-        put_at(
-            alloc,
-            &mut self.hosts,
-            opened.place,
-            peers,
-            &opened.session,
-            NewFile {
-                path,
-                time,
-                sequence,
-                bytes,
+        let hosts = self.hosts.as_mut_slice();
+        let mut ask = SessionAsk {
+            hosts,
+            place: opened.place,
+            asker: Asker {
+                peers,
+                session: &opened.session,
+                moment: Moment::of(now),
             },
-            Moment::of(now),
+        };
+        put(
+            alloc,
+            &mut ask,
+            opened.session.user(),
+            path,
+            time,
+            sequence,
+            bytes,
         )
     }
 
@@ -130,120 +112,16 @@ impl<D: Disk> Sessions<D> {
         let Some(opened) = opened_in(&self.sessions, number) else {
             unreachable!()
         };
-        get_at(
-            alloc,
-            &mut self.hosts,
-            opened.place,
-            peers,
-            &opened.session,
-            path,
-            Moment::of(now),
-        )
+        let hosts = self.hosts.as_mut_slice();
+        let mut ask = SessionAsk {
+            hosts,
+            place: opened.place,
+            asker: Asker {
+                peers,
+                session: &opened.session,
+                moment: Moment::of(now),
+            },
+        };
+        get(alloc, &mut ask, path)
     }
-}
-
-// Puts a file at the host at a place.
-fn put_at<D: Disk, P: Loader>(
-    alloc: Global,
-    hosts: &mut [Host<D>],
-    place: usize,
-    peers: &mut P,
-    session: &Session,
-    file: NewFile<'_>,
-    moment: Moment,
-) -> Result<u64, ClientFault>
-    requires { place < length hosts.old }
-    ensures { OneOf place (TalksTo D.Disk P.Loader (others place hosts.old) session.now.user moment
-        (put_talk session.now.user file.entry.path.now file.entry.time file.entry.sequence
-        file.entry.bytes.now) result)
-        hosts.old peers.old hosts.new peers.new }
-{
-    let (before, rest) = hosts.split_at_mut(place);
-    let Some((host, after)) = rest.split_first_mut() else {
-        unreachable!()
-    };
-    put_among(alloc, host, before, after, peers, session, file, moment)
-}
-
-// Puts a file at a host among others: those before it, and those after it.
-fn put_among<D: Disk, P: Loader>(
-    alloc: Global,
-    host: &mut Host<D>,
-    before: &[Host<D>],
-    after: &[Host<D>],
-    peers: &mut P,
-    session: &Session,
-    file: NewFile<'_>,
-    moment: Moment,
-) -> Result<u64, ClientFault>
-    ensures { TalksTo D.Disk P.Loader (before.now ++ after.now) session.now.user moment
-        (put_talk session.now.user file.entry.path.now file.entry.time file.entry.sequence
-        file.entry.bytes.now) result
-        host.old host.new peers.old peers.new }
-{
-    let mut ask = SessionAsk {
-        host,
-        before,
-        after,
-        peers,
-        session,
-        moment,
-    };
-    put(
-        alloc,
-        &mut ask,
-        session.user(),
-        file.path,
-        file.time,
-        file.sequence,
-        file.bytes,
-    )
-}
-
-// Gets a file from the host at a place.
-fn get_at<D: Disk, P: Loader>(
-    alloc: Global,
-    hosts: &mut [Host<D>],
-    place: usize,
-    peers: &mut P,
-    session: &Session,
-    path: &Path,
-    moment: Moment,
-) -> Result<Bytes, ClientFault>
-    requires { place < length hosts.old }
-    ensures { OneOf place (TalksTo D.Disk P.Loader (others place hosts.old) session.now.user moment
-        (get_talk path.now) result)
-        hosts.old peers.old hosts.new peers.new }
-{
-    let (before, rest) = hosts.split_at_mut(place);
-    let Some((host, after)) = rest.split_first_mut() else {
-        unreachable!()
-    };
-    get_among(alloc, host, before, after, peers, session, path, moment)
-}
-
-// Gets a file from a host among others: those before it, and those after it.
-fn get_among<D: Disk, P: Loader>(
-    alloc: Global,
-    host: &mut Host<D>,
-    before: &[Host<D>],
-    after: &[Host<D>],
-    peers: &mut P,
-    session: &Session,
-    path: &Path,
-    moment: Moment,
-) -> Result<Bytes, ClientFault>
-    ensures { TalksTo D.Disk P.Loader (before.now ++ after.now) session.now.user moment
-        (get_talk path.now) result
-        host.old host.new peers.old peers.new }
-{
-    let mut ask = SessionAsk {
-        host,
-        before,
-        after,
-        peers,
-        session,
-        moment,
-    };
-    get(alloc, &mut ask, path)
 }
