@@ -1,7 +1,7 @@
 //! What can still be needed: a search ends once all of it was found.
-ghost use Rattle.std.specs.Prelude.{◌≡◌, ◌∷◌, [], true, IfOk, OnOk, is_ok, if◌then◌else◌, length, nat_lt};
+ghost use Rattle.std.specs.Prelude.{◌≡◌, ◌∷◌, [], ℕ, true, IfOk, OnOk, is_ok, if◌then◌else◌, length, nat_lt};
 ghost use Rattle.std.specs.Map.{keys_of};
-ghost use Rattle.up_foreign.specs.Reaching.{CoversNeeds, HasReadOnes, MayCover, is_unanswered};
+ghost use Rattle.up_foreign.specs.Reaching.{CoversNeeds, HasReadOnes, HasStillNamed, MayCover, is_unanswered};
 ghost use Rattle.up_log_tree.specs.Orders.{with_path};
 ghost use Rattle.up_mem_tree.specs.MemTrees.{TreeLog};
 ghost use Rattle.up_mem_tree.specs.Others.{HasTested, KeepsPaths};
@@ -96,22 +96,41 @@ fn add_items(
     Ok(())
 }
 
-/// Adds those that the tree's texts name.
-fn add_others(
-    owner: &User,
+/// Adds a group that the tree's texts name or have named, where one did that was in force after the first `since` records, or after more.
+fn add_other(
+    tree: &MemTree,
     loaded: &Loaded,
-    others: &OrderedMap<Path, ()>,
+    since: u64,
+    group: &Path,
     groups: &mut OrderedMap<Path, ()>,
 ) -> Result<(), AllocError>
     ensures kept { KeepsPaths (keys_of groups.old.entries) (keys_of groups.new.entries) }
-    ensures added { OnOk result (HasTested (is_unanswered owner.now loaded.now)
+    ensures added { OnOk result (HasStillNamed tree.now loaded.now since
+        (keys_of groups.new.entries) (group.now ∷ [])) }
+{
+    if !tree.is_named_since(group, since) {
+        return Ok(());
+    }
+    add_group(tree.owner(), loaded, group, groups)
+}
+
+/// Adds those that the tree's texts name, or have named since then.
+fn add_others(
+    tree: &MemTree,
+    loaded: &Loaded,
+    since: u64,
+    others: &OrderedMap<Path, usize>,
+    groups: &mut OrderedMap<Path, ()>,
+) -> Result<(), AllocError>
+    ensures kept { KeepsPaths (keys_of groups.old.entries) (keys_of groups.new.entries) }
+    ensures added { OnOk result (HasStillNamed tree.now loaded.now since
         (keys_of groups.new.entries) (keys_of others.now.entries)) }
 {
     for i in 0..u64::MAX {
         let Some(group) = others.key_at(i) else {
             return Ok(());
         };
-        add_group(owner, loaded, group, groups)?;
+        add_other(tree, loaded, since, group, groups)?;
     }
     // No memory holds so many.
     Err(AllocError)
@@ -155,48 +174,52 @@ fn add_loaded(
     Err(AllocError)
 }
 
-/// Adds all that can be needed in a tree.
+/// Adds all that can be needed in a tree, as it was after the first `since` records, and after each since.
 fn add_all(
-    owner: &User,
+    tree: &MemTree,
     loaded: &Loaded,
-    others: &OrderedMap<Path, ()>,
+    since: u64,
+    others: &OrderedMap<Path, usize>,
     groups: &mut OrderedMap<Path, ()>,
 ) -> Result<(), AllocError>
-    ensures own { OnOk result (HasTested (is_unanswered owner.now loaded.now)
+    ensures own { OnOk result (HasStillNamed tree.now loaded.now since
         (keys_of groups.new.entries) (keys_of others.now.entries)) }
     ensures read { OnOk result ((name : PathName)
-        → HasReadOnes owner.now loaded.now name (keys_of groups.new.entries)) }
+        → HasReadOnes tree.now.owner loaded.now name (keys_of groups.new.entries)) }
 {
-    add_others(owner, loaded, others, groups)?;
-    add_loaded(owner, loaded, groups)
+    add_others(tree, loaded, since, others, groups)?;
+    add_loaded(tree.owner(), loaded, groups)
 }
 
 /// Whether there are fewer groups than places.
-fn are_fewer(groups: &OrderedMap<Path, ()>, places: usize) -> bool
+fn are_fewer(groups: &OrderedMap<Path, usize>, places: usize) -> bool
     ensures { result ≡ nat_lt (length groups.now.entries) places }
 {
     groups.len() < places as u64
 }
 
 impl Left {
-    /// All that can be needed in a tree. Where that is no less than there are places to look at, nothing is gathered.
+    /// All that can be needed in a tree, as it was after the first `since` records, and after each since. Where more groups were ever
+    /// named than there are places to look at, nothing is gathered.
     pub(crate) fn new(
         alloc: Global,
         tree: &MemTree,
         loaded: &Loaded,
+        since: u64,
         places: usize,
     ) -> Result<Left, AllocError>
-        ensures { IfOk result (λ left. MayCover tree.now loaded.now left []) }
+        ensures { IfOk result (λ left. MayCover tree.now loaded.now since left []) }
     {
         let mut groups = OrderedMap::new(alloc);
-        if !are_fewer(tree.others(), places) {
+        let others = tree.others();
+        if !are_fewer(others, places) {
             return Ok(Left {
                 groups,
                 seen: 0,
                 whole: false,
             });
         }
-        match add_all(tree.owner(), loaded, tree.others(), &mut groups) {
+        match add_all(tree, loaded, since, others, &mut groups) {
             Ok(()) => Ok(Left {
                 groups,
                 seen: 0,
@@ -211,9 +234,9 @@ impl Left {
 
     /// Takes a name out.
     fn take_out(&mut self, names: &Names, i: u64)
-        ensures covered { (tree : TreeLog) (loaded : Loading)
-            → CoversNeeds tree loaded (keys_of self.old.groups.entries) names.now
-            → CoversNeeds tree loaded (keys_of self.new.groups.entries) names.now }
+        ensures covered { (tree : TreeLog) (loaded : Loading) (since : ℕ)
+            → CoversNeeds tree loaded since (keys_of self.old.groups.entries) names.now
+            → CoversNeeds tree loaded since (keys_of self.new.groups.entries) names.now }
         ensures whole { self.new.whole ≡ self.old.whole }
     {
         if let Some(name) = names.get(i) {
@@ -223,9 +246,9 @@ impl Left {
 
     /// Takes out the names that were found since.
     fn pass(&mut self, names: &Names)
-        ensures covered { (tree : TreeLog) (loaded : Loading)
-            → CoversNeeds tree loaded (keys_of self.old.groups.entries) names.now
-            → CoversNeeds tree loaded (keys_of self.new.groups.entries) names.now }
+        ensures covered { (tree : TreeLog) (loaded : Loading) (since : ℕ)
+            → CoversNeeds tree loaded since (keys_of self.old.groups.entries) names.now
+            → CoversNeeds tree loaded since (keys_of self.new.groups.entries) names.now }
         ensures whole { self.new.whole ≡ self.old.whole }
     {
         for i in self.seen..names.len() {
@@ -236,10 +259,12 @@ impl Left {
 
     /// Whether all that can be needed is among the names. Each name is looked at once, however often this is asked.
     pub(crate) fn is_done(&mut self, names: &Names) -> bool
-        ensures kept { (tree : TreeLog) (loaded : Loading)
-            → MayCover tree loaded self.old names.now → MayCover tree loaded self.new names.now }
-        ensures found { result ≡ true → (tree : TreeLog) (loaded : Loading)
-            → MayCover tree loaded self.old names.now → CoversNeeds tree loaded [] names.now }
+        ensures kept { (tree : TreeLog) (loaded : Loading) (since : ℕ)
+            → MayCover tree loaded since self.old names.now
+            → MayCover tree loaded since self.new names.now }
+        ensures found { result ≡ true → (tree : TreeLog) (loaded : Loading) (since : ℕ)
+            → MayCover tree loaded since self.old names.now
+            → CoversNeeds tree loaded since [] names.now }
     {
         let whole = self.whole;
         if whole {

@@ -1,5 +1,5 @@
 //! Which groups have to be loaded for a request.
-ghost use Rattle.std.specs.Prelude.{◌≡◌, ◌≤◌, ◌∷◌, true, IfOk, OnOk, length, map};
+ghost use Rattle.std.specs.Prelude.{◌≡◌, ◌≤◌, ◌<◌, ◌∷◌, true, IfOk, OnOk, length, map};
 ghost use Rattle.std.specs.List.{AllByRecursion, flat_map};
 ghost use Rattle.std.specs.Map.{keys_of};
 ghost use Rattle.up_answers.specs.Needs.{event_places_to, items_where, needs, needs_asked, owner_places, places, places_for, watch_places, where_ordinary};
@@ -512,28 +512,30 @@ fn note_events(
 {
     tree.recall();
     let positions = tree.positions_under(path, above);
-    note_positions(alloc, tree, user, positions, loaded, noted, names)
+    note_positions(alloc, tree, user, positions, above, loaded, noted, names)
 }
 
-/// Adds what is needed at the paths that the records at these positions change. A text is looked at once, and again where it or a Group
-/// file has changed since; once all that can be needed was found, the positions behind are not looked at.
+/// Adds what is needed at the paths that the records at these positions change, all of them above a sequence. A text is looked at once,
+/// and again where it or a Group file has changed since; once all that can be needed was found, the positions behind are not looked at.
 fn note_positions(
     alloc: Global,
     tree: &MemTree,
     user: &User,
     positions: &[u64],
+    above: u64,
     loaded: &Loaded,
     noted: Noted,
     names: &mut Names,
 ) -> Result<(), AllocError>
     requires owned { AllByRecursion (IsOwnChange tree.now) positions.now }
+    requires late { AllByRecursion (λ n. above < n) positions.now }
     requires noted { AreNoted tree.now loaded.now noted names.old }
     ensures { OnOk result (names.new
         ≡ with_paths names.old (flat_map (needed_in tree.now.owner loaded.now)
         (flat_map (places_at tree.now.log) positions.now))) }
 {
     let mut times = Times::new(alloc, noted);
-    let mut left = Left::new(alloc, tree, loaded, positions.len())?;
+    let mut left = Left::new(alloc, tree, loaded, above, positions.len())?;
     for position in positions {
         if left.is_done(names) {
             return Ok(());

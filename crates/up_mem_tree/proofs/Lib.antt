@@ -37,3 +37,4 @@ pub mod Nameds
 pub mod Standings
 pub mod Othered
 pub mod Started
+pub mod Held

@@ -1,9 +1,9 @@
 -- The groups of other owners that texts name, as they are kept.
-use Rattle.std.proofs.Common.{◌≡◌, ℕ, zero, suc, ◌+◌, ◌<◌, ◌≤◌, Bool, true, false, not, cond, ◌&&◌, ◌||◌, List, [], ◌∷◌, ◌++◌, length, take, get_or, refl, sym, ap, subst, ◌∙◌, inl, inr, arith, Option, Some, None, Result, Ok, Err, is_some, is_none, append-nil}
+use Rattle.std.proofs.Common.{◌≡◌, ◌≢◌, ℕ, zero, suc, ◌+◌, ◌<◌, ◌≤◌, Bool, true, false, not, cond, ◌&&◌, ◌||◌, List, [], ◌∷◌, ◌++◌, length, take, get_or, refl, sym, ap, subst, ◌∙◌, inl, inr, arith, Option, Some, None, Result, Ok, Err, is_some, is_none, append-nil}
 use Rattle.std.specs.Prelude.{IfSome, MatchOption, OnOk, is_ok, slice_get, if◌then◌else◌}
-use Rattle.std.specs.FinMap.Entries as entries
+use Rattle.std.specs.FinMap.Entries.{find}
 use Rattle.std.specs.Map.{keys_of}
-use Rattle.std.specs.Option.{option_map}
+use Rattle.std.specs.Option.{option_and_then, option_map}
 use Rattle.std.specs.Str.{bytes_eq}
 use Rattle.std.proofs.lemmas.Bool.{cases_lt, false≢true}
 use Rattle.std.proofs.lemmas.Grind.{flat_map-append}
@@ -22,28 +22,28 @@ use Rattle.up_policy.specs.Members.{group_in, groups_in}
 use Rattle.up_policy.specs.Reached.{groups_named}
 use Rattle.up_policy.proofs.PathLists.{Contains-cons, no_member}
 use Rattle.up_log_tree.specs.declared.node.Node.{Node}
-use Rattle.up_log_tree.specs.Changes.{path_of_change}
+use Rattle.up_log_tree.specs.Changes.{changes_some, last_change, path_of_change}
 use Rattle.up_log_tree.specs.Orders.{has_path as has, with_path}
 use Rattle.up_log_tree.specs.Rights.{access_path, facts_of, is_group, is_group_file, items_of, rules_of}
 use Rattle.up_log_tree.specs.Trees.{Tree, after_record, node_at, tree_at, tree_of}
-use Rattle.up_log_tree.proofs.Fronts.{take_next}
-use Rattle.up_log_tree.proofs.Paths.{parent_extended, path_eq_itself, path_same, some_none}
-use Rattle.up_log_tree.proofs.Rising.{has-with, keys-put}
-use Rattle.up_log_tree.proofs.Trees.{has_key, tree_of-push}
+use Rattle.up_log_tree.proofs.Fronts.{take_next, whole_front}
+use Rattle.up_log_tree.proofs.Paths.{parent_extended, path_eq_itself, path_same, some_none, some_same}
+use Rattle.up_log_tree.proofs.Rising.{has-with}
+use Rattle.up_log_tree.proofs.Trees.{tree_of-push}
 use Rattle.up_mem_tree.specs.declared.history.Change.{Change}
 use Rattle.up_mem_tree.specs.declared.kept.Kept.{Kept}
+use Rattle.up_mem_tree.specs.declared.others.Others.{Others}
 use Rattle.up_mem_tree.specs.declared.steps.ParentStep.{ParentStep}
 use Rattle.up_mem_tree.specs.declared.steps.Step.{Step}
 use Rattle.up_mem_tree.specs.Kept.{IsStepFor, paths_of, slots_of}
-use Rattle.up_mem_tree.specs.Others.{HasAccessOthers, HasAllOthers, HasGroupOthers, HasOthers, HasParentOthers, HasStepOthers, HasTested, HasTextsOthers, KeepsPaths, is_foreign}
+use Rattle.up_mem_tree.specs.Others.{AreNamed, AreNamedBy, Grows, HasAccessOthers, HasAllOthers, HasGroupOthers, HasOthers, HasParentOthers, HasStepOthers, HasTested, HasTextsOthers, IsNamedNoMore, KeepsPaths, Releases, has_record, is_foreign, is_since, kept_of, named_by, named_since}
 use Rattle.up_mem_tree.specs.Slots.{Known}
 use Rattle.up_mem_tree.specs.Steps.{IsAboveOf, access_change, group_change, group_file, own_id}
-use Rattle.up_mem_tree.proofs.RecordChanges.{access_control, access_here, access_other, group_here, group_never, group_other}
+use Rattle.up_mem_tree.proofs.Held.{by_since, has_by, has_since, numbered, since_earlier}
+use Rattle.up_mem_tree.proofs.Named.{last_change-none, last_change-push}
+use Rattle.up_mem_tree.proofs.RecordChanges.{access_control, access_here, access_other, group_here, group_never, group_other, last_more}
 use Rattle.up_mem_tree.proofs.Texts.{access-is, group-is}
 use Rattle.up_mem_tree.proofs.Within.{step_at}
-
-pub put_keys : (path : PathName) (es : List (PathName × (Unit {0}))) (x : Unit {0}) → keys_of (entries.put path_cmp path x es) ≡ with_path path (keys_of es)
-put_keys path es x = keys-put path x es
 
 -- ---- paths that stay
 
@@ -122,14 +122,15 @@ module _ (test : PathName → Bool) where
   rules_all rules i paths past told = subst (λ xs. HasTested test paths (groups_named xs)) (take_all i rules past) told
 
 module _ (owner : List ℕ) where
-  -- it is not new
-  pub not_new : (es : List (PathName × (Unit {0}))) (group : PathName) (b : Bool) → b ≡ (not (bytes_eq group.owner owner) && is_none (entries.find path_cmp group es)) → b ≡ false → HasOthers owner (keys_of es) (group ∷ [])
-  not_new es group b is old = one_tested (is_foreign owner) (keys_of es) group (λ foreign. by (bytes_eq group.owner owner) (entries.find path_cmp group es) foreign refl (sym is ∙ old))
-    where
-      by : (same : Bool) (found : Option (Unit {0})) → not same ≡ true → entries.find path_cmp group es ≡ found → (not same && is_none found) ≡ false → has (keys_of es) group ≡ true
-      by true found foreign at h = absurd (false≢true foreign)
-      by false None foreign at h = absurd (false≢true (sym h))
-      by false (Some x) foreign at h = has_key es group ∙ ap is_some at
+  -- a group of the owner's
+  pub group_own : (others : Others) (position : ℕ) (group : PathName) (b : Bool) → b ≡ is_foreign owner group → b ≡ false → HasOthers owner (named_by others position) (group ∷ [])
+  group_own others position group b is fails = one_fails (is_foreign owner) (named_by others position) group (sym is ∙ fails)
+
+  -- a group of another owner that the record at the position names
+  pub group_noted : {E : Type 0} (result : Result (Unit {0}) E) (old others : Others) (position : ℕ) (group : PathName) (id : ℕ) →
+      OnOk result ((g : PathName) → find path_cmp g old.numbers.entries ≡ Some id → has_record position (kept_of others g) ≡ true) → find path_cmp group old.numbers.entries ≡ Some id → OnOk result (HasOthers owner (named_by others position) (group ∷ []))
+  group_noted (Ok done) old others position group id noted found = one_tested (is_foreign owner) (named_by others position) group (λ foreign. has_by others position group ∙ noted group found)
+  group_noted (Err fault) old others position group id noted found = tt
 
   -- ---- what a step has, once there are more paths
 
@@ -158,6 +159,44 @@ module _ (owner : List ℕ) where
       (subst (λ t. IfSome t (λ rules. HasOthers owner paths (groups_named rules))) (sym told) (subst (λ rs. HasOthers owner paths (groups_named rs)) same added))
   access_told (Err fault) paths access change text rules some told same added = tt
 
+-- ---- the positions of last changes
+
+-- none is behind the last record
+last_within : (records : List Rec) (q : PathName) (p : ℕ) → last_change records q ≡ Some p → p ≤ length records
+last_within records q = whole_front (λ rs. (p : ℕ) → last_change rs q ≡ Some p → p ≤ length rs) records
+    (λ p is. absurd (some_none p (sym is ∙ last_change-none q)))
+    (λ n rec at so_far p is. go (take n records) rec p (changes_some (path_eq q) rec) so_far (sym (last_change-push (take n records) rec q) ∙ is))
+  where
+    go : (front : List Rec) (rec : Rec) (p : ℕ) (b : Bool) → ((p : ℕ) → last_change front q ≡ Some p → p ≤ length front) → cond b (Some (length front + 1)) (last_change front q) ≡ Some p → p ≤ length (front ++ rec ∷ [])
+    go front rec p true so_far is = let e : length front + 1 ≡ p = some_same (length front + 1) p is in omega (arith, e, length_push front rec)
+    go front rec p false so_far is = let l : p ≤ length front = so_far p is in omega (arith, l, length_push front rec)
+
+-- paths that were last changed by one record are one
+last_apart : (records : List Rec) (a b : PathName) (p : ℕ) → last_change records a ≡ Some p → last_change records b ≡ Some p → a ≡ b
+last_apart records a b = whole_front (λ rs. (p : ℕ) → last_change rs a ≡ Some p → last_change rs b ≡ Some p → a ≡ b) records
+    (λ p one two. absurd (some_none p (sym one ∙ last_change-none a)))
+    (λ n rec at so_far p one two.
+    go (take n records) rec p (changes_some (path_eq a) rec) (changes_some (path_eq b) rec) refl refl so_far
+    (sym (last_change-push (take n records) rec a) ∙ one) (sym (last_change-push (take n records) rec b) ∙ two))
+  where
+    same_changed : (rec : Rec) → changes_some (path_eq a) rec ≡ true → changes_some (path_eq b) rec ≡ true → a ≡ b
+    same_changed (Put entry text) one two = path_same a entry.name one ∙ sym (path_same b entry.name two)
+    same_changed (Delete path) one two = path_same a path one ∙ sym (path_same b path two)
+    same_changed (Snap time) one two = absurd (false≢true one)
+
+    late : (front : List Rec) (q : PathName) (p : ℕ) → Some (length front + 1) ≡ Some p → last_change front q ≡ Some p → ⊥
+    late front q p here there =
+        let e : length front + 1 ≡ p = some_same (length front + 1) p here in
+        let w : p ≤ length front = last_within front q p there in
+        omega (arith, e, w)
+
+    go : (front : List Rec) (rec : Rec) (p : ℕ) (x y : Bool) → changes_some (path_eq a) rec ≡ x → changes_some (path_eq b) rec ≡ y → ((p : ℕ) → last_change front a ≡ Some p → last_change front b ≡ Some p → a ≡ b) →
+        cond x (Some (length front + 1)) (last_change front a) ≡ Some p → cond y (Some (length front + 1)) (last_change front b) ≡ Some p → a ≡ b
+    go front rec p true true ha hb so_far one two = same_changed rec ha hb
+    go front rec p true false ha hb so_far one two = absurd (late front b p one two)
+    go front rec p false true ha hb so_far one two = absurd (late front a p two one)
+    go front rec p false false ha hb so_far one two = so_far p one two
+
 -- ---- an empty log
 
 empty_node : (n : ℕ) (q : PathName) → node_at (tree_at [] n) q ≡ None
@@ -165,16 +204,84 @@ unfolding node_at tree_of
 empty_node zero q = refl
 empty_node (suc n) q = refl
 
-pub others_none : (owner : List ℕ) (records : List Rec) (paths : List PathName) → records ≡ [] → HasAllOthers owner records paths
-others_none owner records paths none = subst (λ rs. HasAllOthers owner rs paths) (sym none) (record {
-  access = λ n dir rules some. absurd (some_none rules (sym some ∙ (access-is owner (tree_at [] n) dir ∙ ap (option_map (rules_of owner)) (empty_node n (access_path dir)))));
-  groups = λ n path items some. absurd (some_none items (sym some ∙ (group-is owner (tree_at [] n) path
-      ∙ ap (λ o. option_map (items_of owner) (elim o as (λ _. Option Node) [ None ↦ None | Some node ↦ if is_group_file path node then Some node else None ])) (empty_node n path))));
+no_access : (owner : List ℕ) (n : ℕ) (dir : PathName) (rules : List Rule) → (facts_of owner (tree_at [] n)).access dir ≡ Some rules → ⊥
+no_access owner n dir rules some = some_none rules (sym some ∙ (access-is owner (tree_at [] n) dir ∙ ap (option_map (rules_of owner)) (empty_node n (access_path dir))))
+
+no_group : (owner : List ℕ) (n : ℕ) (path : PathName) (items : List Item) → (facts_of owner (tree_at [] n)).group path ≡ Some items → ⊥
+no_group owner n path items some = some_none items (sym some ∙ (group-is owner (tree_at [] n) path
+    ∙ ap (λ o. option_map (items_of owner) (elim o as (λ _. Option Node) [ None ↦ None | Some node ↦ if is_group_file path node then Some node else None ])) (empty_node n path)))
+
+pub others_none : (owner : List ℕ) (records : List Rec) (others : Others) → records ≡ [] → AreNamed owner records others
+others_none owner records others none = subst (λ rs. AreNamed owner rs others) (sym none) (record {
+  access_then = λ n dir rules less some. absurd (no_access owner n dir rules some);
+  groups_then = λ n path items less some. absurd (no_group owner n path items some);
+  access_now = λ dir rules some. absurd (no_access owner 0 dir rules some);
+  groups_now = λ path items some. absurd (no_group owner 0 path items some);
 })
+
+-- ---- what is known of all texts
+
+module _ (owner : List ℕ) (others : Others) where
+  since_of : (o : Option ℕ) (groups : List PathName) (n : ℕ) → AreNamedBy owner others o groups → HasOthers owner (named_since others n) groups
+  since_of None groups n told = absurd told
+  since_of (Some position) groups n told = λ group there foreign. by_since others position n group (told group there foreign)
+
+  module _ (records : List Rec) (told : AreNamed owner records others) where
+    access_at : (n : ℕ) (dir : PathName) (rules : List Rule) → (facts_of owner (tree_at records n)).access dir ≡ Some rules → (m : ℕ) → m ≤ n → HasOthers owner (named_since others m) (groups_named rules)
+    access_at n dir rules some m le = elim (cases_lt n (length records)) [
+      | inl low ↦ λ group there foreign. since_earlier others m n le group (told.access_then n dir rules low some group there foreign)
+      | inr high ↦ since_of (last_change records (access_path dir)) (groups_named rules) m (told.access_now dir rules (ap (λ t. (facts_of owner t).access dir) (behind n high) ∙ some))
+    ]
+      where
+        behind : (n : ℕ) → length records ≤ n → tree_at records (length records) ≡ tree_at records n
+        behind n late = ap tree_of (take_all (length records) records (omega arith) ∙ sym (take_all n records late))
+
+    group_at : (n : ℕ) (path : PathName) (items : List Item) → (facts_of owner (tree_at records n)).group path ≡ Some items → (m : ℕ) → m ≤ n → HasOthers owner (named_since others m) (groups_in items)
+    group_at n path items some m le = elim (cases_lt n (length records)) [
+      | inl low ↦ λ group there foreign. since_earlier others m n le group (told.groups_then n path items low some group there foreign)
+      | inr high ↦ since_of (last_change records path) (groups_in items) m (told.groups_now path items (ap (λ t. (facts_of owner t).group path) (behind n high) ∙ some))
+    ]
+      where
+        behind : (n : ℕ) → length records ≤ n → tree_at records (length records) ≡ tree_at records n
+        behind n late = ap tree_of (take_all (length records) records (omega arith) ∙ sym (take_all n records late))
+
+    -- each of them has a number
+    pub has_all : HasAllOthers owner records (keys_of others.numbers.entries)
+    has_all = record {
+      access = λ n dir rules some group there foreign. numbered others n group (access_at n dir rules some n (omega arith) group there foreign);
+      groups = λ n path items some group there foreign. numbered others n group (group_at n path items some n (omega arith) group there foreign);
+    }
+
+    -- what no text has named since
+    pub none_since : (group : PathName) (n : ℕ) → is_since n (kept_of others group) ≡ false → is_foreign owner group ≡ true → IsNamedNoMore owner records n group
+    none_since group n none foreign = record {
+      access = λ m dir rules le some there. false≢true (sym none ∙ (sym (has_since others n group) ∙ access_at m dir rules some n le group there foreign));
+      groups = λ m path items le some there. false≢true (sym none ∙ (sym (has_since others n group) ∙ group_at m path items some n le group there foreign));
+    }
+
+-- ---- more is known
+
+module _ (owner : List ℕ) (old new : Others) where
+  -- of a record that is not the one whose text is replaced
+  by_still : (replaced : Option ℕ) (until : ℕ) → Releases replaced until old new → (o : Option ℕ) (groups : List PathName) → ((p : ℕ) → o ≡ Some p → replaced ≢ Some p) → AreNamedBy owner old o groups → AreNamedBy owner new o groups
+  by_still replaced until passes None groups other told = told
+  by_still replaced until passes (Some p) groups other told = λ group there foreign. (passes.by p (other p refl)).each group (told group there foreign)
+
+  by_more : Grows old new → (o : Option ℕ) (groups : List PathName) → AreNamedBy owner old o groups → AreNamedBy owner new o groups
+  by_more grows None groups told = told
+  by_more grows (Some p) groups told = λ group there foreign. (grows.by p).each group (told group there foreign)
+
+  pub named_more : (records : List Rec) → Grows old new → AreNamed owner records old → AreNamed owner records new
+  named_more records grows told = record {
+    access_then = λ n dir rules less some group there foreign. (grows.since n).each group (told.access_then n dir rules less some group there foreign);
+    groups_then = λ n path items less some group there foreign. (grows.since n).each group (told.groups_then n path items less some group there foreign);
+    access_now = λ dir rules some. by_more grows (last_change records (access_path dir)) (groups_named rules) (told.access_now dir rules some);
+    groups_now = λ path items some. by_more grows (last_change records path) (groups_in items) (told.groups_now path items some);
+  }
 
 -- ---- one record more
 
-module _ (owner : List ℕ) (records : List Rec) (rec : Rec) (paths : List PathName) (old : HasAllOthers owner records paths) where
+module _ (owner : List ℕ) (records : List Rec) (rec : Rec) (old new : Others) (told : AreNamed owner records old) where
   abbrev more : List Rec
   more = records ++ rec ∷ []
 
@@ -182,33 +289,39 @@ module _ (owner : List ℕ) (records : List Rec) (rec : Rec) (paths : List PathN
   last = tree_at more (length records + 1)
 
   -- what holds at the end, and before, always holds
-  by_last : ((dir : PathName) (rules : List Rule) → (facts_of owner last).access dir ≡ Some rules → HasOthers owner paths (groups_named rules)) →
-      ((path : PathName) (items : List Item) → (facts_of owner last).group path ≡ Some items → HasOthers owner paths (groups_in items)) → HasAllOthers owner more paths
-  by_last access groups = record {
-    access = λ n dir rules some. elim (cases_lt (length records) n) [
-      | inl late ↦ access dir rules (sym (ap (λ t. (facts_of owner t).access dir) (behind n late)) ∙ some)
-      | inr early ↦ old.access n dir rules (sym (ap (λ t. (facts_of owner t).access dir) (before n early)) ∙ some)
-    ];
-    groups = λ n path items some. elim (cases_lt (length records) n) [
-      | inl late ↦ groups path items (sym (ap (λ t. (facts_of owner t).group path) (behind n late)) ∙ some)
-      | inr early ↦ old.groups n path items (sym (ap (λ t. (facts_of owner t).group path) (before n early)) ∙ some)
-    ];
+  by_last : (replaced : Option ℕ) → Releases replaced (length records + 1) old new →
+      ((dir : PathName) (rules : List Rule) → (facts_of owner last).access dir ≡ Some rules → AreNamedBy owner new (last_change more (access_path dir)) (groups_named rules)) →
+      ((path : PathName) (items : List Item) → (facts_of owner last).group path ≡ Some items → AreNamedBy owner new (last_change more path) (groups_in items)) → AreNamed owner more new
+  by_last replaced passes access groups = record {
+    access_then = λ n dir rules less some group there foreign.
+        let early : n < length records + 1 = omega (arith, less, long) in
+        (passes.since n early).each group
+        (access_at owner old records told n dir rules (sym (ap (λ t. (facts_of owner t).access dir) (before n (omega (arith, early)))) ∙ some) n (omega arith) group there foreign);
+    groups_then = λ n path items less some group there foreign.
+        let early : n < length records + 1 = omega (arith, less, long) in
+        (passes.since n early).each group
+        (group_at owner old records told n path items (sym (ap (λ t. (facts_of owner t).group path) (before n (omega (arith, early)))) ∙ some) n (omega arith) group there foreign);
+    access_now = λ dir rules some. access dir rules (subst (λ k. (facts_of owner (tree_at more k)).access dir ≡ Some rules) long some);
+    groups_now = λ path items some. groups path items (subst (λ k. (facts_of owner (tree_at more k)).group path ≡ Some items) long some);
   }
     where
       long : length more ≡ length records + 1
       long = length_push records rec
 
-      behind : (n : ℕ) → length records < n → tree_at more n ≡ last
-      behind n late = ap tree_of (take_all n more (omega (arith, late, long)) ∙ sym (take_all (length records + 1) more (omega (arith, long))))
-
       before : (n : ℕ) → n ≤ length records → tree_at more n ≡ tree_at records n
       before n early = ap tree_of (take-append-le n records (rec ∷ []) early)
 
   -- a record that changes nothing
-  pub others_quiet : ((tree : Tree) → after_record tree rec ≡ tree) → HasAllOthers owner more paths
-  others_quiet quiet = by_last
-      (λ dir rules some. old.access (length records) dir rules (sym (ap (λ t. (facts_of owner t).access dir) same) ∙ some))
-      (λ path items some. old.groups (length records) path items (sym (ap (λ t. (facts_of owner t).group path) same) ∙ some))
+  others_quiet : ((tree : Tree) → after_record tree rec ≡ tree) → ((q : PathName) → last_change more q ≡ last_change records q) → Releases None (length records + 1) old new → AreNamed owner more new
+  others_quiet quiet unchanged passes = by_last None passes
+      (λ dir rules some.
+      subst (λ o. AreNamedBy owner new o (groups_named rules)) (sym (unchanged (access_path dir)))
+      (by_still owner old new None (length records + 1) passes (last_change records (access_path dir)) (groups_named rules) (λ p is none. some_none p (sym none))
+      (told.access_now dir rules (sym (ap (λ t. (facts_of owner t).access dir) same) ∙ some))))
+      (λ path items some.
+      subst (λ o. AreNamedBy owner new o (groups_in items)) (sym (unchanged path))
+      (by_still owner old new None (length records + 1) passes (last_change records path) (groups_in items) (λ p is none. some_none p (sym none))
+      (told.groups_now path items (sym (ap (λ t. (facts_of owner t).group path) same) ∙ some))))
     where
       long : length more ≡ length records + 1
       long = length_push records rec
@@ -218,48 +331,65 @@ module _ (owner : List ℕ) (records : List Rec) (rec : Rec) (paths : List PathN
 
   -- a record that changes a path
   module _ (path : PathName) (after : Option Node) (names : path_of_change rec ≡ Some path)
-      (stands : (tree : Tree) (q : PathName) → node_at (after_record tree rec) q ≡ cond (path_eq q path) after (node_at tree q)) where
-    others_changed : ((rules : List Rule) → control_of path ≡ Access → (dir : PathName) → parent_of path ≡ Some dir → option_map (rules_of owner) after ≡ Some rules → HasOthers owner paths (groups_named rules)) →
-        ((items : List Item) → option_map (items_of owner) (group_file path after) ≡ Some items → is_group path ≡ true → HasOthers owner paths (groups_in items)) → HasAllOthers owner more paths
-    others_changed access_told group_told = by_last
+      (stands : (tree : Tree) (q : PathName) → node_at (after_record tree rec) q ≡ cond (path_eq q path) after (node_at tree q))
+      (passes : Releases (last_change records path) (length records + 1) old new) where
+    -- the path itself is known by the new record
+    changed : (q : PathName) (groups : List PathName) → path_eq q path ≡ true → HasOthers owner (named_by old (length records + 1)) groups → AreNamedBy owner new (last_change more q) groups
+    changed q groups e has_them =
+        subst (λ o. AreNamedBy owner new o groups) (sym (last_more owner records rec path after names stands q ∙ ap (λ b. cond b (Some (length records + 1)) (last_change records q)) e))
+        (λ group there foreign. (passes.by (length records + 1) (λ is. let w : length records + 1 ≤ length records = last_within records path (length records + 1) is in omega (arith, w))).each group (has_them group there foreign))
+
+    -- another is known by the record that it was known by
+    unchanged : (q : PathName) (groups : List PathName) → path_eq q path ≡ false → AreNamedBy owner old (last_change records q) groups → AreNamedBy owner new (last_change more q) groups
+    unchanged q groups e has_them =
+        subst (λ o. AreNamedBy owner new o groups) (sym (last_more owner records rec path after names stands q ∙ ap (λ b. cond b (Some (length records + 1)) (last_change records q)) e))
+        (by_still owner old new (last_change records path) (length records + 1) passes (last_change records q) groups
+        (λ p is replaced. false≢true (sym e ∙ subst (λ r. path_eq q r ≡ true) (last_apart records q path p is replaced) (path_eq_itself q))) has_them)
+
+    others_changed : ((rules : List Rule) → control_of path ≡ Access → (dir : PathName) → parent_of path ≡ Some dir → option_map (rules_of owner) after ≡ Some rules → HasOthers owner (named_by old (length records + 1)) (groups_named rules)) →
+        ((items : List Item) → option_map (items_of owner) (group_file path after) ≡ Some items → is_group path ≡ true → HasOthers owner (named_by old (length records + 1)) (groups_in items)) → AreNamed owner more new
+    others_changed access_told group_told = by_last (last_change records path) passes
         (λ dir rules. access_by dir rules (path_eq (access_path dir) path) refl)
         (λ q items. group_by q items (path_eq q path) refl)
       where
-        access_by : (dir : PathName) (rules : List Rule) (b : Bool) → path_eq (access_path dir) path ≡ b → (facts_of owner last).access dir ≡ Some rules → HasOthers owner paths (groups_named rules)
+        access_by : (dir : PathName) (rules : List Rule) (b : Bool) → path_eq (access_path dir) path ≡ b → (facts_of owner last).access dir ≡ Some rules → AreNamedBy owner new (last_change more (access_path dir)) (groups_named rules)
         access_by dir rules true e some =
             let same : access_path dir ≡ path = path_same (access_path dir) path e in
-            access_told rules (sym (ap control_of same) ∙ access_control dir) dir (sym (ap parent_of same) ∙ parent_extended dir _)
-            (sym (access_here owner records rec path after names stands dir same) ∙ some)
+            changed (access_path dir) (groups_named rules) e
+            (access_told rules (sym (ap control_of same) ∙ access_control dir) dir (sym (ap parent_of same) ∙ parent_extended dir _)
+            (sym (access_here owner records rec path after names stands dir same) ∙ some))
         access_by dir rules false e some =
-            old.access (length records) dir rules
-            (sym (access_other owner records rec path after names stands dir (λ same. false≢true (sym e ∙ subst (λ p. path_eq (access_path dir) p ≡ true) same (path_eq_itself (access_path dir))))) ∙ some)
+            unchanged (access_path dir) (groups_named rules) e
+            (told.access_now dir rules
+            (sym (access_other owner records rec path after names stands dir (λ same. false≢true (sym e ∙ subst (λ p. path_eq (access_path dir) p ≡ true) same (path_eq_itself (access_path dir))))) ∙ some))
 
         is_one : (items : List Item) (b : Bool) → is_group path ≡ b → (facts_of owner last).group path ≡ Some items → is_group path ≡ true
         is_one items true e some = e
         is_one items false e some = absurd (some_none items (sym some ∙ group_never owner last path e))
 
-        here : (items : List Item) → (facts_of owner last).group path ≡ Some items → HasOthers owner paths (groups_in items)
+        here : (items : List Item) → (facts_of owner last).group path ≡ Some items → HasOthers owner (named_by old (length records + 1)) (groups_in items)
         here items some = group_told items (sym (group_here owner records rec path after names stands) ∙ some) (is_one items (is_group path) refl some)
 
-        group_by : (q : PathName) (items : List Item) (b : Bool) → path_eq q path ≡ b → (facts_of owner last).group q ≡ Some items → HasOthers owner paths (groups_in items)
-        group_by q items true e some = here items (sym (ap (facts_of owner last).group (path_same q path e)) ∙ some)
+        group_by : (q : PathName) (items : List Item) (b : Bool) → path_eq q path ≡ b → (facts_of owner last).group q ≡ Some items → AreNamedBy owner new (last_change more q) (groups_in items)
+        group_by q items true e some = changed q (groups_in items) e (here items (sym (ap (facts_of owner last).group (path_same q path e)) ∙ some))
         group_by q items false e some =
-            old.groups (length records) q items
-            (sym (group_other owner records rec path after names stands q (λ same. false≢true (sym e ∙ subst (λ p. path_eq q p ≡ true) same (path_eq_itself q)))) ∙ some)
+            unchanged q (groups_in items) e
+            (told.groups_now q items
+            (sym (group_other owner records rec path after names stands q (λ same. false≢true (sym e ∙ subst (λ p. path_eq q p ≡ true) same (path_eq_itself q)))) ∙ some))
 
-    -- by its step
-    module _ (step : Step) (told : HasStepOthers owner paths (Some step)) (group : step.group ≡ group_change owner path after (length records + 1)) where
-      group_by_step : (items : List Item) → option_map (items_of owner) (group_file path after) ≡ Some items → is_group path ≡ true → HasOthers owner paths (groups_in items)
-      group_by_step items some one = go (control_of path) refl
-        where
-          go : (k : Control) → control_of path ≡ k → HasOthers owner paths (groups_in items)
-          go Group is =
-              subst (λ text. IfSome text (λ items. HasOthers owner paths (groups_in items))) some
-              (subst (HasGroupOthers owner paths)
-              (group ∙ ap (λ k. elim k as (λ _. Option (Change (List Item))) [ Group ↦ Some (record { position = length records + 1; text = option_map (items_of owner) (group_file path after) }) | Access ↦ None | Ordinary ↦ None ]) is)
-              told.group)
-          go Access is = absurd (false≢true (sym (ap (λ k. elim k as (λ _. Bool) [ Group ↦ true | Access ↦ false | Ordinary ↦ false ]) is) ∙ one))
-          go Ordinary is = absurd (false≢true (sym (ap (λ k. elim k as (λ _. Bool) [ Group ↦ true | Access ↦ false | Ordinary ↦ false ]) is) ∙ one))
+-- what becomes of a Group file is told by its step
+group_by_step : (owner : List ℕ) (paths : List PathName) (path : PathName) (after : Option Node) (at : ℕ) (step : Step) → HasStepOthers owner paths (Some step) → step.group ≡ group_change owner path after at →
+    (items : List Item) → option_map (items_of owner) (group_file path after) ≡ Some items → is_group path ≡ true → HasOthers owner paths (groups_in items)
+group_by_step owner paths path after at step told group items some one = go (control_of path) refl
+  where
+    go : (k : Control) → control_of path ≡ k → HasOthers owner paths (groups_in items)
+    go Group is =
+        subst (λ text. IfSome text (λ items. HasOthers owner paths (groups_in items))) some
+        (subst (HasGroupOthers owner paths)
+        (group ∙ ap (λ k. elim k as (λ _. Option (Change (List Item))) [ Group ↦ Some (record { position = at; text = option_map (items_of owner) (group_file path after) }) | Access ↦ None | Ordinary ↦ None ]) is)
+        told.group)
+    go Access is = absurd (false≢true (sym (ap (λ k. elim k as (λ _. Bool) [ Group ↦ true | Access ↦ false | Ordinary ↦ false ]) is) ∙ one))
+    go Ordinary is = absurd (false≢true (sym (ap (λ k. elim k as (λ _. Bool) [ Group ↦ true | Access ↦ false | Ordinary ↦ false ]) is) ∙ one))
 
 -- the text that a directory gets is told by its step
 access_by_step : (owner : List ℕ) (paths : List PathName) (path : PathName) (after : Option Node) (at : ℕ) (d : Option PathName) (dir : PathName) → d ≡ Some dir → control_of path ≡ Access → (parent : Option ParentStep) →
@@ -281,23 +411,30 @@ texts_of_step owner records rec path after paths slots own None parent is = is
 texts_of_step owner records rec path after paths slots own (Some dir) None is = is
 texts_of_step owner records rec path after paths slots own (Some dir) (Some parent) is = is.texts
 
-changed_more : (kept : Kept) (rec : Rec) (step : Step) (paths : List PathName) → IsStepFor kept rec (Some step) → HasAllOthers kept.owner kept.log.items paths → HasStepOthers kept.owner paths (Some step) → HasAllOthers kept.owner (kept.log.items ++ rec ∷ []) paths
-changed_more kept rec step paths is old told =
+changed_more : (kept : Kept) (rec : Rec) (step : Step) (old new : Others) → IsStepFor kept rec (Some step) → AreNamed kept.owner kept.log.items old →
+    HasStepOthers kept.owner (named_by old (length kept.log.items + 1)) (Some step) →
+    Releases (option_and_then (last_change kept.log.items) (path_of_change rec)) (length kept.log.items + 1) old new → AreNamed kept.owner (kept.log.items ++ rec ∷ []) new
+changed_more kept rec step old new is before told passes =
     let at = step_at kept rec step is in
     let of = at.step_in.0 in
-    others_changed kept.owner kept.log.items rec paths old at.path at.after at.names at.stands
+    let paths = named_by old (length kept.log.items + 1) in
+    others_changed kept.owner kept.log.items rec old new before at.path at.after at.names at.stands
+    (subst (λ o. Releases (option_and_then (last_change kept.log.items) o) (length kept.log.items + 1) old new) at.names passes)
     (λ rules named dir up some. access_by_step kept.owner paths at.path at.after (length kept.log.items + 1) (parent_of at.path) dir up named step.parent
     (texts_of_step kept.owner kept.log.items rec at.path at.after (paths_of kept) (slots_of kept) (own_id (slots_of kept) step.own) (parent_of at.path) step.parent of.above) told.parent rules some)
-    (group_by_step kept.owner kept.log.items rec paths old at.path at.after at.names at.stands step told of.group)
+    (group_by_step kept.owner paths at.path at.after (length kept.log.items + 1) step told of.group)
 
 snap_same : (time : ℕ) (tree : Tree) → after_record tree (Snap time) ≡ tree
 unfolding after_record
 snap_same time tree = refl
 
--- the groups of the record that was made ready are there, and it is entered
-pub others_more : (kept : Kept) (rec : Rec) (step : Option Step) (paths : List PathName) → IsStepFor kept rec step → HasAllOthers kept.owner kept.log.items paths → HasStepOthers kept.owner paths step → HasAllOthers kept.owner (kept.log.items ++ rec ∷ []) paths
-others_more kept (Put entry text) None paths is old told = absurd is
-others_more kept (Put entry text) (Some step) paths is old told = changed_more kept (Put entry text) step paths is old told
-others_more kept (Delete gone) None paths is old told = absurd is
-others_more kept (Delete gone) (Some step) paths is old told = changed_more kept (Delete gone) step paths is old told
-others_more kept (Snap time) step paths is old told = others_quiet kept.owner kept.log.items (Snap time) paths old (snap_same time)
+-- the groups of the record that was made ready are known by its position, those of the text that it replaces were released, and it is entered
+pub others_more : (kept : Kept) (rec : Rec) (step : Option Step) (old new : Others) → IsStepFor kept rec step → AreNamed kept.owner kept.log.items old →
+    HasStepOthers kept.owner (named_by old (length kept.log.items + 1)) step →
+    Releases (option_and_then (last_change kept.log.items) (path_of_change rec)) (length kept.log.items + 1) old new → AreNamed kept.owner (kept.log.items ++ rec ∷ []) new
+others_more kept (Put entry text) None old new is before told passes = absurd is
+others_more kept (Put entry text) (Some step) old new is before told passes = changed_more kept (Put entry text) step old new is before told passes
+others_more kept (Delete gone) None old new is before told passes = absurd is
+others_more kept (Delete gone) (Some step) old new is before told passes = changed_more kept (Delete gone) step old new is before told passes
+others_more kept (Snap time) step old new is before told passes =
+    others_quiet kept.owner kept.log.items (Snap time) old new before (snap_same time) (λ q. last_change-push kept.log.items (Snap time) q) passes

@@ -20,7 +20,7 @@ use Rattle.up_mem_tree.proofs.Tested.{not_contained}
 
 -- ---- times
 
-tied : (time at : ℕ) → eq_by_cmp nat_cmp time at ≡ (at == time)
+pub tied : (time at : ℕ) → eq_by_cmp nat_cmp time at ≡ (at == time)
 tied time at = go (nat_lt time at) refl (time == at) refl
   where
     go : (less : Bool) → nat_lt time at ≡ less → (same : Bool) → (time == at) ≡ same → is_eq (cond (nat_lt time at) Less (cond (time == at) Equal Greater)) ≡ (at == time)

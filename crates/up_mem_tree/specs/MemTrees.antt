@@ -1,16 +1,16 @@
 -- What contracts see of a tree in memory. This project's own.
-use Rattle.std.specs.Prelude.{◌<◌, ℕ, List, Option, Some, None, Vec, option_map, ⊤}
+use Rattle.std.specs.Prelude.{◌<◌, ◌+◌, ℕ, List, length, Option, Some, None, Vec, option_map, ⊤}
 use Rattle.std.specs.Vec.{vec_capacity, vec_len}
 use Rattle.up_names.specs.Texts.{UserName}
-use Rattle.up_names.specs.PathNames.{PathName}
 use Rattle.up_entry.specs.declared.records.Rec.{Rec}
 use Rattle.up_mem_tree.specs.Groups.{AreGroupChanges}
 use Rattle.up_mem_tree.specs.Kept.{IsReadyFor, Stands, slots_of}
-use Rattle.up_mem_tree.specs.Others.{HasAllOthers, HasStepOthers}
+use Rattle.up_mem_tree.specs.Others.{AreNamed, HasStepOthers, named_by}
 use Rattle.up_mem_tree.specs.ChangesBelow.{AreNoted, CanNoteRecord, noted_all}
 use Rattle.up_mem_tree.specs.declared.kept.Kept.{Kept}
 use Rattle.up_mem_tree.specs.declared.mem_tree.Ready.{Ready}
 use Rattle.up_mem_tree.specs.declared.changes_below.Under.{Under}
+use Rattle.up_mem_tree.specs.declared.others.Others.{Others}
 use Rattle.up_log_tree.specs.Fits.{Fits}
 
 -- the owner, the records, and the record that was made ready to be entered, where one was
@@ -38,19 +38,19 @@ abbrev pub HasRoomFor : {A : Type 0} → Vec ℕ A → Option Ready → Type 0
 HasRoomFor groups None = ⊤
 HasRoomFor groups (Some made) = vec_len groups < vec_capacity groups
 
--- the groups of other owners that the record that was made ready names are among the paths
-abbrev pub HasReadyOthers : UserName → List PathName → Option Ready → Type 0
-HasReadyOthers owner others None = ⊤
-HasReadyOthers owner others (Some made) = HasStepOthers owner others made.step
+-- the groups of other owners that the record that was made ready names are known by its position
+abbrev pub HasReadyOthers : Kept → Others → Option Ready → Type 0
+HasReadyOthers kept others None = ⊤
+HasReadyOthers kept others (Some made) = HasStepOthers kept.owner (named_by others (length kept.log.items + 1)) made.step
 
 -- all that is kept stands for the log, and what was made ready can be entered and noted
 pub record IsMemTree {A : Type 0} (kept : Kept) (changes_below : List Under) (groups : Vec ℕ A)
-    (paths : List PathName) (ready : Option Ready) : Type 0 where
+    (known : Others) (ready : Option Ready) : Type 0 where
   pub stands : Stands kept
   pub noted : AreNoted kept.log.items (slots_of kept) (noted_all changes_below)
   pub grouped : AreGroupChanges kept.log.items groups.items
   pub can : CanEnter kept ready
   pub note : CanBeNoted kept changes_below ready
   pub room : HasRoomFor groups ready
-  pub others : HasAllOthers kept.owner kept.log.items paths
-  pub others_ready : HasReadyOthers kept.owner paths ready
+  pub others : AreNamed kept.owner kept.log.items known
+  pub others_ready : HasReadyOthers kept known ready

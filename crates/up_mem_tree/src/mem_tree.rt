@@ -1,5 +1,5 @@
 //! A tree in memory.
-ghost use Rattle.std.specs.Prelude.{◌≡◌, ◌≤◌, [], ◌∷◌, ◌++◌, false, true, None, Some, filter, length, option_map, slice_get, IfOk, IfSome, IsSome, OnOk};
+ghost use Rattle.std.specs.Prelude.{◌≡◌, ◌≤◌, ◌+◌, [], ◌∷◌, ◌++◌, false, true, None, Some, filter, length, option_map, slice_get, IfOk, IfSome, IsSome, OnOk};
 ghost use Rattle.std.specs.Option.{option_and_then, option_copied};
 ghost use Rattle.up_policy.specs.Trees.{owns_snapshots};
 ghost use Rattle.std.specs.Map.{keys_of};
@@ -8,7 +8,7 @@ ghost use Rattle.up_policy.specs.Governors.{first_text, prefixes};
 ghost use Rattle.up_mem_tree.specs.Groups.{StayTexts};
 ghost use Rattle.up_mem_tree.specs.Kept.{IsReadyFor, IsSameKept, Stands, slots_of};
 ghost use Rattle.up_mem_tree.specs.Nodes.{node_of};
-ghost use Rattle.up_mem_tree.specs.Others.{HasAllOthers, HasStepOthers, KeepsPaths};
+ghost use Rattle.up_mem_tree.specs.Others.{Grows, HasAllOthers, HasStepOthers, IsNamedNoMore, is_foreign, named_by};
 ghost use Rattle.up_mem_tree.specs.Slots.{named_paths};
 ghost use Rattle.up_mem_tree.specs.ChangesBelow.{AreNoted, CanNoteRecord, noted_all};
 ghost use Rattle.up_log_tree.specs.Changes.{change_before, changes_under, last_change, record_at};
@@ -21,7 +21,7 @@ use crate::changes_below::{Under, changes_above, make_room, note, reserve_one};
 use crate::groups::{group_change_at, note_group};
 use crate::kept::Kept;
 use crate::nodes::{NodeRef, record_at};
-use crate::others::add_step;
+use crate::others::{Others, add_step};
 use crate::starts::start_of;
 use crate::steps::Step;
 use std::alloc::{AllocError, Global};
@@ -52,12 +52,11 @@ pub struct MemTree {
     groups: Vec<u64>,
     /// The groups of other owners that Access and Group texts have named; perhaps also some of a record that was made ready and never
     /// entered.
-    others: OrderedMap<Path, ()>,
+    others: Others,
     ready: Option<Ready>,
 }
 
 impl Model for MemTree {
-    ghost use Rattle.std.specs.Map.{keys_of};
     ghost use Rattle.up_mem_tree.specs.MemTrees.{IsMemTree, TreeLog, ready_record};
 
     ghost Value = { TreeLog };
@@ -65,7 +64,7 @@ impl Model for MemTree {
     ghost view = { λ tree. record { owner = tree.kept.owner; log = tree.kept.log.items; ready = ready_record tree.ready } };
 
     ghost invariant = { λ tree. IsMemTree tree.kept tree.changes_below.items tree.groups
-        (keys_of tree.others.entries) tree.ready };
+        tree.others tree.ready };
 }
 
 /// Puts what was made ready in the place of what is there.
@@ -107,11 +106,11 @@ fn made_ready(
 }
 
 /// Makes a record ready, and adds the groups of other owners that its text names.
-#[tactic(auto, using(crate::proofs::Othered::kept_all))]
+#[tactic(auto, using(crate::proofs::Held::grows_all))]
 fn made_known(
     kept: &mut Kept,
     changes_below: &mut Vec<Under>,
-    others: &mut OrderedMap<Path, ()>,
+    others: &mut Others,
     rec: Rec,
 ) -> Result<Ready, AllocError>
     requires stands { Stands kept.old }
@@ -122,12 +121,12 @@ fn made_known(
     ensures rec { IfOk result (λ ready. ready.rec ≡ rec) }
     ensures enters { IfOk result (λ ready. IsReadyFor kept.new rec ready.step) }
     ensures notes { OnOk result (CanNoteRecord changes_below.new.items (slots_of kept.new) rec) }
-    ensures kept { KeepsPaths (keys_of others.old.entries) (keys_of others.new.entries) }
+    ensures kept { Grows others.old others.new }
     ensures others { IfOk result (λ ready. HasStepOthers kept.new.owner
-        (keys_of others.new.entries) ready.step) }
+        (named_by others.new (length kept.new.log.items + 1)) ready.step) }
 {
     match made_ready(kept, changes_below, rec) {
-        Ok(ready) => match add_step(&kept.owner, others, &ready.step) {
+        Ok(ready) => match add_step(&kept.owner, others, kept.log.len() as u64 + 1, &ready.step) {
             Ok(()) => Ok(ready),
             Err(fault) => {
                 drop(ready);
@@ -149,7 +148,7 @@ impl MemTree {
             kept: Kept::new(alloc, owner),
             changes_below: Vec::new(alloc),
             groups: Vec::new(alloc),
-            others: OrderedMap::new(alloc),
+            others: Others::new(alloc),
             ready: None,
         }
     }
@@ -293,10 +292,19 @@ impl MemTree {
 
     /// The groups of other owners that a text of an Access or Group file names, or has named once: each of them is among these. It
     /// takes no memory.
-    pub fn others(&self) -> &OrderedMap<Path, ()>
+    pub fn others(&self) -> &OrderedMap<Path, usize>
         ensures { HasAllOthers self.now.owner self.now.log (keys_of result.now.entries) }
     {
-        &self.others
+        &self.others.numbers
+    }
+
+    /// Whether a group of another owner may be named by a text that was in force after the first `n` records, or after more. Where it is
+    /// not, none names it. It takes no memory.
+    pub fn is_named_since(&self, group: &Path, n: u64) -> bool
+        ensures { result ≡ false → is_foreign self.now.owner group.now ≡ true
+            → IsNamedNoMore self.now.owner self.now.log n group.now }
+    {
+        self.others.is_named_since(group, n)
     }
 
     /// The position of the snapshot of that time.
@@ -356,6 +364,7 @@ impl MemTree {
             let start = start_of(&made.rec, &made.step);
             note(&mut self.changes_below, &self.kept, &made.rec, start);
             note_group(&mut self.groups, &self.kept, &made.rec);
+            self.others.release(&self.kept, &made.rec, &made.step);
             self.kept.enter(made.rec, made.step);
         }
     }

@@ -1,69 +1,298 @@
-//! The groups of other owners that texts name.
-ghost use Rattle.std.specs.Prelude.{◌≡◌, ◌∷◌, [], ◌&&◌, not, is_none, is_ok, if◌then◌else◌, OnOk};
+//! The groups of other owners that texts name, or have named, and since when none does.
+ghost use Rattle.std.specs.Prelude.{◌≡◌, ◌≢◌, ◌≤◌, ◌∷◌, ◌<◌, ◌+◌, ℕ, [], Some, true, not, length, IfOk, MatchOption, OnOk};
 ghost use Rattle.std.specs.FinMap.Entries.{find};
-ghost use Rattle.std.specs.Map.{keys_of};
-ghost use Rattle.std.specs.Str.{bytes_eq};
+ghost use Rattle.std.specs.Option.{option_and_then};
+ghost use Rattle.up_names.specs.PathNames.{PathName};
 ghost use Rattle.up_names.specs.PathOrder.{path_cmp};
 ghost use Rattle.up_policy.specs.Members.{groups_in};
 ghost use Rattle.up_policy.specs.Reached.{groups_named};
-ghost use Rattle.up_log_tree.specs.Orders.{with_path};
-ghost use Rattle.up_mem_tree.specs.Others.{HasAccessOthers, HasGroupOthers, HasOthers, HasParentOthers, HasStepOthers, HasTextsOthers, KeepsPaths};
+ghost use Rattle.up_log_tree.specs.Changes.{last_change, path_of_change};
+ghost use Rattle.up_mem_tree.specs.Kept.{Stands};
+ghost use Rattle.up_mem_tree.specs.Others.{Grows, HasAccessOthers, HasGroupOthers, HasOthers, HasParentOthers, HasStepOthers, HasTextsOthers, Releases, has_record, is_foreign, is_since, kept_of, named_by};
 
+use crate::changes_below::path_of_change;
 use crate::history::Change;
-use crate::steps::{ParentStep, Step};
-use std::alloc::AllocError;
+use crate::kept::Kept;
+use crate::slots::{Slot, slot_at};
+use crate::steps::{Own, ParentStep, Step};
+use std::alloc::{AllocError, Global};
 use up_access::{AccessText, Rule};
+use up_entry::Rec;
 use up_group::GroupText;
 use up_maps::OrderedMap;
 use up_names::{Item, Path, User};
 
-/// Whether a group is another owner's and not among the paths yet.
-fn is_new(owner: &User, others: &OrderedMap<Path, ()>, group: &Path) -> bool
-    ensures { result ≡ (not (bytes_eq group.now.owner owner.now)
-        && is_none (find path_cmp group.now others.now.entries)) }
-{
-    group.owner() != owner && others.get(group).is_none()
+/// What is kept of a group of another owner that some text names, or has named.
+#[derive(Drop)]
+pub(crate) struct Named {
+    /// The positions of the records whose texts name it now; perhaps also of one that was made ready and never entered.
+    pub(crate) by: OrderedMap<u64, ()>,
+    /// The position of the last record that replaced such a text, or 0.
+    pub(crate) until: u64,
 }
 
-/// Adds a path. An `Err` changes nothing.
-#[tactic(auto, using(crate::proofs::Othered::put_keys))]
-fn add_path(others: &mut OrderedMap<Path, ()>, path: Path) -> Result<(), AllocError>
-    ensures { keys_of others.new.entries
-        ≡ (if is_ok result then with_path path (keys_of others.old.entries)
-        else keys_of others.old.entries) }
-{
-    others.reserve_one()?;
-    others.put_reserved(path, ());
-    Ok(())
+/// The groups of other owners that texts name, or have named. It only grows.
+#[derive(Drop)]
+pub(crate) struct Others {
+    /// Their numbers.
+    pub(crate) numbers: OrderedMap<Path, usize>,
+    /// What is kept of each, at its number.
+    pub(crate) named: Vec<Named>,
 }
 
-/// Adds a group, where it is another owner's and not there yet.
-#[tactic(auto, using(crate::proofs::Othered::kept_all, crate::proofs::Othered::kept_with, crate::proofs::Othered::not_new, crate::proofs::Othered::now_there_ok))]
+impl Named {
+    /// Whether a text names it, or has named it that was replaced later than after the first `n` records.
+    fn is_since(&self, n: u64) -> bool
+        ensures { result ≡ is_since n (Some self.now) }
+    {
+        self.by.len() != 0 || n < self.until
+    }
+
+    /// A record's text names it.
+    fn note(&mut self, position: u64) -> Result<(), AllocError>
+        ensures kept { (p : ℕ) → has_record p (Some self.old) ≡ true → has_record p (Some self.new) ≡ true }
+        ensures since { (n : ℕ) → is_since n (Some self.old) ≡ true → is_since n (Some self.new) ≡ true }
+        ensures noted { OnOk result (has_record position (Some self.new) ≡ true) }
+    {
+        self.by.reserve_one()?;
+        self.by.put_reserved(position, ());
+        Ok(())
+    }
+
+    /// The text of the record at `gone` is replaced.
+    fn release(&mut self, gone: u64, position: u64)
+        ensures kept { (p : ℕ) → p ≢ gone → has_record p (Some self.old) ≡ true → has_record p (Some self.new) ≡ true }
+        ensures since { (n : ℕ) → n < position → is_since n (Some self.new) ≡ true }
+    {
+        let _was = self.by.remove(&gone);
+        self.until = position;
+    }
+}
+
+impl Others {
+    /// None. It takes no memory.
+    pub(crate) fn new(alloc: Global) -> Others {
+        Others {
+            numbers: OrderedMap::new(alloc),
+            named: Vec::new(alloc),
+        }
+    }
+
+    /// The number of a group, where one is kept.
+    fn number(&self, group: &Path) -> Option<usize>
+        ensures { MatchOption result ((id : ℕ)
+            → find path_cmp group.now self.now.numbers.entries ≡ Some id
+            → length self.now.named.items ≤ id)
+            (λ id. (find path_cmp group.now self.now.numbers.entries ≡ Some id)
+            × (id < length self.now.named.items)) }
+    {
+        let id = *self.numbers.get(group)?;
+        if id < self.named.len() {
+            Some(id)
+        } else {
+            None
+        }
+    }
+
+    /// Whether a text names a group, or has named it that was replaced later than after the first `n` records, as far as is known.
+    pub(crate) fn is_named_since(&self, group: &Path, n: u64) -> bool
+        ensures { result ≡ is_since n (kept_of self.now group.now) }
+    {
+        match self.numbers.get(group) {
+            Some(id) => match self.named.get(*id) {
+                Some(named) => named.is_since(n),
+                None => false,
+            },
+            None => false,
+        }
+    }
+
+    /// The record at a position names the group with that number.
+    fn note_at(&mut self, id: usize, position: u64) -> Result<(), AllocError>
+        requires { id < length self.old.named.items }
+        ensures kept { Grows self.old self.new }
+        ensures noted { OnOk result ((group : PathName)
+            → find path_cmp group self.old.numbers.entries ≡ Some id
+            → has_record position (kept_of self.new group) ≡ true) }
+    {
+        self.named[id].note(position)
+    }
+
+    /// A group gets the next number. An `Err` changes nothing of what is known.
+    fn add(&mut self, group: Path) -> Result<usize, AllocError>
+        requires { (id : ℕ) → find path_cmp group self.old.numbers.entries ≡ Some id
+            → length self.old.named.items ≤ id }
+        ensures kept { Grows self.old self.new }
+        ensures number { IfOk result (λ id. find path_cmp group self.new.numbers.entries ≡ Some id) }
+        ensures within { IfOk result (λ id. id < length self.new.named.items) }
+    {
+        let id = self.named.len();
+        let alloc = *self.named.allocator();
+        self.numbers.reserve_one()?;
+        self.named.reserve(1)?;
+        self.numbers.put_reserved(group, id);
+        self.named.push_reserved(Named {
+            by: OrderedMap::new(alloc),
+            until: 0,
+        });
+        Ok(id)
+    }
+
+    /// The number of a group; the next one, where it has none yet.
+    #[tactic(auto, using(crate::proofs::Held::grows_all))]
+    fn number_of(&mut self, group: &Path) -> Result<usize, AllocError>
+        ensures kept { Grows self.old self.new }
+        ensures number { IfOk result (λ id. find path_cmp group.now self.new.numbers.entries ≡ Some id) }
+        ensures within { IfOk result (λ id. id < length self.new.named.items) }
+    {
+        match self.number(group) {
+            Some(id) => Ok(id),
+            None => {
+                let copy = group.clone()?;
+                self.add(copy)
+            }
+        }
+    }
+
+    /// The text of the record at `gone`, which names a group, is replaced.
+    fn release_group(&mut self, group: &Path, gone: u64, position: u64)
+        ensures { Releases (Some gone) position self.old self.new }
+    {
+        if let Some(id) = self.number(group) {
+            self.named[id].release(gone, position);
+        }
+    }
+
+    /// The same for the group that an item is, where it is one.
+    #[tactic(auto, using(crate::proofs::Held::releases_all))]
+    fn release_item(&mut self, item: &Item, gone: u64, position: u64)
+        ensures { Releases (Some gone) position self.old self.new }
+    {
+        if let Item::Group(group) = item {
+            self.release_group(group, gone, position);
+        }
+    }
+
+    /// The same for the groups among these items.
+    fn release_items(&mut self, items: &[Item], gone: u64, position: u64)
+        ensures { Releases (Some gone) position self.old self.new }
+    {
+        for item in items {
+            self.release_item(item, gone, position);
+        }
+    }
+
+    /// The same for the groups that these rules name.
+    fn release_rules(&mut self, rules: &[Rule], gone: u64, position: u64)
+        ensures { Releases (Some gone) position self.old self.new }
+    {
+        for rule in rules {
+            self.release_items(rule.items.as_slice(), gone, position);
+        }
+    }
+
+    /// The same for the texts that a step replaces.
+    #[tactic(auto, using(crate::proofs::Held::releases_all, crate::proofs::Held::releases_then))]
+    fn release_texts(&mut self, slots: &[Slot], step: &Step, gone: u64, position: u64)
+        ensures { Releases (Some gone) position self.old self.new }
+    {
+        if let Some(text) = replaced_access(slots, step) {
+            self.release_rules(text.rules(), gone, position);
+        }
+        if let Some(text) = replaced_group(slots, step) {
+            self.release_items(text.items(), gone, position);
+        }
+    }
+
+    /// The texts that the step of a record replaces no longer name what they have named. It takes no memory.
+    pub(crate) fn release(&mut self, kept: &Kept, rec: &Rec, step: &Option<Step>)
+        requires { Stands kept.now }
+        ensures { Releases (option_and_then (last_change kept.now.log.items) (path_of_change rec.now))
+            (length kept.now.log.items + 1) self.old self.new }
+    {
+        let Some(step) = step else {
+            return;
+        };
+        if !replaces_text(step) {
+            return;
+        }
+        let position = kept.log.len() as u64 + 1;
+        if let Some(gone) = last_of(kept, rec) {
+            self.release_texts(kept.slots.as_slice(), step, gone, position);
+        }
+    }
+}
+
+/// Whether a step replaces a text, or makes one.
+fn replaces_text(step: &Step) -> bool {
+    if step.group.is_some() {
+        return true;
+    }
+    match &step.parent {
+        Some(parent) => parent.access.is_some(),
+        None => false,
+    }
+}
+
+/// The position of the last change of the path that a record changes.
+fn last_of(kept: &Kept, rec: &Rec) -> Option<u64>
+    requires { Stands kept.now }
+    ensures { result ≡ option_and_then (last_change kept.now.log.items) (path_of_change rec.now) }
+{
+    kept.last_change(path_of_change(rec)?)
+}
+
+/// The text of an Access file that a step replaces.
+fn replaced_access<'a>(slots: &'a [Slot], step: &Step) -> Option<&'a AccessText> {
+    let parent = step.parent.as_ref()?;
+    parent.access.as_ref()?;
+    slot_at(slots, parent.id)?.access.last()?.text.as_ref()
+}
+
+/// The text of a Group file that a step replaces.
+fn replaced_group<'a>(slots: &'a [Slot], step: &Step) -> Option<&'a GroupText> {
+    step.group.as_ref()?;
+    match &step.own {
+        Own::There(id) => slot_at(slots, *id)?.group.last()?.text.as_ref(),
+        Own::New(_) => None,
+    }
+}
+
+/// Whether a group is another owner's.
+fn is_foreign(owner: &User, group: &Path) -> bool
+    ensures { result ≡ is_foreign owner.now group.now }
+{
+    group.owner() != owner
+}
+
+/// Adds a group, where it is another owner's, with the position of the record that names it.
+#[tactic(auto, using(crate::proofs::Held::grows_all, crate::proofs::Held::grows_then, crate::proofs::Othered::group_own))]
 fn add_group(
     owner: &User,
-    others: &mut OrderedMap<Path, ()>,
+    others: &mut Others,
+    position: u64,
     group: &Path,
 ) -> Result<(), AllocError>
-    ensures kept { KeepsPaths (keys_of others.old.entries) (keys_of others.new.entries) }
+    ensures kept { Grows others.old others.new }
     ensures added { OnOk result
-        (HasOthers owner.now (keys_of others.new.entries) (group.now ∷ [])) }
+        (HasOthers owner.now (named_by others.new position) (group.now ∷ [])) }
 {
-    if !is_new(owner, others, group) {
+    if !is_foreign(owner, group) {
         return Ok(());
     }
-    let copy = group.clone()?;
-    add_path(others, copy)
+    let id = others.number_of(group)?;
+    others.note_at(id, position)
 }
 
 /// Adds the group that an item is, where it is one.
-#[tactic(auto, using(crate::proofs::Othered::kept_all, crate::proofs::Othered::none_tested))]
-fn add_item(owner: &User, others: &mut OrderedMap<Path, ()>, item: &Item) -> Result<(), AllocError>
-    ensures kept { KeepsPaths (keys_of others.old.entries) (keys_of others.new.entries) }
+#[tactic(auto, using(crate::proofs::Held::grows_all, crate::proofs::Othered::none_tested))]
+fn add_item(owner: &User, others: &mut Others, position: u64, item: &Item) -> Result<(), AllocError>
+    ensures kept { Grows others.old others.new }
     ensures added { OnOk result
-        (HasOthers owner.now (keys_of others.new.entries) (groups_in (item.now ∷ []))) }
+        (HasOthers owner.now (named_by others.new position) (groups_in (item.now ∷ []))) }
 {
     match item {
-        Item::Group(group) => add_group(owner, others, group),
+        Item::Group(group) => add_group(owner, others, position, group),
         Item::Everyone | Item::Domain(_) | Item::User(_) => Ok(()),
     }
 }
@@ -71,15 +300,16 @@ fn add_item(owner: &User, others: &mut OrderedMap<Path, ()>, item: &Item) -> Res
 /// Adds the groups among these items.
 fn add_items(
     owner: &User,
-    others: &mut OrderedMap<Path, ()>,
+    others: &mut Others,
+    position: u64,
     items: &[Item],
 ) -> Result<(), AllocError>
-    ensures kept { KeepsPaths (keys_of others.old.entries) (keys_of others.new.entries) }
+    ensures kept { Grows others.old others.new }
     ensures added { OnOk result
-        (HasOthers owner.now (keys_of others.new.entries) (groups_in items.now)) }
+        (HasOthers owner.now (named_by others.new position) (groups_in items.now)) }
 {
     for item in items {
-        add_item(owner, others, item)?;
+        add_item(owner, others, position, item)?;
     }
     Ok(())
 }
@@ -87,33 +317,35 @@ fn add_items(
 /// Adds the groups that these rules name.
 fn add_rules(
     owner: &User,
-    others: &mut OrderedMap<Path, ()>,
+    others: &mut Others,
+    position: u64,
     rules: &[Rule],
 ) -> Result<(), AllocError>
-    ensures kept { KeepsPaths (keys_of others.old.entries) (keys_of others.new.entries) }
+    ensures kept { Grows others.old others.new }
     ensures added { OnOk result
-        (HasOthers owner.now (keys_of others.new.entries) (groups_named rules.now)) }
+        (HasOthers owner.now (named_by others.new position) (groups_named rules.now)) }
 {
     for rule in rules {
-        add_items(owner, others, rule.items.as_slice())?;
+        add_items(owner, others, position, rule.items.as_slice())?;
     }
     Ok(())
 }
 
 /// Adds those that the new text of an Access file names.
-#[tactic(auto, using(crate::proofs::Othered::kept_all))]
+#[tactic(auto, using(crate::proofs::Held::grows_all))]
 fn add_access(
     owner: &User,
-    others: &mut OrderedMap<Path, ()>,
+    others: &mut Others,
+    position: u64,
     access: &Option<Change<AccessText>>,
 ) -> Result<(), AllocError>
-    ensures kept { KeepsPaths (keys_of others.old.entries) (keys_of others.new.entries) }
+    ensures kept { Grows others.old others.new }
     ensures added { OnOk result
-        (HasAccessOthers owner.now (keys_of others.new.entries) access.now) }
+        (HasAccessOthers owner.now (named_by others.new position) access.now) }
 {
     match access {
         Some(change) => match &change.text {
-            Some(text) => add_rules(owner, others, text.rules()),
+            Some(text) => add_rules(owner, others, position, text.rules()),
             None => Ok(()),
         },
         None => Ok(()),
@@ -121,19 +353,20 @@ fn add_access(
 }
 
 /// Adds those that the new text of a Group file names.
-#[tactic(auto, using(crate::proofs::Othered::kept_all))]
+#[tactic(auto, using(crate::proofs::Held::grows_all))]
 fn add_group_text(
     owner: &User,
-    others: &mut OrderedMap<Path, ()>,
+    others: &mut Others,
+    position: u64,
     group: &Option<Change<GroupText>>,
 ) -> Result<(), AllocError>
-    ensures kept { KeepsPaths (keys_of others.old.entries) (keys_of others.new.entries) }
+    ensures kept { Grows others.old others.new }
     ensures added { OnOk result
-        (HasGroupOthers owner.now (keys_of others.new.entries) group.now) }
+        (HasGroupOthers owner.now (named_by others.new position) group.now) }
 {
     match group {
         Some(change) => match &change.text {
-            Some(text) => add_items(owner, others, text.items()),
+            Some(text) => add_items(owner, others, position, text.items()),
             None => Ok(()),
         },
         None => Ok(()),
@@ -141,44 +374,51 @@ fn add_group_text(
 }
 
 /// Adds those of the directory above, where it gets a text.
-#[tactic(auto, using(crate::proofs::Othered::kept_all))]
+#[tactic(auto, using(crate::proofs::Held::grows_all))]
 fn add_parent(
     owner: &User,
-    others: &mut OrderedMap<Path, ()>,
+    others: &mut Others,
+    position: u64,
     parent: &Option<ParentStep>,
 ) -> Result<(), AllocError>
-    ensures kept { KeepsPaths (keys_of others.old.entries) (keys_of others.new.entries) }
+    ensures kept { Grows others.old others.new }
     ensures added { OnOk result
-        (HasParentOthers owner.now (keys_of others.new.entries) parent.now) }
+        (HasParentOthers owner.now (named_by others.new position) parent.now) }
 {
     match parent {
-        Some(parent) => add_access(owner, others, &parent.access),
+        Some(parent) => add_access(owner, others, position, &parent.access),
         None => Ok(()),
     }
 }
 
 /// Adds those that the texts of a step name.
-#[tactic(auto, using(crate::proofs::Othered::kept_then))]
-fn add_texts(owner: &User, others: &mut OrderedMap<Path, ()>, step: &Step) -> Result<(), AllocError>
-    ensures kept { KeepsPaths (keys_of others.old.entries) (keys_of others.new.entries) }
-    ensures added { OnOk result (HasTextsOthers owner.now (keys_of others.new.entries) step.now) }
+#[tactic(auto, using(crate::proofs::Held::grows_then))]
+fn add_texts(
+    owner: &User,
+    others: &mut Others,
+    position: u64,
+    step: &Step,
+) -> Result<(), AllocError>
+    ensures kept { Grows others.old others.new }
+    ensures added { OnOk result (HasTextsOthers owner.now (named_by others.new position) step.now) }
 {
-    add_parent(owner, others, &step.parent)?;
-    add_group_text(owner, others, &step.group)
+    add_parent(owner, others, position, &step.parent)?;
+    add_group_text(owner, others, position, &step.group)
 }
 
 /// Adds the groups of other owners that the texts of a record's step name.
-#[tactic(auto, using(crate::proofs::Othered::kept_all))]
+#[tactic(auto, using(crate::proofs::Held::grows_all))]
 pub(crate) fn add_step(
     owner: &User,
-    others: &mut OrderedMap<Path, ()>,
+    others: &mut Others,
+    position: u64,
     step: &Option<Step>,
 ) -> Result<(), AllocError>
-    ensures kept { KeepsPaths (keys_of others.old.entries) (keys_of others.new.entries) }
-    ensures added { OnOk result (HasStepOthers owner.now (keys_of others.new.entries) step.now) }
+    ensures kept { Grows others.old others.new }
+    ensures added { OnOk result (HasStepOthers owner.now (named_by others.new position) step.now) }
 {
     match step {
-        Some(step) => add_texts(owner, others, step),
+        Some(step) => add_texts(owner, others, position, step),
         None => Ok(()),
     }
 }

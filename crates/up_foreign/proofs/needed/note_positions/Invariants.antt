@@ -11,4 +11,4 @@ abbrev pub invariant-loop-position : goal.invariant-loop-position
 invariant-loop-position l =
     AreBothNoted l.tree l.loaded l.times l.names
     × (l.names ≡ with_paths l.fn.names (flat_map (needed_in l.tree.owner l.loaded) (flat_map (places_at l.tree.log) (take l.position-index l.positions))))
-    × MayCover l.tree l.loaded l.left l.names
+    × MayCover l.tree l.loaded l.above l.left l.names

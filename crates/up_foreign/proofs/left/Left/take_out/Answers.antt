@@ -5,6 +5,6 @@ use Rattle.up_foreign.proofs.ReachLemmas.{covers_without}
 use Rattle.up_foreign.proofs.left.Left.take_out.Goals as goal
 
 pub returns-in-Some-clause-covered : goal.returns-in-Some-clause-covered
-returns-in-Some-clause-covered c = λ tree loaded.
-    covers_without tree loaded c.args.self.now.groups.entries c.remove-was.new.self.entries c.args.names.now c.in-Some.name.now
+returns-in-Some-clause-covered c = λ tree loaded since.
+    covers_without tree loaded since c.args.self.now.groups.entries c.remove-was.new.self.entries c.args.names.now c.in-Some.name.now
     (Contains-at c.args.names.now c.args.i c.in-Some.name.now (sym c.get.ensures ∙ ap option_copied c.in-Some.is)) c.remove-was.ensures.entries
