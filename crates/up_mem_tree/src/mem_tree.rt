@@ -290,8 +290,8 @@ impl MemTree {
         Ok(Items::from_vec(Vec::from_slice(*self.groups.allocator(), positions)?))
     }
 
-    /// The groups of other owners that a text of an Access or Group file names, or has named once: each of them is among these. It
-    /// takes no memory.
+    /// The groups of other owners that a text of an Access or Group file names, or has named once: each of them is among these, with a
+    /// number of the tree's own, which says nothing to the caller. It takes no memory.
     pub fn others(&self) -> &OrderedMap<Path, usize>
         ensures { HasAllOthers self.now.owner self.now.log (keys_of result.now.entries) }
     {

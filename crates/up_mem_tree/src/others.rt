@@ -31,7 +31,7 @@ pub(crate) struct Named {
     pub(crate) until: u64,
 }
 
-/// The groups of other owners that texts name, or have named. It only grows.
+/// The groups of other owners that texts name, or have named. A group that is here once stays.
 #[derive(Drop)]
 pub(crate) struct Others {
     /// Their numbers.
