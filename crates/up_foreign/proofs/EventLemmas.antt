@@ -200,20 +200,6 @@ own_changes tree path above positions owned are = subst (AllByRecursion (IsOwnCh
   | inr ge ↦ subst (λ rs. AllByRecursion (IsOwnChange tree) (positions_of (changes_some (λ name. is_under name path)) above rs)) (sym (drop_all above tree.log (omega (arith, ge)))) tt
 ])
 
--- they are above the sequence
-positions_late : (test : Rec → Bool) (n m : ℕ) (records : List Rec) → m ≤ n → AllByRecursion (λ k. m < k) (positions_of test n records)
-positions_late test n m [] le = tt
-positions_late test n m (rec ∷ records) le = go (test rec) (positions_late test (suc n) m records (omega (arith, le)))
-  where
-    go : (b : Bool) → AllByRecursion (λ k. m < k) (positions_of test (suc n) records) → AllByRecursion (λ k. m < k) (if b then suc n ∷ positions_of test (suc n) records else positions_of test (suc n) records)
-    go true rest = (omega (arith, le), rest)
-    go false rest = rest
-
-pub late_changes : (records : List Rec) (path : PathName) (above : ℕ) (positions : List ℕ) → positions ≡ changes_under records path above → AllByRecursion (λ n. above < n) positions
-unfolding changes_under
-late_changes records path above positions are =
-    subst (AllByRecursion (λ n. above < n)) (sym are) (positions_late (changes_some (λ name. is_under name path)) above above (drop above records) (omega arith))
-
 pub own_at : (tree : TreeLog) (positions : List ℕ) (i d : ℕ) → AllByRecursion (IsOwnChange tree) positions → i < length positions → IsOwnChange tree (get_or positions i d)
 own_at tree [] i d all within = absurd (omega (arith, within))
 own_at tree (n ∷ positions) zero d all within = all.0

@@ -8,3 +8,4 @@ pub mod StartLemmas
 pub mod TimesLemmas
 pub mod WalkLemmas
 pub mod WatchLemmas
+pub mod LeftLemmas

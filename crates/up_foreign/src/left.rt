@@ -1,11 +1,11 @@
-//! What can still be needed: a search ends once all of it was found.
-ghost use Rattle.std.specs.Prelude.{◌≡◌, ◌∷◌, [], ℕ, true, IfOk, OnOk, is_ok, if◌then◌else◌, length, nat_lt};
+//! What can still be needed, and from which change on: a search passes over changes at which nothing can be, and ends once all was found.
+ghost use Rattle.std.specs.Prelude.{◌≡◌, ◌≤◌, ◌<◌, ◌∷◌, [], ℕ, true, IfOk, OnOk, Some, length, slice_get, Contains};
+ghost use Rattle.std.specs.FinMap.Entries.{find};
 ghost use Rattle.std.specs.Map.{keys_of};
-ghost use Rattle.up_foreign.specs.Reaching.{CoversNeeds, HasReadOnes, HasStillNamed, MayCover, is_unanswered};
-ghost use Rattle.up_log_tree.specs.Orders.{with_path};
+ghost use Rattle.up_foreign.specs.Reaching.{AreLeft, AreLeftWhereMet, HasReadOnes, IsLeftAt, IsNeededBy, IsRising, IsSoon, KeepsLeft, MayCover, is_unanswered};
 ghost use Rattle.up_mem_tree.specs.MemTrees.{TreeLog};
-ghost use Rattle.up_mem_tree.specs.Others.{HasTested, KeepsPaths};
 ghost use Rattle.up_names.specs.PathNames.{PathName};
+ghost use Rattle.up_names.specs.PathOrder.{path_cmp};
 ghost use Rattle.up_policy.specs.Loadings.{Loading};
 ghost use Rattle.up_policy.specs.Members.{groups_in};
 
@@ -15,10 +15,15 @@ use up_mem_tree::MemTree;
 use up_names::{Item, Path, User};
 use up_policy::{Loaded, Names};
 
-/// The groups that can be needed and are not among the names yet, how many of the names were looked at, and whether all were gathered.
+/// With more groups left than this, the first position at which one of them can be needed is not looked for anew.
+const FEW: u64 = 256;
+
+/// The groups that can be needed and are not among the names yet, each with a position before which it is not; one before which none of
+/// them is; how many of the names were looked at, and whether all groups were gathered.
 #[derive(Drop)]
 pub(crate) struct Left {
-    pub(crate) groups: OrderedMap<Path, ()>,
+    pub(crate) groups: OrderedMap<Path, u64>,
+    pub(crate) soon: u64,
     pub(crate) seen: u64,
     pub(crate) whole: bool,
 }
@@ -30,48 +35,56 @@ fn is_unanswered(owner: &User, loaded: &Loaded, group: &Path) -> bool
     group.owner() != owner && loaded.answer(group).is_none()
 }
 
-/// Adds a path. An `Err` changes nothing.
-#[tactic(auto, using(crate::proofs::WalkLemmas::put_keys))]
-fn add_path(groups: &mut OrderedMap<Path, ()>, path: Path) -> Result<(), AllocError>
-    ensures { keys_of groups.new.entries
-        ≡ (if is_ok result then with_path path (keys_of groups.old.entries)
-        else keys_of groups.old.entries) }
+/// The earlier one of a position and that at which a group is left already.
+fn earliest(groups: &OrderedMap<Path, u64>, group: &Path, from: u64) -> u64
+    ensures from { result ≤ from }
+    ensures was { (n : ℕ) → IsLeftAt groups.now.entries n group.now → result ≤ n }
+{
+    match groups.get(group) {
+        Some(was) => from.min(*was),
+        None => from,
+    }
+}
+
+/// Adds a group, which can be needed from a position on.
+fn add_path(groups: &mut OrderedMap<Path, u64>, group: Path, from: u64) -> Result<(), AllocError>
+    ensures kept { KeepsLeft groups.old.entries groups.new.entries }
+    ensures added { OnOk result ((n : ℕ) → from ≤ n → IsLeftAt groups.new.entries n group) }
 {
     groups.reserve_one()?;
-    groups.put_reserved(path, ());
+    let first = earliest(groups, &group, from);
+    groups.put_reserved(group, first);
     Ok(())
 }
 
-/// Adds a group, where it would have to be loaded.
-#[tactic(auto, using(up_mem_tree::proofs::Othered::kept_all, up_mem_tree::proofs::Othered::kept_with, crate::proofs::ReachLemmas::one_fewer, up_mem_tree::proofs::Othered::now_there_ok))]
+/// Adds a group, where it would have to be loaded, wherever it is reached.
 fn add_group(
     owner: &User,
     loaded: &Loaded,
     group: &Path,
-    groups: &mut OrderedMap<Path, ()>,
+    groups: &mut OrderedMap<Path, u64>,
 ) -> Result<(), AllocError>
-    ensures kept { KeepsPaths (keys_of groups.old.entries) (keys_of groups.new.entries) }
-    ensures added { OnOk result (HasTested (is_unanswered owner.now loaded.now)
-        (keys_of groups.new.entries) (group.now ∷ [])) }
+    ensures kept { KeepsLeft groups.old.entries groups.new.entries }
+    ensures added { OnOk result
+        (AreLeft owner.now loaded.now groups.new.entries (group.now ∷ [])) }
 {
     if !is_unanswered(owner, loaded, group) {
         return Ok(());
     }
     let copy = group.clone()?;
-    add_path(groups, copy)
+    add_path(groups, copy, 0)
 }
 
 /// Adds the group that an item is, where it is one.
-#[tactic(auto, using(up_mem_tree::proofs::Othered::kept_all, up_mem_tree::proofs::Othered::none_tested))]
 fn add_item(
     owner: &User,
     loaded: &Loaded,
     item: &Item,
-    groups: &mut OrderedMap<Path, ()>,
+    groups: &mut OrderedMap<Path, u64>,
 ) -> Result<(), AllocError>
-    ensures kept { KeepsPaths (keys_of groups.old.entries) (keys_of groups.new.entries) }
-    ensures added { OnOk result (HasTested (is_unanswered owner.now loaded.now)
-        (keys_of groups.new.entries) (groups_in (item.now ∷ []))) }
+    ensures kept { KeepsLeft groups.old.entries groups.new.entries }
+    ensures added { OnOk result
+        (AreLeft owner.now loaded.now groups.new.entries (groups_in (item.now ∷ []))) }
 {
     match item {
         Item::Group(group) => add_group(owner, loaded, group, groups),
@@ -79,16 +92,16 @@ fn add_item(
     }
 }
 
-/// Adds the groups among these items.
+/// Adds those among these items.
 fn add_items(
     owner: &User,
     loaded: &Loaded,
     items: &[Item],
-    groups: &mut OrderedMap<Path, ()>,
+    groups: &mut OrderedMap<Path, u64>,
 ) -> Result<(), AllocError>
-    ensures kept { KeepsPaths (keys_of groups.old.entries) (keys_of groups.new.entries) }
-    ensures added { OnOk result (HasTested (is_unanswered owner.now loaded.now)
-        (keys_of groups.new.entries) (groups_in items.now)) }
+    ensures kept { KeepsLeft groups.old.entries groups.new.entries }
+    ensures added { OnOk result
+        (AreLeft owner.now loaded.now groups.new.entries (groups_in items.now)) }
 {
     for item in items {
         add_item(owner, loaded, item, groups)?;
@@ -96,57 +109,15 @@ fn add_items(
     Ok(())
 }
 
-/// Adds a group that the tree's texts name or have named, where one did that was in force after the first `since` records, or after more.
-fn add_other(
-    tree: &MemTree,
-    loaded: &Loaded,
-    since: u64,
-    group: &Path,
-    groups: &mut OrderedMap<Path, ()>,
-) -> Result<(), AllocError>
-    ensures kept { KeepsPaths (keys_of groups.old.entries) (keys_of groups.new.entries) }
-    ensures added { OnOk result (HasStillNamed tree.now loaded.now since
-        (keys_of groups.new.entries) (group.now ∷ [])) }
-{
-    if !tree.is_named_since(group, since) {
-        return Ok(());
-    }
-    add_group(tree.owner(), loaded, group, groups)
-}
-
-/// Adds those that the tree's texts name, or have named since then.
-fn add_others(
-    tree: &MemTree,
-    loaded: &Loaded,
-    since: u64,
-    others: &OrderedMap<Path, usize>,
-    groups: &mut OrderedMap<Path, ()>,
-) -> Result<(), AllocError>
-    ensures kept { KeepsPaths (keys_of groups.old.entries) (keys_of groups.new.entries) }
-    ensures added { OnOk result (HasStillNamed tree.now loaded.now since
-        (keys_of groups.new.entries) (keys_of others.now.entries)) }
-{
-    for i in 0..u64::MAX {
-        let Some(group) = others.key_at(i) else {
-            return Ok(());
-        };
-        add_other(tree, loaded, since, group, groups)?;
-    }
-    // No memory holds so many.
-    Err(AllocError)
-}
-
 /// Adds those that a loaded text names.
-#[tactic(auto, using(up_mem_tree::proofs::Othered::kept_all))]
 fn add_text(
     owner: &User,
     loaded: &Loaded,
     name: &Path,
-    groups: &mut OrderedMap<Path, ()>,
+    groups: &mut OrderedMap<Path, u64>,
 ) -> Result<(), AllocError>
-    ensures kept { KeepsPaths (keys_of groups.old.entries) (keys_of groups.new.entries) }
-    ensures added { OnOk result
-        (HasReadOnes owner.now loaded.now name.now (keys_of groups.new.entries)) }
+    ensures kept { KeepsLeft groups.old.entries groups.new.entries }
+    ensures added { OnOk result (HasReadOnes owner.now loaded.now name.now groups.new.entries) }
 {
     match loaded.text(name) {
         Some(text) => add_items(owner, loaded, text.items(), groups),
@@ -158,11 +129,11 @@ fn add_text(
 fn add_loaded(
     owner: &User,
     loaded: &Loaded,
-    groups: &mut OrderedMap<Path, ()>,
+    groups: &mut OrderedMap<Path, u64>,
 ) -> Result<(), AllocError>
-    ensures kept { KeepsPaths (keys_of groups.old.entries) (keys_of groups.new.entries) }
+    ensures kept { KeepsLeft groups.old.entries groups.new.entries }
     ensures added { OnOk result ((name : PathName)
-        → HasReadOnes owner.now loaded.now name (keys_of groups.new.entries)) }
+        → HasReadOnes owner.now loaded.now name groups.new.entries) }
 {
     for i in 0..u64::MAX {
         let Some(name) = loaded.name(i) else {
@@ -174,53 +145,160 @@ fn add_loaded(
     Err(AllocError)
 }
 
-/// Adds all that can be needed in a tree, as it was after the first `since` records, and after each since.
+/// What can be needed is looked for at the changes above a position that change a path under this one.
+#[derive(Clone, Copy)]
+pub(crate) struct Range<'a> {
+    pub(crate) path: &'a Path,
+    pub(crate) above: u64,
+}
+
+/// Adds a group that the tree's texts name, or have named, where it would have to be loaded: from the first change on at which it can be
+/// met, for which at most so many texts are looked at.
+fn add_other(
+    tree: &MemTree,
+    loaded: &Loaded,
+    range: Range,
+    most: u64,
+    group: &Path,
+    groups: &mut OrderedMap<Path, u64>,
+) -> Result<(), AllocError>
+    ensures kept { KeepsLeft groups.old.entries groups.new.entries }
+    ensures added { OnOk result (AreLeftWhereMet tree.now loaded.now range.entry.path.now range.entry.above
+        groups.new.entries (group.now ∷ [])) }
+{
+    if !is_unanswered(tree.owner(), loaded, group) {
+        return Ok(());
+    }
+    let Some(first) = tree.first_naming(group, range.path, range.above, most) else {
+        return Ok(());
+    };
+    let copy = group.clone()?;
+    add_path(groups, copy, first)
+}
+
+/// Adds those that the tree's texts name, or have named.
+fn add_others(
+    tree: &MemTree,
+    loaded: &Loaded,
+    range: Range,
+    most: u64,
+    others: &OrderedMap<Path, usize>,
+    groups: &mut OrderedMap<Path, u64>,
+) -> Result<(), AllocError>
+    ensures kept { KeepsLeft groups.old.entries groups.new.entries }
+    ensures added { OnOk result (AreLeftWhereMet tree.now loaded.now range.entry.path.now range.entry.above
+        groups.new.entries (keys_of others.now.entries)) }
+{
+    for i in 0..u64::MAX {
+        let Some(group) = others.key_at(i) else {
+            return Ok(());
+        };
+        add_other(tree, loaded, range, most, group, groups)?;
+    }
+    // No memory holds so many.
+    Err(AllocError)
+}
+
+/// Adds all that can be needed at the changes of a range.
 fn add_all(
     tree: &MemTree,
     loaded: &Loaded,
-    since: u64,
+    range: Range,
+    most: u64,
     others: &OrderedMap<Path, usize>,
-    groups: &mut OrderedMap<Path, ()>,
+    groups: &mut OrderedMap<Path, u64>,
 ) -> Result<(), AllocError>
-    ensures own { OnOk result (HasStillNamed tree.now loaded.now since
-        (keys_of groups.new.entries) (keys_of others.now.entries)) }
+    ensures own { OnOk result (AreLeftWhereMet tree.now loaded.now range.entry.path.now range.entry.above
+        groups.new.entries (keys_of others.now.entries)) }
     ensures read { OnOk result ((name : PathName)
-        → HasReadOnes tree.now.owner loaded.now name (keys_of groups.new.entries)) }
+        → HasReadOnes tree.now.owner loaded.now name groups.new.entries) }
 {
-    add_others(tree, loaded, since, others, groups)?;
+    add_others(tree, loaded, range, most, others, groups)?;
     add_loaded(tree.owner(), loaded, groups)
 }
 
-/// Whether there are fewer groups than places.
-fn are_fewer(groups: &OrderedMap<Path, usize>, places: usize) -> bool
-    ensures { result ≡ nat_lt (length groups.now.entries) places }
+/// The position of a group at a place, where there is one.
+fn from_at(groups: &OrderedMap<Path, u64>, i: u64) -> Option<u64>
+    ensures { (group : PathName) → Some group ≡ slice_get (keys_of groups.now.entries) i
+        → result ≡ find path_cmp group groups.now.entries }
 {
-    groups.len() < places as u64
+    groups.get(groups.key_at(i)?).copied()
+}
+
+/// The first position at which one of these groups can be needed; the greatest number where there are none, and 0 where they are many.
+fn soonest(groups: &OrderedMap<Path, u64>) -> u64
+    ensures { IsSoon groups.now.entries result }
+{
+    if groups.len() > FEW {
+        return 0;
+    }
+    let mut soon = u64::MAX;
+    for i in 0..groups.len() {
+        match from_at(groups, i) {
+            Some(from) => soon = soon.min(from),
+            None => return 0,
+        }
+    }
+    soon
+}
+
+/// The share of each of some groups, where so many texts may be looked at for all of them; none where there are not fewer groups.
+fn share_of(places: usize, groups: u64) -> Option<u64> {
+    if groups < places as u64 {
+        Some(places as u64 / groups.max(1))
+    } else {
+        None
+    }
+}
+
+/// The place of the first of some positions that is not before `soon`, from a place on.
+fn place_from(positions: &[u64], i: usize, soon: u64) -> usize
+    requires rising { IsRising positions.now }
+    requires within { i ≤ length positions.now }
+    ensures later { i ≤ result }
+    ensures within { result ≤ length positions.now }
+    ensures passed { (k n : ℕ) → k < result → i ≤ k → slice_get positions.now k ≡ Some n → n < soon }
+{
+    if i < positions.len() && soon <= positions[i] {
+        return i;
+    }
+    let mut low = i;
+    let mut high = positions.len();
+    while low < high {
+        let middle = low + (high - low) / 2;
+        if positions[middle] < soon {
+            low = middle + 1;
+        } else {
+            high = middle;
+        }
+    }
+    low
 }
 
 impl Left {
-    /// All that can be needed in a tree, as it was after the first `since` records, and after each since. Where more groups were ever
-    /// named than there are places to look at, nothing is gathered.
+    /// All that can be needed at the changes of a range, of which there are so many. Where more groups were ever named, nothing is gathered.
     pub(crate) fn new(
         alloc: Global,
         tree: &MemTree,
         loaded: &Loaded,
-        since: u64,
+        range: Range,
         places: usize,
     ) -> Result<Left, AllocError>
-        ensures { IfOk result (λ left. MayCover tree.now loaded.now since left []) }
+        ensures { IfOk result (λ left. MayCover tree.now loaded.now range.entry.path.now range.entry.above left []) }
     {
         let mut groups = OrderedMap::new(alloc);
         let others = tree.others();
-        if !are_fewer(others, places) {
+        let Some(most) = share_of(places, others.len()) else {
             return Ok(Left {
                 groups,
+                soon: 0,
                 seen: 0,
                 whole: false,
             });
-        }
-        match add_all(tree, loaded, since, others, &mut groups) {
+        };
+        match add_all(tree, loaded, range, most, others, &mut groups) {
             Ok(()) => Ok(Left {
+                soon: soonest(&groups),
                 groups,
                 seen: 0,
                 whole: true,
@@ -234,10 +312,10 @@ impl Left {
 
     /// Takes a name out.
     fn take_out(&mut self, names: &Names, i: u64)
-        ensures covered { (tree : TreeLog) (loaded : Loading) (since : ℕ)
-            → CoversNeeds tree loaded since (keys_of self.old.groups.entries) names.now
-            → CoversNeeds tree loaded since (keys_of self.new.groups.entries) names.now }
         ensures whole { self.new.whole ≡ self.old.whole }
+        ensures kept { (tree : TreeLog) (loaded : Loading) (path : PathName) (above : ℕ)
+            → MayCover tree loaded path above self.old names.now
+            → MayCover tree loaded path above self.new names.now }
     {
         if let Some(name) = names.get(i) {
             let _was = self.groups.remove(name);
@@ -245,11 +323,11 @@ impl Left {
     }
 
     /// Takes out the names that were found since.
-    fn pass(&mut self, names: &Names)
-        ensures covered { (tree : TreeLog) (loaded : Loading) (since : ℕ)
-            → CoversNeeds tree loaded since (keys_of self.old.groups.entries) names.now
-            → CoversNeeds tree loaded since (keys_of self.new.groups.entries) names.now }
+    fn take_found(&mut self, names: &Names)
         ensures whole { self.new.whole ≡ self.old.whole }
+        ensures kept { (tree : TreeLog) (loaded : Loading) (path : PathName) (above : ℕ)
+            → MayCover tree loaded path above self.old names.now
+            → MayCover tree loaded path above self.new names.now }
     {
         for i in self.seen..names.len() {
             self.take_out(names, i);
@@ -257,20 +335,40 @@ impl Left {
         self.seen = names.len();
     }
 
-    /// Whether all that can be needed is among the names. Each name is looked at once, however often this is asked.
-    pub(crate) fn is_done(&mut self, names: &Names) -> bool
-        ensures kept { (tree : TreeLog) (loaded : Loading) (since : ℕ)
-            → MayCover tree loaded since self.old names.now
-            → MayCover tree loaded since self.new names.now }
-        ensures found { result ≡ true → (tree : TreeLog) (loaded : Loading) (since : ℕ)
-            → MayCover tree loaded since self.old names.now
-            → CoversNeeds tree loaded since [] names.now }
+    /// Takes out the names that were found since, and looks for the first position of those that are left.
+    fn pass(&mut self, names: &Names)
+        ensures whole { self.new.whole ≡ self.old.whole }
+        ensures kept { (tree : TreeLog) (loaded : Loading) (path : PathName) (above : ℕ)
+            → MayCover tree loaded path above self.old names.now
+            → MayCover tree loaded path above self.new names.now }
+    {
+        let before = self.groups.len();
+        self.take_found(names);
+        if self.groups.len() < before {
+            self.soon = soonest(&self.groups);
+        }
+    }
+
+    /// The place, from `i` on, of the next position at which what is left can be needed; that behind the last one where nothing is. Each
+    /// name is looked at once, however often this is asked.
+    pub(crate) fn next(&mut self, names: &Names, positions: &[u64], i: usize) -> usize
+        requires rising { IsRising positions.now }
+        requires within { i ≤ length positions.now }
+        ensures later { i ≤ result }
+        ensures within { result ≤ length positions.now }
+        ensures kept { (tree : TreeLog) (loaded : Loading) (path : PathName) (above : ℕ)
+            → MayCover tree loaded path above self.old names.now
+            → MayCover tree loaded path above self.new names.now }
+        ensures found { (tree : TreeLog) (loaded : Loading) (path : PathName) (above : ℕ)
+            → MayCover tree loaded path above self.old names.now
+            → (k n : ℕ) (group : PathName) → i ≤ k → k < result → slice_get positions.now k ≡ Some n
+            → IsNeededBy tree loaded path above n group → Contains names.now group }
     {
         let whole = self.whole;
-        if whole {
-            self.pass(names);
-            return self.groups.len() == 0;
+        if !whole {
+            return i;
         }
-        false
+        self.pass(names);
+        place_from(positions, i, self.soon)
     }
 }

@@ -1,6 +1,6 @@
 //! Which groups have to be loaded for a request.
-ghost use Rattle.std.specs.Prelude.{◌≡◌, ◌≤◌, ◌<◌, ◌∷◌, true, IfOk, OnOk, length, map};
-ghost use Rattle.std.specs.List.{AllByRecursion, flat_map};
+ghost use Rattle.std.specs.Prelude.{◌≡◌, ◌≤◌, ◌<◌, ◌∷◌, true, IfOk, OnOk, length, map, slice_get};
+ghost use Rattle.std.specs.List.{flat_map};
 ghost use Rattle.std.specs.Map.{keys_of};
 ghost use Rattle.up_answers.specs.Needs.{event_places_to, items_where, needs, needs_asked, owner_places, places, places_for, watch_places, where_ordinary};
 ghost use Rattle.std.specs.Option.{option_and_then, option_copied};
@@ -9,7 +9,7 @@ ghost use Rattle.up_names.specs.PathNames.{extended, is_under};
 ghost use Rattle.up_foreign.specs.Items.{AreOwned};
 ghost use Rattle.up_foreign.specs.Kept.{Keeps};
 ghost use Rattle.up_foreign.specs.Watched.{watched_by};
-ghost use Rattle.up_log_tree.specs.Changes.{path_of_change};
+ghost use Rattle.up_log_tree.specs.Changes.{changes_under, path_of_change};
 ghost use Rattle.up_log_tree.specs.Logs.{Limits};
 ghost use Rattle.up_list.specs.Asking.{owner_asked};
 ghost use Rattle.up_policy.specs.Reached.{with_paths};
@@ -23,7 +23,7 @@ ghost use Rattle.up_tree.specs.States.{log_of};
 
 use crate::items::{items_matching, items_under};
 use crate::kept::KeptSearch;
-use crate::left::Left;
+use crate::left::{Left, Range};
 use crate::noted::{Noted, Times};
 use std::alloc::{AllocError, Global};
 use up_disk::Disk;
@@ -512,37 +512,50 @@ fn note_events(
 {
     tree.recall();
     let positions = tree.positions_under(path, above);
-    note_positions(alloc, tree, user, positions, above, loaded, noted, names)
+    let range = Range { path, above };
+    note_positions(alloc, tree, user, positions, range, loaded, noted, names)
 }
 
-/// Adds what is needed at the paths that the records at these positions change, all of them above a sequence. A text is looked at once,
-/// and again where it or a Group file has changed since; once all that can be needed was found, the positions behind are not looked at.
+/// Adds what is needed at the paths that the records at these positions change: those above a position that change a path under this one. A
+/// text is looked at once, and again where it or a Group file has changed since; positions at which nothing that is left can be needed are
+/// passed over by bisection, and once all was found, those behind are not looked at.
 fn note_positions(
     alloc: Global,
     tree: &MemTree,
     user: &User,
     positions: &[u64],
-    above: u64,
+    range: Range,
     loaded: &Loaded,
     noted: Noted,
     names: &mut Names,
 ) -> Result<(), AllocError>
-    requires owned { AllByRecursion (IsOwnChange tree.now) positions.now }
-    requires late { AllByRecursion (λ n. above < n) positions.now }
+    requires owned { range.path.now.owner ≡ tree.now.owner }
+    requires are { positions.now ≡ changes_under tree.now.log range.path.now range.above }
     requires noted { AreNoted tree.now loaded.now noted names.old }
     ensures { OnOk result (names.new
         ≡ with_paths names.old (flat_map (needed_in tree.now.owner loaded.now)
         (flat_map (places_at tree.now.log) positions.now))) }
 {
     let mut times = Times::new(alloc, noted);
-    let mut left = Left::new(alloc, tree, loaded, above, positions.len())?;
-    for position in positions {
-        if left.is_done(names) {
+    let mut left = Left::new(alloc, tree, loaded, range, positions.len())?;
+    let mut next = 0;
+    for _ in 0..u64::MAX {
+        next = left.next(names, positions, next);
+        let Some(position) = position_at(positions, next) else {
             return Ok(());
-        }
-        note_record(alloc, tree, user, *position, loaded, &mut times, names)?;
+        };
+        note_record(alloc, tree, user, position, loaded, &mut times, names)?;
+        next += 1;
     }
-    Ok(())
+    // No memory holds so many.
+    Err(AllocError)
+}
+
+/// The position at a place, where there is one.
+fn position_at(positions: &[u64], i: usize) -> Option<u64>
+    ensures { result ≡ slice_get positions.now i }
+{
+    positions.get(i).copied()
 }
 
 /// Adds what is needed at the path that record `n`, from 1, changes: as the tree is now, and as it was directly after the record.

@@ -1,14 +1,15 @@
 -- What is kept of the groups of other owners: what is known stays known.
-use Rattle.std.proofs.Common.{◌≡◌, ◌≢◌, ℕ, zero, suc, ◌+◌, ◌<◌, ◌≤◌, ◌==◌, Bool, true, false, not, cond, ◌&&◌, ◌||◌, List, [], ◌∷◌, ◌++◌, length, filter, refl, sym, ap, subst, ◌∙◌, inl, inr, arith, Option, Some, None, Result, Ok, Err, is_some, ltb-true}
+use Rattle.std.proofs.Common.{◌≡◌, ◌≢◌, ℕ, zero, suc, ◌<◌, ◌≤◌, ◌==◌, Bool, true, false, cond, ◌&&◌, ◌||◌, List, [], ◌∷◌, ◌++◌, length, get_or, filter, refl, sym, ap, subst, ◌∙◌, arith, Option, Some, None, Result, Ok, Err, is_some}
 use Rattle.std.proofs.Math.ListN.{set}
 use Rattle.std.specs.Prelude.{MatchOption, OnOk, nat_lt, slice_get}
-use Rattle.std.specs.Cmp.{Equal-is, nat_cmp_total, tied_itself}
-use Rattle.std.specs.FinMap.Entries.{find, find-put, find-where_key, put, where_key}
+use Rattle.std.specs.List.{list_any}
+use Rattle.std.specs.Cmp.{Equal-is, tied_itself}
+use Rattle.std.specs.FinMap.Entries.{find, find-put, put}
 use Rattle.std.specs.Map.{keys_of}
 use Rattle.std.specs.Option.{option_and_then}
-use Rattle.std.specs.Ordering.{eq_by_cmp, is_eq, nat_cmp}
-use Rattle.std.specs.declared.cmp.Ordering.TheVariants.{Equal}
-use Rattle.std.proofs.lemmas.Bool.{eqb-false, eqb-true, false≢true, lt-ltb, ne_eqb, or_right}
+use Rattle.std.specs.Ordering.{eq_by_cmp, is_eq}
+use Rattle.std.proofs.lemmas.Bool.{and_from, and_parts, eqb-false, eqb-true, false≢true, lt-ltb, or_right}
+use Rattle.std.proofs.lemmas.Option.{slice_get-get_or}
 use Rattle.up_names.specs.PathNames.{PathName}
 use Rattle.up_names.specs.PathOrder.{path_cmp}
 use Rattle.up_names.specs.PathOrderLaws.{path_cmp_total, path_exact}
@@ -17,53 +18,68 @@ use Rattle.up_log_tree.proofs.Paths.{some_none, some_same}
 use Rattle.up_log_tree.proofs.Rising.{has-filter}
 use Rattle.up_log_tree.proofs.Trees.{has_key}
 use Rattle.up_mem_tree.specs.declared.others.Named.{Named}
+use Rattle.up_mem_tree.specs.declared.others.Naming.{Naming}
 use Rattle.up_mem_tree.specs.declared.others.Others.{Others}
-use Rattle.up_mem_tree.specs.Others.{Grows, KeepsPaths, Releases, has_record, is_since, kept_of, named_by, named_since}
+use Rattle.up_mem_tree.specs.Others.{Grows, Releases, is_now, kept_of, named_at, named_by, named_then, names_now, was_then}
 use Rattle.up_mem_tree.proofs.SlotLemmas.{get-set, get_set}
-use Rattle.up_mem_tree.proofs.SnapTimes.{tied}
 
 -- ---- a group
 
--- some record
-since_by : (position n : ℕ) (o : Option Named) → has_record position o ≡ true → is_since n o ≡ true
-since_by position n None h = absurd (false≢true h)
-since_by position n (Some named) h = go named.by.entries named.until h
+-- a text that is in force still was in force
+pub then_by : (n position : ℕ) (o : Option Named) → names_now position o ≡ true → named_then n position o ≡ true
+then_by n position None h = absurd (false≢true h)
+then_by n position (Some named) h = go named.texts.items h
   where
-    go : (es : List (ℕ × (Unit {0}))) (until : ℕ) → is_some (find nat_cmp position es) ≡ true → (not (length es == 0) || nat_lt n until) ≡ true
-    go [] until h = absurd (false≢true h)
-    go (e ∷ es) until h = ap (λ b. not b || nat_lt n until) (ne_eqb (suc (length es)) 0 (λ same. omega (arith, same)))
+    one : (a b c : Bool) → (a && b) ≡ true → (a && (b || c)) ≡ true
+    one true true c h = refl
+    one true false c h = absurd (false≢true h)
+    one false b c h = absurd (false≢true h)
 
--- one more record
-module _ (position : ℕ) (old new : Named) (x : Unit {0}) (by : new.by.entries ≡ put nat_cmp position x old.by.entries) where
-  put_is : (p : ℕ) → find nat_cmp p new.by.entries ≡ cond (eq_by_cmp nat_cmp p position) (Some x) (find nat_cmp p old.by.entries)
-  put_is p = ap (find nat_cmp p) by ∙ find-put nat_cmp nat_cmp_total p position x old.by.entries
+    both : (a b c d : Bool) → (a ≡ true → c ≡ true) → (b ≡ true → d ≡ true) → (a || b) ≡ true → (c || d) ≡ true
+    both true b c d first rest h = ap (λ x. x || d) (first refl)
+    both false b c d first rest h = or_right c d (rest h)
 
-  pub record_put : has_record position (Some new) ≡ true
-  record_put = ap is_some (put_is position) ∙ ap (λ o. is_some (cond (is_eq o) (Some x) (find nat_cmp position old.by.entries))) (tied_itself nat_cmp_total position)
+    go : (texts : List Naming) → list_any (is_now position) texts ≡ true → list_any (was_then n position) texts ≡ true
+    go [] h = absurd (false≢true h)
+    go (text ∷ texts) h = both (is_now position text) (list_any (is_now position) texts) (was_then n position text) (list_any (was_then n position) texts)
+        (one (text.by == position) (text.until == 0) (nat_lt n text.until)) (go texts) h
 
-  pub record_stays : (p : ℕ) → has_record p (Some old) ≡ true → has_record p (Some new) ≡ true
-  record_stays p h = ap is_some (put_is p) ∙ go (eq_by_cmp nat_cmp p position)
+-- what stands at a place does not depend on what would be read behind the end
+pub same_get : {X : Type 0} (xs : List X) (i : ℕ) (d e : X) → i < length xs → get_or xs i d ≡ get_or xs i e
+same_get xs i d e within = some_same (get_or xs i d) (get_or xs i e) (sym (slice_get-get_or xs i d within) ∙ slice_get-get_or xs i e within)
+
+-- a text is replaced
+module _ (test : Naming → Bool) (texts : List Naming) (place : ℕ) (was is : Naming) (there : slice_get texts place ≡ Some was) (stays : test was ≡ true → test is ≡ true) where
+  any_set : list_any test texts ≡ true → list_any test (set texts place is) ≡ true
+  any_set h = go texts place there h
     where
-      go : (b : Bool) → is_some (cond b (Some x) (find nat_cmp p old.by.entries)) ≡ true
-      go true = refl
-      go false = h
+      first : (b : Bool) → (test was || b) ≡ true → (test is || b) ≡ true
+      first b h = by (test was) refl h
+        where
+          by : (a : Bool) → test was ≡ a → (a || b) ≡ true → (test is || b) ≡ true
+          by true passes h = ap (λ x. x || b) (stays passes)
+          by false fails h = or_right (test is) b h
 
-  pub since_stays : (n : ℕ) → is_since n (Some old) ≡ true → is_since n (Some new) ≡ true
-  since_stays n h = since_by position n (Some new) record_put
+      rest : (a b c : Bool) → (b ≡ true → c ≡ true) → (a || b) ≡ true → (a || c) ≡ true
+      rest true b c more h = refl
+      rest false b c more h = more h
 
--- a record less
-pub record_left : (replaced : ℕ) (old new : Named) → new.by.entries ≡ where_key nat_cmp (λ other. not (eq_by_cmp nat_cmp replaced other)) old.by.entries →
-    (p : ℕ) → p ≢ replaced → has_record p (Some old) ≡ true → has_record p (Some new) ≡ true
-record_left replaced old new by p other h =
-    ap (λ es. is_some (find nat_cmp p es)) by
-    ∙ (ap is_some (find-where_key nat_cmp (λ other. not (eq_by_cmp nat_cmp replaced other)) p (λ x t. ap (λ q. not (eq_by_cmp nat_cmp replaced q)) (sym (exact p x t))) old.by.entries
-    ∙ ap (λ b. cond (not b) (find nat_cmp p old.by.entries) None) (tied replaced p ∙ ne_eqb p replaced other)) ∙ h)
-  where
-    exact : (a b : ℕ) → nat_cmp a b ≡ Equal → a ≡ b
-    exact a b t = sym (eqb-true b a (sym (tied a b) ∙ ap is_eq t))
+      go : (ts : List Naming) (i : ℕ) → slice_get ts i ≡ Some was → list_any test ts ≡ true → list_any test (set ts i is) ≡ true
+      go [] i at h = absurd (false≢true h)
+      go (t ∷ ts) zero at h = first (list_any test ts) (ap (λ t. test t || list_any test ts) (sym (some_same t was at)) ∙ h)
+      go (t ∷ ts) (suc i) at h = rest (test t) (list_any test ts) (list_any test (set ts i is)) (go ts i at) h
 
-pub since_until : (position : ℕ) (new : Named) → new.until ≡ position → (n : ℕ) → n < position → is_since n (Some new) ≡ true
-since_until position new is n before = or_right (not (length new.by.entries == 0)) (nat_lt n new.until) (lt-ltb n new.until (omega (arith, before, is)))
+pub now_left : (texts : List Naming) (place gone : ℕ) (was is : Naming) → slice_get texts place ≡ Some was → was.by ≡ gone →
+    (p : ℕ) → p ≢ gone → list_any (is_now p) texts ≡ true → list_any (is_now p) (set texts place is) ≡ true
+now_left texts place gone was is there by p other h =
+    any_set (is_now p) texts place was is there (λ passes. absurd (other (sym (sym by ∙ eqb-true was.by p (and_parts (was.by == p) (was.until == 0) passes).0)))) h
+
+pub then_left : (texts : List Naming) (place position : ℕ) (was is : Naming) → slice_get texts place ≡ Some was → is.by ≡ was.by → is.until ≡ position →
+    (n p : ℕ) → n < position → list_any (was_then n p) texts ≡ true → list_any (was_then n p) (set texts place is) ≡ true
+then_left texts place position was is there by until n p less h =
+    any_set (was_then n p) texts place was is there
+    (λ passes. and_from (is.by == p) (is.until == 0 || nat_lt n is.until) (ap (λ b. b == p) by ∙ (and_parts (was.by == p) (was.until == 0 || nat_lt n was.until) passes).0)
+    (or_right (is.until == 0) (nat_lt n is.until) (lt-ltb n is.until (omega (arith, less, until))))) h
 
 -- ---- the groups of which something is known
 
@@ -86,31 +102,20 @@ module _ (test : Option Named → Bool) (none_is : test None ≡ false) (others 
       go None = and_false (test None) ∙ sym none_is
       go (Some id) = and_true (test (slice_get others.named.items id))
 
-pub has_by : (others : Others) (position : ℕ) (group : PathName) → has (named_by others position) group ≡ has_record position (kept_of others group)
-has_by others position group = has_tested (has_record position) refl others group
+pub has_by : (others : Others) (position : ℕ) (group : PathName) → has (named_by others position) group ≡ names_now position (kept_of others group)
+has_by others position group = has_tested (names_now position) refl others group
 
-pub has_since : (others : Others) (n : ℕ) (group : PathName) → has (named_since others n) group ≡ is_since n (kept_of others group)
-has_since others n group = has_tested (is_since n) refl others group
+pub has_at : (others : Others) (n position : ℕ) (group : PathName) → has (named_at others n position) group ≡ named_then n position (kept_of others group)
+has_at others n position group = has_tested (named_then n position) refl others group
 
--- what a record names is named since, whatever that is
-pub by_since : (others : Others) (position n : ℕ) (group : PathName) → has (named_by others position) group ≡ true → has (named_since others n) group ≡ true
-by_since others position n group h = has_since others n group ∙ since_by position n (kept_of others group) (sym (has_by others position group) ∙ h)
-
--- what was named since some time was named since any earlier
-pub since_earlier : (others : Others) (m n : ℕ) → m ≤ n → (group : PathName) → has (named_since others n) group ≡ true → has (named_since others m) group ≡ true
-since_earlier others m n le group h = has_since others m group ∙ go (kept_of others group) (sym (has_since others n group) ∙ h)
-  where
-    earlier : (b : Bool) (until : ℕ) → (b || nat_lt n until) ≡ true → (b || nat_lt m until) ≡ true
-    earlier true until h = refl
-    earlier false until h = lt-ltb m until (let l : n < until = ltb-true n until h in omega (arith, le, l))
-
-    go : (o : Option Named) → is_since n o ≡ true → is_since m o ≡ true
-    go None h = absurd (false≢true h)
-    go (Some named) h = earlier (not (length named.by.entries == 0)) named.until h
+-- what a record names now it has named, whenever that was
+pub by_at : (others : Others) (position n : ℕ) (group : PathName) → has (named_by others position) group ≡ true → has (named_at others n position) group ≡ true
+by_at others position n group h = has_at others n position group ∙ then_by n position (kept_of others group) (sym (has_by others position group) ∙ h)
 
 -- it has a number
-pub numbered : (others : Others) (n : ℕ) (group : PathName) → has (named_since others n) group ≡ true → has (keys_of others.numbers.entries) group ≡ true
-numbered others n group h = second (is_since n (kept_of others group)) (has (keys_of others.numbers.entries) group) (sym (has-filter (λ group. is_since n (kept_of others group)) (keys_of others.numbers.entries) group) ∙ h)
+pub numbered : (others : Others) (n position : ℕ) (group : PathName) → has (named_at others n position) group ≡ true → has (keys_of others.numbers.entries) group ≡ true
+numbered others n position group h = second (named_then n position (kept_of others group)) (has (keys_of others.numbers.entries) group)
+    (sym (has-filter (λ group. named_then n position (kept_of others group)) (keys_of others.numbers.entries) group) ∙ h)
   where
     second : (a b : Bool) → (a && b) ≡ true → b ≡ true
     second true b h = h
@@ -118,36 +123,36 @@ numbered others n group h = second (is_since n (kept_of others group)) (has (key
 
 -- ---- what is known stays known
 
-pub grows_from : (old new : Others) → ((position : ℕ) (group : PathName) → has_record position (kept_of old group) ≡ true → has_record position (kept_of new group) ≡ true) →
-    ((n : ℕ) (group : PathName) → is_since n (kept_of old group) ≡ true → is_since n (kept_of new group) ≡ true) → Grows old new
-grows_from old new by since = record {
+pub grows_from : (old new : Others) → ((position : ℕ) (group : PathName) → names_now position (kept_of old group) ≡ true → names_now position (kept_of new group) ≡ true) →
+    ((n position : ℕ) (group : PathName) → named_then n position (kept_of old group) ≡ true → named_then n position (kept_of new group) ≡ true) → Grows old new
+grows_from old new by at = record {
   by = λ position. record { each = λ group there. has_by new position group ∙ by position group (sym (has_by old position group) ∙ there) };
-  since = λ n. record { each = λ group there. has_since new n group ∙ since n group (sym (has_since old n group) ∙ there) };
+  at = λ n position. record { each = λ group there. has_at new n position group ∙ at n position group (sym (has_at old n position group) ∙ there) };
 }
 
-pub releases_from : (replaced : Option ℕ) (until : ℕ) (old new : Others) → ((position : ℕ) (group : PathName) → replaced ≢ Some position → has_record position (kept_of old group) ≡ true → has_record position (kept_of new group) ≡ true) →
-    ((n : ℕ) (group : PathName) → n < until → is_since n (kept_of old group) ≡ true → is_since n (kept_of new group) ≡ true) → Releases replaced until old new
-releases_from replaced until old new by since = record {
+pub releases_from : (replaced : Option ℕ) (until : ℕ) (old new : Others) → ((position : ℕ) (group : PathName) → replaced ≢ Some position → names_now position (kept_of old group) ≡ true → names_now position (kept_of new group) ≡ true) →
+    ((n position : ℕ) (group : PathName) → n < until → named_then n position (kept_of old group) ≡ true → named_then n position (kept_of new group) ≡ true) → Releases replaced until old new
+releases_from replaced until old new by at = record {
   by = λ position other. record { each = λ group there. has_by new position group ∙ by position group other (sym (has_by old position group) ∙ there) };
-  since = λ n before. record { each = λ group there. has_since new n group ∙ since n group before (sym (has_since old n group) ∙ there) };
+  at = λ n position before. record { each = λ group there. has_at new n position group ∙ at n position group before (sym (has_at old n position group) ∙ there) };
 }
 
 pub grows_all : (others : Others) → Grows others others
-grows_all others = grows_from others others (λ position group h. h) (λ n group h. h)
+grows_all others = grows_from others others (λ position group h. h) (λ n position group h. h)
 
 pub grows_then : (one two three : Others) → Grows one two → Grows two three → Grows one three
 grows_then one two three first last = record {
   by = λ position. record { each = λ group there. (last.by position).each group ((first.by position).each group there) };
-  since = λ n. record { each = λ group there. (last.since n).each group ((first.since n).each group there) };
+  at = λ n position. record { each = λ group there. (last.at n position).each group ((first.at n position).each group there) };
 }
 
 pub releases_all : (replaced : Option ℕ) (until : ℕ) (others : Others) → Releases replaced until others others
-releases_all replaced until others = releases_from replaced until others others (λ position group other h. h) (λ n group before h. h)
+releases_all replaced until others = releases_from replaced until others others (λ position group other h. h) (λ n position group before h. h)
 
 pub releases_then : (replaced : Option ℕ) (until : ℕ) (one two three : Others) → Releases replaced until one two → Releases replaced until two three → Releases replaced until one three
 releases_then replaced until one two three first last = record {
   by = λ position other. record { each = λ group there. (last.by position other).each group ((first.by position other).each group there) };
-  since = λ n before. record { each = λ group there. (last.since n before).each group ((first.since n before).each group there) };
+  at = λ n position before. record { each = λ group there. (last.at n position before).each group ((first.at n position before).each group there) };
 }
 
 -- ---- one of a list is another now
@@ -168,10 +173,10 @@ module _ (test : Option Named → Bool) (named : List Named) (id : ℕ) (old new
   found_stays none_is (Some j) h = set_stays j h
 
 pub noted_at : (old new : Others) (id : ℕ) (was is : Named) → new.numbers ≡ old.numbers → new.named.items ≡ set old.named.items id is → slice_get old.named.items id ≡ Some was →
-    ((p : ℕ) → has_record p (Some was) ≡ true → has_record p (Some is) ≡ true) → ((n : ℕ) → is_since n (Some was) ≡ true → is_since n (Some is) ≡ true) → Grows old new
-noted_at old new id was is numbers named there by since = grows_from old new
-    (λ p group h. moved (has_record p) group (found_stays (has_record p) old.named.items id was is there (by p) refl (find path_cmp group old.numbers.entries) h))
-    (λ n group h. moved (is_since n) group (found_stays (is_since n) old.named.items id was is there (since n) refl (find path_cmp group old.numbers.entries) h))
+    ((p : ℕ) → names_now p (Some was) ≡ true → names_now p (Some is) ≡ true) → ((n p : ℕ) → named_then n p (Some was) ≡ true → named_then n p (Some is) ≡ true) → Grows old new
+noted_at old new id was is numbers named there by at = grows_from old new
+    (λ p group h. moved (names_now p) group (found_stays (names_now p) old.named.items id was is there (by p) refl (find path_cmp group old.numbers.entries) h))
+    (λ n p group h. moved (named_then n p) group (found_stays (named_then n p) old.named.items id was is there (at n p) refl (find path_cmp group old.numbers.entries) h))
   where
     moved : (test : Option Named → Bool) (group : PathName) → test (option_and_then (slice_get (set old.named.items id is)) (find path_cmp group old.numbers.entries)) ≡ true → test (kept_of new group) ≡ true
     moved test group h =
@@ -179,10 +184,10 @@ noted_at old new id was is numbers named there by since = grows_from old new
         ∙ (ap (λ numbers. test (option_and_then (slice_get (set old.named.items id is)) (find path_cmp group numbers.entries))) numbers ∙ h)
 
 pub released_at : (replaced until : ℕ) (old new : Others) (id : ℕ) (was is : Named) → new.numbers ≡ old.numbers → new.named.items ≡ set old.named.items id is → slice_get old.named.items id ≡ Some was →
-    ((p : ℕ) → p ≢ replaced → has_record p (Some was) ≡ true → has_record p (Some is) ≡ true) → ((n : ℕ) → n < until → is_since n (Some is) ≡ true) → Releases (Some replaced) until old new
-released_at replaced until old new id was is numbers named there by since = releases_from (Some replaced) until old new
-    (λ p group other h. moved (has_record p) group (found_stays (has_record p) old.named.items id was is there (by p (λ same. other (ap Some (sym same)))) refl (find path_cmp group old.numbers.entries) h))
-    (λ n group before h. moved (is_since n) group (found_stays (is_since n) old.named.items id was is there (λ was. since n before) refl (find path_cmp group old.numbers.entries) h))
+    ((p : ℕ) → p ≢ replaced → names_now p (Some was) ≡ true → names_now p (Some is) ≡ true) → ((n p : ℕ) → n < until → named_then n p (Some was) ≡ true → named_then n p (Some is) ≡ true) → Releases (Some replaced) until old new
+released_at replaced until old new id was is numbers named there by at = releases_from (Some replaced) until old new
+    (λ p group other h. moved (names_now p) group (found_stays (names_now p) old.named.items id was is there (by p (λ same. other (ap Some (sym same)))) refl (find path_cmp group old.numbers.entries) h))
+    (λ n p group before h. moved (named_then n p) group (found_stays (named_then n p) old.named.items id was is there (at n p before) refl (find path_cmp group old.numbers.entries) h))
   where
     moved : (test : Option Named → Bool) (group : PathName) → test (option_and_then (slice_get (set old.named.items id is)) (find path_cmp group old.numbers.entries)) ≡ true → test (kept_of new group) ≡ true
     moved test group h =
@@ -204,7 +209,7 @@ module _ {X : Type 0} where
 
 pub added_one : (old new : Others) (group : PathName) (id : ℕ) (fresh : Named) (items : List Named) → new.numbers.entries ≡ put path_cmp group id old.numbers.entries → new.named.items ≡ items ++ fresh ∷ [] → items ≡ old.named.items →
     ((j : ℕ) → find path_cmp group old.numbers.entries ≡ Some j → length old.named.items ≤ j) → Grows old new
-added_one old new group id fresh items numbers behind same_items unknown = grows_from old new (λ p other h. stays (has_record p) refl other h) (λ n other h. stays (is_since n) refl other h)
+added_one old new group id fresh items numbers behind same_items unknown = grows_from old new (λ p other h. stays (names_now p) refl other h) (λ n p other h. stays (named_then n p) refl other h)
   where
     named : new.named.items ≡ old.named.items ++ fresh ∷ []
     named = behind ∙ ap (λ xs. xs ++ fresh ∷ []) same_items
@@ -232,27 +237,19 @@ added_found group id es = find-put path_cmp path_cmp_total group group id es ∙
 
 -- what is kept is the same, whatever room there is besides
 pub grows_alike : (old new : Others) → new.numbers.entries ≡ old.numbers.entries → new.named.items ≡ old.named.items → Grows old new
-grows_alike old new numbers named = grows_from old new (λ p group h. ap (has_record p) (alike group) ∙ h) (λ n group h. ap (is_since n) (alike group) ∙ h)
+grows_alike old new numbers named = grows_from old new (λ p group h. ap (names_now p) (alike group) ∙ h) (λ n p group h. ap (named_then n p) (alike group) ∙ h)
   where
     alike : (group : PathName) → kept_of new group ≡ kept_of old group
     alike group = ap (λ items. option_and_then (slice_get items) (find path_cmp group new.numbers.entries)) named ∙ ap (λ es. option_and_then (slice_get old.named.items) (find path_cmp group es)) numbers
 
 -- the record at the position is one of those that name it
 pub noted_new : {E : Type 0} (result : Result (Unit {0}) E) (old new : Others) (id position : ℕ) (was is : Named) → new.numbers ≡ old.numbers → new.named.items ≡ set old.named.items id is → slice_get old.named.items id ≡ Some was →
-    OnOk result (has_record position (Some is) ≡ true) → OnOk result ((group : PathName) → find path_cmp group old.numbers.entries ≡ Some id → has_record position (kept_of new group) ≡ true)
+    OnOk result (names_now position (Some is) ≡ true) → OnOk result ((group : PathName) → find path_cmp group old.numbers.entries ≡ Some id → names_now position (kept_of new group) ≡ true)
 noted_new (Ok done) old new id position was is numbers named there noted = λ group found.
-    ap (λ items. has_record position (option_and_then (slice_get items) (find path_cmp group new.numbers.entries))) named
-    ∙ (ap (λ numbers. has_record position (option_and_then (slice_get (set old.named.items id is)) (find path_cmp group numbers.entries))) numbers
-    ∙ (ap (λ o. has_record position (option_and_then (slice_get (set old.named.items id is)) o)) found ∙ (ap (has_record position) (get_set old.named.items id was is there) ∙ noted)))
+    ap (λ items. names_now position (option_and_then (slice_get items) (find path_cmp group new.numbers.entries))) named
+    ∙ (ap (λ numbers. names_now position (option_and_then (slice_get (set old.named.items id is)) (find path_cmp group numbers.entries))) numbers
+    ∙ (ap (λ o. names_now position (option_and_then (slice_get (set old.named.items id is)) o)) found ∙ (ap (names_now position) (get_set old.named.items id was is there) ∙ noted)))
 noted_new (Err fault) old new id position was is numbers named there noted = tt
-
--- what is told of it
-pub since_told : (others : Others) (group : PathName) (n : ℕ) (id : ℕ) (found : Option Named) (b : Bool) → Some id ≡ find path_cmp group others.numbers.entries → found ≡ slice_get others.named.items id → b ≡ is_since n found →
-    b ≡ is_since n (kept_of others group)
-since_told others group n id found b number read told = told ∙ ap (is_since n) (read ∙ ap (option_and_then (slice_get others.named.items)) number)
-
-pub since_untold : (others : Others) (group : PathName) (n : ℕ) → None ≡ find path_cmp group others.numbers.entries → false ≡ is_since n (kept_of others group)
-since_untold others group n number = ap (λ o. is_since n (option_and_then (slice_get others.named.items) o)) number
 
 -- ---- the number of a group
 

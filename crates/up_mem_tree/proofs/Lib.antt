@@ -38,3 +38,4 @@ pub mod Standings
 pub mod Othered
 pub mod Started
 pub mod Held
+pub mod Meeting

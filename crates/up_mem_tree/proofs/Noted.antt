@@ -23,7 +23,7 @@ use Rattle.up_mem_tree.proofs.Ways.{path_there_at}
 use Rattle.up_mem_tree.proofs.Walks.{below_unnamed, id_within}
 
 -- a path is at or below another where its first elements make that one
-under-Decides : (p q : PathName) → Decides (is_under p q) (cut (length q.elements) p ≡ q)
+pub under-Decides : (p q : PathName) → Decides (is_under p q) (cut (length q.elements) p ≡ q)
 under-Decides p q =
     let owners = bytes_eq-Decides p.owner q.owner in
     let elements = slice_eq-Decides bytes_eq-Decides q.elements (take (length q.elements) p.elements) (pointwise bytes_eq q.elements (take (length q.elements) p.elements)) refl in (

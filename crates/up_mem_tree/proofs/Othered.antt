@@ -1,16 +1,16 @@
 -- The groups of other owners that texts name, as they are kept.
-use Rattle.std.proofs.Common.{◌≡◌, ◌≢◌, ℕ, zero, suc, ◌+◌, ◌<◌, ◌≤◌, Bool, true, false, not, cond, ◌&&◌, ◌||◌, List, [], ◌∷◌, ◌++◌, length, take, get_or, refl, sym, ap, subst, ◌∙◌, inl, inr, arith, Option, Some, None, Result, Ok, Err, is_some, is_none, append-nil}
-use Rattle.std.specs.Prelude.{IfSome, MatchOption, OnOk, is_ok, slice_get, if◌then◌else◌}
+use Rattle.std.proofs.Common.{◌≡◌, ◌≢◌, ◌⊎◌, ℕ, zero, suc, ◌+◌, ◌<◌, ◌≤◌, Bool, true, false, cond, ◌||◌, List, [], ◌∷◌, ◌++◌, length, take, get_or, refl, sym, ap, subst, ◌∙◌, inl, inr, arith, Option, Some, None, Result, Ok, Err, append-nil, ltb-true, ◌==◌}
+use Rattle.std.specs.Prelude.{Contains, IfSome, MatchOption, OnOk, nat_lt, slice_get, if◌then◌else◌}
+use Rattle.std.specs.List.{list_any}
 use Rattle.std.specs.FinMap.Entries.{find}
 use Rattle.std.specs.Map.{keys_of}
 use Rattle.std.specs.Option.{option_and_then, option_map}
-use Rattle.std.specs.Str.{bytes_eq}
-use Rattle.std.proofs.lemmas.Bool.{cases_lt, false≢true}
+use Rattle.std.proofs.lemmas.Bool.{and_parts, cases_lt, eqb-true, false≢true}
 use Rattle.std.proofs.lemmas.Grind.{flat_map-append}
 use Rattle.std.proofs.lemmas.List.{length_push, take-append-le, take_all}
 use Rattle.std.proofs.lemmas.List.Elements.{Contains-append_cases, filter_map-append}
 use Rattle.std.proofs.lemmas.Option.{slice_get-get_or}
-use Rattle.up_names.specs.PathNames.{PathName, control_of, parent_of}
+use Rattle.up_names.specs.PathNames.{PathName, control_of, is_under, parent_of}
 use Rattle.up_names.specs.PathOrder.{path_cmp, path_eq}
 use Rattle.up_names.specs.declared.items.Item.{Item}
 use Rattle.up_names.specs.declared.paths.Control.{Control}
@@ -20,47 +20,33 @@ use Rattle.up_entry.specs.declared.records.Rec.{Rec}
 use Rattle.up_entry.specs.declared.records.Rec.TheVariants.{Put, Delete, Snap}
 use Rattle.up_policy.specs.Members.{group_in, groups_in}
 use Rattle.up_policy.specs.Reached.{groups_named}
-use Rattle.up_policy.proofs.PathLists.{Contains-cons, no_member}
+use Rattle.up_policy.proofs.PathLists.{Contains-behind, Contains-cons, Contains-head, no_member}
 use Rattle.up_log_tree.specs.declared.node.Node.{Node}
 use Rattle.up_log_tree.specs.Changes.{changes_some, last_change, path_of_change}
-use Rattle.up_log_tree.specs.Orders.{has_path as has, with_path}
+use Rattle.up_log_tree.specs.Orders.{has_path as has}
 use Rattle.up_log_tree.specs.Rights.{access_path, facts_of, is_group, is_group_file, items_of, rules_of}
 use Rattle.up_log_tree.specs.Trees.{Tree, after_record, node_at, tree_at, tree_of}
 use Rattle.up_log_tree.proofs.Fronts.{take_next, whole_front}
 use Rattle.up_log_tree.proofs.Paths.{parent_extended, path_eq_itself, path_same, some_none, some_same}
-use Rattle.up_log_tree.proofs.Rising.{has-with}
 use Rattle.up_log_tree.proofs.Trees.{tree_of-push}
 use Rattle.up_mem_tree.specs.declared.history.Change.{Change}
 use Rattle.up_mem_tree.specs.declared.kept.Kept.{Kept}
+use Rattle.up_mem_tree.specs.declared.others.Named.{Named}
+use Rattle.up_mem_tree.specs.declared.others.Naming.{Naming}
 use Rattle.up_mem_tree.specs.declared.others.Others.{Others}
 use Rattle.up_mem_tree.specs.declared.steps.ParentStep.{ParentStep}
 use Rattle.up_mem_tree.specs.declared.steps.Step.{Step}
 use Rattle.up_mem_tree.specs.Kept.{IsStepFor, paths_of, slots_of}
-use Rattle.up_mem_tree.specs.Others.{AreNamed, AreNamedBy, Grows, HasAccessOthers, HasAllOthers, HasGroupOthers, HasOthers, HasParentOthers, HasStepOthers, HasTested, HasTextsOthers, IsNamedNoMore, KeepsPaths, Releases, has_record, is_foreign, is_since, kept_of, named_by, named_since}
+use Rattle.up_mem_tree.specs.Namings.{CanMeet, ChangesPath, IsFirstNaming, IsFirstOf, IsMetBy}
+use Rattle.up_mem_tree.specs.Others.{AreNamed, AreNamedAt, AreNamedBy, Grows, HasAccessOthers, HasAllOthers, HasGroupOthers, HasOthers, HasParentOthers, HasStepOthers, HasTested, HasTextsOthers, KeepsPaths, Releases, is_foreign, kept_of, named_at, named_by, named_then, names_now, was_then}
 use Rattle.up_mem_tree.specs.Slots.{Known}
 use Rattle.up_mem_tree.specs.Steps.{IsAboveOf, access_change, group_change, group_file, own_id}
-use Rattle.up_mem_tree.proofs.Held.{by_since, has_by, has_since, numbered, since_earlier}
+use Rattle.up_mem_tree.proofs.Held.{by_at, has_at, has_by, numbered}
+use Rattle.up_mem_tree.proofs.Meeting.{front_changes, group_only, last_changes, texts_of}
 use Rattle.up_mem_tree.proofs.Named.{last_change-none, last_change-push}
 use Rattle.up_mem_tree.proofs.RecordChanges.{access_control, access_here, access_other, group_here, group_never, group_other, last_more}
 use Rattle.up_mem_tree.proofs.Texts.{access-is, group-is}
 use Rattle.up_mem_tree.proofs.Within.{step_at}
-
--- ---- paths that stay
-
-pub kept_all : (paths : List PathName) → KeepsPaths paths paths
-kept_all paths = record { each = λ path there. there }
-
-pub kept_then : (one two three : List PathName) → KeepsPaths one two → KeepsPaths two three → KeepsPaths one three
-kept_then one two three first last = record { each = λ path there. last.each path (first.each path there) }
-
-or_right : (a b : Bool) → b ≡ true → (a || b) ≡ true
-or_right true b h = refl
-or_right false b h = h
-
--- with a path, where the call went well
-pub kept_with : (b : Bool) (path : PathName) (old new : List PathName) → new ≡ (if b then with_path path old else old) → KeepsPaths old new
-kept_with true path old new is = record { each = λ q there. subst (λ ps. has ps q ≡ true) (sym is) (has-with path old q ∙ or_right (path_eq q path) (has old q) there) }
-kept_with false path old new is = subst (KeepsPaths old) (sym is) (kept_all old)
 
 -- ---- what these groups have
 
@@ -84,14 +70,6 @@ module _ (test : PathName → Bool) where
   -- it does not pass
   pub one_fails : (paths : List PathName) (group : PathName) → test group ≡ false → HasTested test paths (group ∷ [])
   one_fails paths group fails = one_tested paths group (λ passes. absurd (false≢true (sym fails ∙ passes)))
-
-  -- it was added
-  pub now_there : (path : PathName) (old new : List PathName) → new ≡ with_path path old → HasTested test new (path ∷ [])
-  now_there path old new is = one_tested new path (λ passes. ap (λ ps. has ps path) is ∙ (has-with path old path ∙ ap (λ b. b || has old path) (path_eq_itself path)))
-
-  pub now_there_ok : {E : Type 0} (result : Result (Unit {0}) E) (group path : PathName) (old new : List PathName) → path ≡ group → new ≡ (if is_ok result then with_path path old else old) → OnOk result (HasTested test new (group ∷ []))
-  now_there_ok (Ok done) group path old new same is = subst (λ p. HasTested test new (p ∷ [])) same (now_there path old new is)
-  now_there_ok (Err fault) group path old new same is = tt
 
   -- ---- one more of a list
 
@@ -128,7 +106,7 @@ module _ (owner : List ℕ) where
 
   -- a group of another owner that the record at the position names
   pub group_noted : {E : Type 0} (result : Result (Unit {0}) E) (old others : Others) (position : ℕ) (group : PathName) (id : ℕ) →
-      OnOk result ((g : PathName) → find path_cmp g old.numbers.entries ≡ Some id → has_record position (kept_of others g) ≡ true) → find path_cmp group old.numbers.entries ≡ Some id → OnOk result (HasOthers owner (named_by others position) (group ∷ []))
+      OnOk result ((g : PathName) → find path_cmp g old.numbers.entries ≡ Some id → names_now position (kept_of others g) ≡ true) → find path_cmp group old.numbers.entries ≡ Some id → OnOk result (HasOthers owner (named_by others position) (group ∷ []))
   group_noted (Ok done) old others position group id noted found = one_tested (is_foreign owner) (named_by others position) group (λ foreign. has_by others position group ∙ noted group found)
   group_noted (Err fault) old others position group id noted found = tt
 
@@ -222,24 +200,36 @@ others_none owner records others none = subst (λ rs. AreNamed owner rs others) 
 -- ---- what is known of all texts
 
 module _ (owner : List ℕ) (others : Others) where
-  since_of : (o : Option ℕ) (groups : List PathName) (n : ℕ) → AreNamedBy owner others o groups → HasOthers owner (named_since others n) groups
-  since_of None groups n told = absurd told
-  since_of (Some position) groups n told = λ group there foreign. by_since others position n group (told group there foreign)
+  at_of : (o : Option ℕ) (groups : List PathName) (n : ℕ) → AreNamedBy owner others o groups → AreNamedAt owner others n o groups
+  at_of None groups n told = told
+  at_of (Some position) groups n told = λ group there foreign. by_at others position n group (told group there foreign)
+
+  -- a group of those, by the position of the record
+  known_at : (o : Option ℕ) (groups : List PathName) (n : ℕ) (group : PathName) → AreNamedAt owner others n o groups → Contains groups group → is_foreign owner group ≡ true → (p : ℕ) × (o ≡ Some p) × (has (named_at others n p) group ≡ true)
+  known_at None groups n group told there foreign = absurd told
+  known_at (Some p) groups n group told there foreign = (p, refl, told group there foreign)
 
   module _ (records : List Rec) (told : AreNamed owner records others) where
-    access_at : (n : ℕ) (dir : PathName) (rules : List Rule) → (facts_of owner (tree_at records n)).access dir ≡ Some rules → (m : ℕ) → m ≤ n → HasOthers owner (named_since others m) (groups_named rules)
-    access_at n dir rules some m le = elim (cases_lt n (length records)) [
-      | inl low ↦ λ group there foreign. since_earlier others m n le group (told.access_then n dir rules low some group there foreign)
-      | inr high ↦ since_of (last_change records (access_path dir)) (groups_named rules) m (told.access_now dir rules (ap (λ t. (facts_of owner t).access dir) (behind n high) ∙ some))
+    whole : (n : ℕ) → length records ≤ n → take n records ≡ records
+    whole n late = take_all n records late
+
+    access_at : (n : ℕ) (dir : PathName) (rules : List Rule) → (facts_of owner (tree_at records n)).access dir ≡ Some rules → AreNamedAt owner others n (last_change (take n records) (access_path dir)) (groups_named rules)
+    access_at n dir rules some = elim (cases_lt n (length records)) [
+      | inl low ↦ told.access_then n dir rules low some
+      | inr high ↦
+          subst (λ rs. AreNamedAt owner others n (last_change rs (access_path dir)) (groups_named rules)) (sym (whole n high))
+          (at_of (last_change records (access_path dir)) (groups_named rules) n (told.access_now dir rules (ap (λ t. (facts_of owner t).access dir) (behind n high) ∙ some)))
     ]
       where
         behind : (n : ℕ) → length records ≤ n → tree_at records (length records) ≡ tree_at records n
         behind n late = ap tree_of (take_all (length records) records (omega arith) ∙ sym (take_all n records late))
 
-    group_at : (n : ℕ) (path : PathName) (items : List Item) → (facts_of owner (tree_at records n)).group path ≡ Some items → (m : ℕ) → m ≤ n → HasOthers owner (named_since others m) (groups_in items)
-    group_at n path items some m le = elim (cases_lt n (length records)) [
-      | inl low ↦ λ group there foreign. since_earlier others m n le group (told.groups_then n path items low some group there foreign)
-      | inr high ↦ since_of (last_change records path) (groups_in items) m (told.groups_now path items (ap (λ t. (facts_of owner t).group path) (behind n high) ∙ some))
+    group_at : (n : ℕ) (path : PathName) (items : List Item) → (facts_of owner (tree_at records n)).group path ≡ Some items → AreNamedAt owner others n (last_change (take n records) path) (groups_in items)
+    group_at n path items some = elim (cases_lt n (length records)) [
+      | inl low ↦ told.groups_then n path items low some
+      | inr high ↦
+          subst (λ rs. AreNamedAt owner others n (last_change rs path) (groups_in items)) (sym (whole n high))
+          (at_of (last_change records path) (groups_in items) n (told.groups_now path items (ap (λ t. (facts_of owner t).group path) (behind n high) ∙ some)))
     ]
       where
         behind : (n : ℕ) → length records ≤ n → tree_at records (length records) ≡ tree_at records n
@@ -248,15 +238,66 @@ module _ (owner : List ℕ) (others : Others) where
     -- each of them has a number
     pub has_all : HasAllOthers owner records (keys_of others.numbers.entries)
     has_all = record {
-      access = λ n dir rules some group there foreign. numbered others n group (access_at n dir rules some n (omega arith) group there foreign);
-      groups = λ n path items some group there foreign. numbered others n group (group_at n path items some n (omega arith) group there foreign);
+      access = λ n dir rules some group there foreign.
+          let known = known_at (last_change (take n records) (access_path dir)) (groups_named rules) n group (access_at n dir rules some) there foreign in
+          numbered others n known.0 group known.2;
+      groups = λ n path items some group there foreign.
+          let known = known_at (last_change (take n records) path) (groups_in items) n group (group_at n path items some) there foreign in
+          numbered others n known.0 group known.2;
     }
 
-    -- what no text has named since
-    pub none_since : (group : PathName) (n : ℕ) → is_since n (kept_of others group) ≡ false → is_foreign owner group ≡ true → IsNamedNoMore owner records n group
-    none_since group n none foreign = record {
-      access = λ m dir rules le some there. false≢true (sym none ∙ (sym (has_since others n group) ∙ access_at m dir rules some n le group there foreign));
-      groups = λ m path items le some there. false≢true (sym none ∙ (sym (has_since others n group) ∙ group_at m path items some n le group there foreign));
+    -- ---- where a group can be met
+
+    -- a text that was in force after so many records names the group, and was made by a record that changes its path
+    module _ (group : PathName) (n m : ℕ) (le : n ≤ m) where
+      text_at : (p : ℕ) (o : Option Named) → named_then m p o ≡ true → (naming : Naming) × Contains (texts_of o) naming × (naming.by ≡ p) × ((naming.until ≡ 0) ⊎ (n < naming.until))
+      text_at p None h = absurd (false≢true h)
+      text_at p (Some named) h = go named.texts.items h
+        where
+          lasts : (a : Bool) (until : ℕ) → (until == 0) ≡ a → (a || nat_lt m until) ≡ true → (until ≡ 0) ⊎ (n < until)
+          lasts true until none h = inl (eqb-true until 0 none)
+          lasts false until some h = inr (let l : m < until = ltb-true m until h in omega (arith, le, l))
+
+          one : (texts : List Naming) (t : Naming) → was_then m p t ≡ true → (naming : Naming) × Contains (t ∷ texts) naming × (naming.by ≡ p) × ((naming.until ≡ 0) ⊎ (n < naming.until))
+          one texts t passes = let both = and_parts (t.by == p) (t.until == 0 || nat_lt m t.until) passes in (t, Contains-head t texts, eqb-true t.by p both.0, lasts (t.until == 0) t.until refl both.1)
+
+          go : (texts : List Naming) → list_any (was_then m p) texts ≡ true → (naming : Naming) × Contains texts naming × (naming.by ≡ p) × ((naming.until ≡ 0) ⊎ (n < naming.until))
+          go [] h = absurd (false≢true h)
+          go (t ∷ texts) h = by (was_then m p t) refl h (go texts)
+            where
+              by : (b : Bool) → was_then m p t ≡ b → (b || list_any (was_then m p) texts) ≡ true → (list_any (was_then m p) texts ≡ true → (naming : Naming) × Contains texts naming × (naming.by ≡ p) × ((naming.until ≡ 0) ⊎ (n < naming.until))) →
+                  (naming : Naming) × Contains (t ∷ texts) naming × (naming.by ≡ p) × ((naming.until ≡ 0) ⊎ (n < naming.until))
+              by true passes h rest = one texts t passes
+              by false fails h rest = let found = rest h in (found.0, Contains-behind t found.0 texts found.1, found.2, found.3)
+
+      -- so the group is met by one of its texts
+      met_by : (file changed : PathName) (groups : List PathName) → AreNamedAt owner others m (last_change (take m records) file) groups → Contains groups group → is_foreign owner group ≡ true →
+          ((is_group file ≡ true) ⊎ ((dir : PathName) × (file ≡ access_path dir) × (is_under changed dir ≡ true))) → (naming : Naming) × Contains (texts_of (kept_of others group)) naming × IsMetBy records naming n changed
+      met_by file changed groups told there foreign reaches =
+          let known = known_at (last_change (take m records) file) groups m group told there foreign in
+          let text = text_at known.0 (kept_of others group) (sym (has_at others m known.0 group) ∙ known.2) in (
+            text.0,
+            text.1,
+            record {
+              lasts = text.3;
+              file = file;
+              is = subst (λ k. ChangesPath records k file) (sym text.2) (front_changes records m known.0 file (last_changes (take m records) file known.0 known.1));
+              reaches = reaches;
+            },
+          )
+
+    pub can_meet : (n m : ℕ) (changed group : PathName) → n ≤ m → is_foreign owner group ≡ true → CanMeet owner records m changed group → (naming : Naming) × Contains (texts_of (kept_of others group)) naming × IsMetBy records naming n changed
+    can_meet n m changed group le foreign (inl above) =
+        met_by group n m le (access_path above.dir) changed (groups_named above.rules) (access_at m above.dir above.rules above.text) above.named foreign (inr (above.dir, refl, above.above))
+    can_meet n m changed group le foreign (inr inside) =
+        met_by group n m le inside.file changed (groups_in inside.items) (group_at m inside.file inside.items inside.text) inside.named foreign (inl (group_only owner records m inside.file inside.items inside.text))
+
+    -- what is found over all texts of a group is the first
+    pub first_told : (group path : PathName) (above : ℕ) (first : Option ℕ) → IsFirstOf records (texts_of (kept_of others group)) path above first → is_foreign owner group ≡ true → IsFirstNaming owner records group path above first
+    first_told group path above first told foreign = record {
+      each = λ n m changed less le is under meets.
+          let met = can_meet n m changed group le foreign meets in
+          told met.0 met.1 n changed less is under met.2;
     }
 
 -- ---- more is known
@@ -271,10 +312,19 @@ module _ (owner : List ℕ) (old new : Others) where
   by_more grows None groups told = told
   by_more grows (Some p) groups told = λ group there foreign. (grows.by p).each group (told group there foreign)
 
+  at_more : Grows old new → (n : ℕ) (o : Option ℕ) (groups : List PathName) → AreNamedAt owner old n o groups → AreNamedAt owner new n o groups
+  at_more grows n None groups told = told
+  at_more grows n (Some p) groups told = λ group there foreign. (grows.at n p).each group (told group there foreign)
+
+  -- before the text was replaced
+  at_still : (replaced : Option ℕ) (until : ℕ) → Releases replaced until old new → (n : ℕ) → n < until → (o : Option ℕ) (groups : List PathName) → AreNamedAt owner old n o groups → AreNamedAt owner new n o groups
+  at_still replaced until passes n less None groups told = told
+  at_still replaced until passes n less (Some p) groups told = λ group there foreign. (passes.at n p less).each group (told group there foreign)
+
   pub named_more : (records : List Rec) → Grows old new → AreNamed owner records old → AreNamed owner records new
   named_more records grows told = record {
-    access_then = λ n dir rules less some group there foreign. (grows.since n).each group (told.access_then n dir rules less some group there foreign);
-    groups_then = λ n path items less some group there foreign. (grows.since n).each group (told.groups_then n path items less some group there foreign);
+    access_then = λ n dir rules less some. at_more grows n (last_change (take n records) (access_path dir)) (groups_named rules) (told.access_then n dir rules less some);
+    groups_then = λ n path items less some. at_more grows n (last_change (take n records) path) (groups_in items) (told.groups_then n path items less some);
     access_now = λ dir rules some. by_more grows (last_change records (access_path dir)) (groups_named rules) (told.access_now dir rules some);
     groups_now = λ path items some. by_more grows (last_change records path) (groups_in items) (told.groups_now path items some);
   }
@@ -293,14 +343,16 @@ module _ (owner : List ℕ) (records : List Rec) (rec : Rec) (old new : Others) 
       ((dir : PathName) (rules : List Rule) → (facts_of owner last).access dir ≡ Some rules → AreNamedBy owner new (last_change more (access_path dir)) (groups_named rules)) →
       ((path : PathName) (items : List Item) → (facts_of owner last).group path ≡ Some items → AreNamedBy owner new (last_change more path) (groups_in items)) → AreNamed owner more new
   by_last replaced passes access groups = record {
-    access_then = λ n dir rules less some group there foreign.
+    access_then = λ n dir rules less some.
         let early : n < length records + 1 = omega (arith, less, long) in
-        (passes.since n early).each group
-        (access_at owner old records told n dir rules (sym (ap (λ t. (facts_of owner t).access dir) (before n (omega (arith, early)))) ∙ some) n (omega arith) group there foreign);
-    groups_then = λ n path items less some group there foreign.
+        subst (λ rs. AreNamedAt owner new n (last_change rs (access_path dir)) (groups_named rules)) (sym (front n (omega (arith, early))))
+        (at_still owner old new replaced (length records + 1) passes n early (last_change (take n records) (access_path dir)) (groups_named rules)
+        (access_at owner old records told n dir rules (sym (ap (λ t. (facts_of owner t).access dir) (before n (omega (arith, early)))) ∙ some)));
+    groups_then = λ n path items less some.
         let early : n < length records + 1 = omega (arith, less, long) in
-        (passes.since n early).each group
-        (group_at owner old records told n path items (sym (ap (λ t. (facts_of owner t).group path) (before n (omega (arith, early)))) ∙ some) n (omega arith) group there foreign);
+        subst (λ rs. AreNamedAt owner new n (last_change rs path) (groups_in items)) (sym (front n (omega (arith, early))))
+        (at_still owner old new replaced (length records + 1) passes n early (last_change (take n records) path) (groups_in items)
+        (group_at owner old records told n path items (sym (ap (λ t. (facts_of owner t).group path) (before n (omega (arith, early)))) ∙ some)));
     access_now = λ dir rules some. access dir rules (subst (λ k. (facts_of owner (tree_at more k)).access dir ≡ Some rules) long some);
     groups_now = λ path items some. groups path items (subst (λ k. (facts_of owner (tree_at more k)).group path ≡ Some items) long some);
   }
@@ -308,8 +360,11 @@ module _ (owner : List ℕ) (records : List Rec) (rec : Rec) (old new : Others) 
       long : length more ≡ length records + 1
       long = length_push records rec
 
+      front : (n : ℕ) → n ≤ length records → take n more ≡ take n records
+      front n early = take-append-le n records (rec ∷ []) early
+
       before : (n : ℕ) → n ≤ length records → tree_at more n ≡ tree_at records n
-      before n early = ap tree_of (take-append-le n records (rec ∷ []) early)
+      before n early = ap tree_of (front n early)
 
   -- a record that changes nothing
   others_quiet : ((tree : Tree) → after_record tree rec ≡ tree) → ((q : PathName) → last_change more q ≡ last_change records q) → Releases None (length records + 1) old new → AreNamed owner more new

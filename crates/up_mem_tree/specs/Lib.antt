@@ -8,4 +8,5 @@ pub mod Starts
 pub mod ChangesBelow
 pub mod Groups
 pub mod Others
+pub mod Namings
 pub mod MemTrees

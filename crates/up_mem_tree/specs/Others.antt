@@ -1,10 +1,10 @@
 -- The groups of other owners that the texts of a log name, and named once. This project's own.
-use Rattle.std.specs.Prelude.{◌≡◌, ◌≢◌, ◌≤◌, ◌<◌, ◌==◌, ℕ, Bool, true, false, not, ◌||◌, List, length, filter, nat_lt, slice_get}
-use Rattle.std.specs.Prelude.{Option, Some, None, is_some, Contains, IfSome, ⊤}
+use Rattle.std.specs.Prelude.{◌≡◌, ◌≢◌, ◌<◌, ◌==◌, ℕ, Bool, true, false, not, ◌&&◌, ◌||◌, List, length, filter, take, nat_lt, slice_get}
+use Rattle.std.specs.Prelude.{Option, Some, None, Contains, IfSome, ⊤}
+use Rattle.std.specs.List.{list_any}
 use Rattle.std.specs.FinMap.Entries.{find}
 use Rattle.std.specs.Map.{keys_of}
 use Rattle.std.specs.Option.{option_and_then}
-use Rattle.std.specs.Ordering.{nat_cmp}
 use Rattle.std.specs.Str.{bytes_eq}
 use Rattle.up_names.specs.Texts.{UserName}
 use Rattle.up_names.specs.PathNames.{PathName}
@@ -20,6 +20,7 @@ use Rattle.up_log_tree.specs.Rights.{access_path, facts_of}
 use Rattle.up_log_tree.specs.Trees.{tree_at}
 use Rattle.up_mem_tree.specs.declared.history.Change.{Change}
 use Rattle.up_mem_tree.specs.declared.others.Named.{Named}
+use Rattle.up_mem_tree.specs.declared.others.Naming.{Naming}
 use Rattle.up_mem_tree.specs.declared.others.Others.{Others}
 use Rattle.up_mem_tree.specs.declared.steps.ParentStep.{ParentStep}
 use Rattle.up_mem_tree.specs.declared.steps.Step.{Step}
@@ -47,49 +48,57 @@ pub record HasAllOthers (owner : UserName) (records : List Rec) (paths : List Pa
 pub record KeepsPaths (old new : List PathName) : Type 0 where
   pub each : (path : PathName) → has_path old path ≡ true → has_path new path ≡ true
 
--- No Access or Group text that was in force after that many records, or after more, names the group.
-pub record IsNamedNoMore (owner : UserName) (records : List Rec) (since : ℕ) (group : PathName) : Type 0 where
-  pub access : (n : ℕ) (dir : PathName) (rules : List Rule) → since ≤ n
-      → (facts_of owner (tree_at records n)).access dir ≡ Some rules → Contains (groups_named rules) group → ⊥
-  pub groups : (n : ℕ) (path : PathName) (items : List Item) → since ≤ n
-      → (facts_of owner (tree_at records n)).group path ≡ Some items → Contains (groups_in items) group → ⊥
-
 -- ---- what is kept of them
 
 -- what is kept of a group
 abbrev pub kept_of : Others → PathName → Option Named
 kept_of others group = option_and_then (slice_get others.named.items) (find path_cmp group others.numbers.entries)
 
--- the record at that position is one of those whose texts name it
-abbrev pub has_record : ℕ → Option Named → Bool
-has_record position None = false
-has_record position (Some named) = is_some (find nat_cmp position named.by.entries)
+-- the text of the record at that position names it, and no record has replaced that text
+abbrev pub is_now : ℕ → Naming → Bool
+is_now position naming = naming.by == position && naming.until == 0
 
--- a text names it, or the last one that did was replaced later than that
-abbrev pub is_since : ℕ → Option Named → Bool
-is_since n None = false
-is_since n (Some named) = not (length named.by.entries == 0) || nat_lt n named.until
+-- the text of the record at that position names it, and no record had replaced that text after the first n records
+abbrev pub was_then : ℕ → ℕ → Naming → Bool
+was_then n position naming = naming.by == position && (naming.until == 0 || nat_lt n naming.until)
+
+-- a text that names a group is known by the record at that position, and is in force still
+abbrev pub names_now : ℕ → Option Named → Bool
+names_now position None = false
+names_now position (Some named) = list_any (is_now position) named.texts.items
+
+-- a text that names a group is known by the record at that position, and was in force still after the first n records
+abbrev pub named_then : ℕ → ℕ → Option Named → Bool
+named_then n position None = false
+named_then n position (Some named) = list_any (was_then n position) named.texts.items
 
 -- the groups that the text of the record at that position is known to name
 abbrev pub named_by : Others → ℕ → List PathName
-named_by others position = filter (λ group. has_record position (kept_of others group)) (keys_of others.numbers.entries)
+named_by others position = filter (λ group. names_now position (kept_of others group)) (keys_of others.numbers.entries)
 
--- the groups that a text names, or has named which was replaced later than that
-abbrev pub named_since : Others → ℕ → List PathName
-named_since others n = filter (λ group. is_since n (kept_of others group)) (keys_of others.numbers.entries)
+-- the groups that the text of the record at that position is known to have named after the first n records
+abbrev pub named_at : Others → ℕ → ℕ → List PathName
+named_at others n position = filter (λ group. named_then n position (kept_of others group)) (keys_of others.numbers.entries)
 
 -- those of these groups that are another owner's are known by the position of the record
 abbrev pub AreNamedBy : UserName → Others → Option ℕ → List PathName → Type 0
 AreNamedBy owner others None groups = ⊥
 AreNamedBy owner others (Some position) groups = HasOthers owner (named_by others position) groups
 
--- Each group of another owner that a text named which was in force after fewer records is known to have been named since then, and each
--- that a text names now is known by the last record that changes the text's path.
+-- those of these groups that are another owner's are known to have been named after the first n records, by the position of the record
+abbrev pub AreNamedAt : UserName → Others → ℕ → Option ℕ → List PathName → Type 0
+AreNamedAt owner others n None groups = ⊥
+AreNamedAt owner others n (Some position) groups = HasOthers owner (named_at others n position) groups
+
+-- Each group of another owner that a text names is known by the record that has made the text: by the last one that changes the text's
+-- path, for a text that is in force; and for one that was in force after fewer records, by the last of these that does.
 pub record AreNamed (owner : UserName) (records : List Rec) (others : Others) : Type 0 where
   pub access_then : (n : ℕ) (dir : PathName) (rules : List Rule) → n < length records
-      → (facts_of owner (tree_at records n)).access dir ≡ Some rules → HasOthers owner (named_since others n) (groups_named rules)
+      → (facts_of owner (tree_at records n)).access dir ≡ Some rules
+      → AreNamedAt owner others n (last_change (take n records) (access_path dir)) (groups_named rules)
   pub groups_then : (n : ℕ) (path : PathName) (items : List Item) → n < length records
-      → (facts_of owner (tree_at records n)).group path ≡ Some items → HasOthers owner (named_since others n) (groups_in items)
+      → (facts_of owner (tree_at records n)).group path ≡ Some items
+      → AreNamedAt owner others n (last_change (take n records) path) (groups_in items)
   pub access_now : (dir : PathName) (rules : List Rule) → (facts_of owner (tree_at records (length records))).access dir ≡ Some rules
       → AreNamedBy owner others (last_change records (access_path dir)) (groups_named rules)
   pub groups_now : (path : PathName) (items : List Item) → (facts_of owner (tree_at records (length records))).group path ≡ Some items
@@ -98,12 +107,12 @@ pub record AreNamed (owner : UserName) (records : List Rec) (others : Others) : 
 -- what was known is known still
 pub record Grows (old new : Others) : Type 0 where
   pub by : (position : ℕ) → KeepsPaths (named_by old position) (named_by new position)
-  pub since : (n : ℕ) → KeepsPaths (named_since old n) (named_since new n)
+  pub at : (n position : ℕ) → KeepsPaths (named_at old n position) (named_at new n position)
 
--- what was known is known still, but for a text that a record replaces: some of what it names was named until that record
+-- what was known is known still, but for a text that a record replaces: that was in force until that record
 pub record Releases (gone : Option ℕ) (until : ℕ) (old new : Others) : Type 0 where
   pub by : (position : ℕ) → gone ≢ Some position → KeepsPaths (named_by old position) (named_by new position)
-  pub since : (n : ℕ) → n < until → KeepsPaths (named_since old n) (named_since new n)
+  pub at : (n position : ℕ) → n < until → KeepsPaths (named_at old n position) (named_at new n position)
 
 -- ---- a record made ready
 

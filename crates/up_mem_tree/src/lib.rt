@@ -6,7 +6,7 @@
 //! tells exactly whether a record fits the log. `make_ready` takes all memory that a record needs, so that `enter` takes none. Each
 //! call costs what it looks at, times a logarithm: so do `positions_under`, of the changes at and below a path, and `texts_stay`, by
 //! which what a text decided at one position is known to hold at another, whatever the records between them change. `others` has each
-//! group of another owner that a text names, or has named, and `is_named_since` tells which of them no text has named since some record.
+//! group of another owner that a text names, or has named, and `first_naming` tells from which change on such a group can be met at all.
 //! `laws.rt` says what holds of every log.
 #![tactic(auto)]
 
@@ -22,6 +22,7 @@ mod kept;
 mod laws;
 mod making;
 mod mem_tree;
+mod namings;
 mod nearest;
 mod nodes;
 mod others;

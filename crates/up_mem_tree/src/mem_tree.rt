@@ -8,7 +8,8 @@ ghost use Rattle.up_policy.specs.Governors.{first_text, prefixes};
 ghost use Rattle.up_mem_tree.specs.Groups.{StayTexts};
 ghost use Rattle.up_mem_tree.specs.Kept.{IsReadyFor, IsSameKept, Stands, slots_of};
 ghost use Rattle.up_mem_tree.specs.Nodes.{node_of};
-ghost use Rattle.up_mem_tree.specs.Others.{Grows, HasAllOthers, HasStepOthers, IsNamedNoMore, is_foreign, named_by};
+ghost use Rattle.up_mem_tree.specs.Others.{Grows, HasAllOthers, HasStepOthers, is_foreign, named_by};
+ghost use Rattle.up_mem_tree.specs.Namings.{IsFirstNaming};
 ghost use Rattle.up_mem_tree.specs.Slots.{named_paths};
 ghost use Rattle.up_mem_tree.specs.ChangesBelow.{AreNoted, CanNoteRecord, noted_all};
 ghost use Rattle.up_log_tree.specs.Changes.{change_before, changes_under, last_change, record_at};
@@ -20,6 +21,7 @@ ghost use Rattle.up_log_tree.specs.Trees.{children, is_parent, node_at, standing
 use crate::changes_below::{Under, changes_above, make_room, note, reserve_one};
 use crate::groups::{group_change_at, note_group};
 use crate::kept::Kept;
+use crate::namings::first_met;
 use crate::nodes::{NodeRef, record_at};
 use crate::others::{Others, add_step};
 use crate::starts::start_of;
@@ -298,13 +300,24 @@ impl MemTree {
         &self.others.numbers
     }
 
-    /// Whether a group of another owner may be named by a text that was in force after the first `n` records, or after more. Where it is
-    /// not, none names it. It takes no memory.
-    pub fn is_named_since(&self, group: &Path, n: u64) -> bool
-        ensures { result ≡ false → is_foreign self.now.owner group.now ≡ true
-            → IsNamedNoMore self.now.owner self.now.log n group.now }
+    /// Of the records above `above` that change a path under this one, the position before which none can need a group of another owner:
+    /// from the path that one of these changes no text can be met that names the group, neither directly after the record nor later. `None`
+    /// where this holds of all of them.
+    ///
+    /// It looks at the texts that name the group, or have named it, and for each at the changes below its directory, by bisection. Where
+    /// they are more than `most`, or one is that of a Group file, it is `above`. It takes no memory.
+    pub fn first_naming(&self, group: &Path, path: &Path, above: u64, most: u64) -> Option<u64>
+        ensures { is_foreign self.now.owner group.now ≡ true
+            → IsFirstNaming self.now.owner self.now.log group.now path.now above result }
     {
-        self.others.is_named_since(group, n)
+        let Some(named) = self.others.kept_of(group) else {
+            return None;
+        };
+        if named.texts.len() as u64 > most {
+            return Some(above);
+        }
+        let below = self.changes_below.as_slice();
+        first_met(below, &self.kept, named.texts.as_slice(), path, above)
     }
 
     /// The position of the snapshot of that time.

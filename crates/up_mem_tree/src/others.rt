@@ -1,14 +1,14 @@
-//! The groups of other owners that texts name, or have named, and since when none does.
+//! The groups of other owners that texts name, or have named, each with the records that have made these texts.
 ghost use Rattle.std.specs.Prelude.{◌≡◌, ◌≢◌, ◌≤◌, ◌∷◌, ◌<◌, ◌+◌, ℕ, [], Some, true, not, length, IfOk, MatchOption, OnOk};
 ghost use Rattle.std.specs.FinMap.Entries.{find};
-ghost use Rattle.std.specs.Option.{option_and_then};
+ghost use Rattle.std.specs.Option.{option_and_then, option_copied};
 ghost use Rattle.up_names.specs.PathNames.{PathName};
 ghost use Rattle.up_names.specs.PathOrder.{path_cmp};
 ghost use Rattle.up_policy.specs.Members.{groups_in};
 ghost use Rattle.up_policy.specs.Reached.{groups_named};
 ghost use Rattle.up_log_tree.specs.Changes.{last_change, path_of_change};
 ghost use Rattle.up_mem_tree.specs.Kept.{Stands};
-ghost use Rattle.up_mem_tree.specs.Others.{Grows, HasAccessOthers, HasGroupOthers, HasOthers, HasParentOthers, HasStepOthers, HasTextsOthers, Releases, has_record, is_foreign, is_since, kept_of, named_by};
+ghost use Rattle.up_mem_tree.specs.Others.{Grows, HasAccessOthers, HasGroupOthers, HasOthers, HasParentOthers, HasStepOthers, HasTextsOthers, Releases, is_foreign, kept_of, named_by, named_then, names_now};
 
 use crate::changes_below::path_of_change;
 use crate::history::Change;
@@ -22,13 +22,18 @@ use up_group::GroupText;
 use up_maps::OrderedMap;
 use up_names::{Item, Path, User};
 
-/// What is kept of a group of another owner that some text names, or has named.
+/// A text that names a group, or has named it: the position of the record that made it, perhaps one that was made ready and never entered;
+/// and that of the record that replaced the text, or 0 while none has.
+#[derive(Clone, Copy)]
+pub(crate) struct Naming {
+    pub(crate) by: u64,
+    pub(crate) until: u64,
+}
+
+/// The texts that name a group of another owner, or have named it, in the order of the records that made them.
 #[derive(Drop)]
 pub(crate) struct Named {
-    /// The positions of the records whose texts name it now; perhaps also of one that was made ready and never entered.
-    pub(crate) by: OrderedMap<u64, ()>,
-    /// The position of the last record that replaced such a text, or 0.
-    pub(crate) until: u64,
+    pub(crate) texts: Vec<Naming>,
 }
 
 /// The groups of other owners that texts name, or have named. A group that is here once stays.
@@ -40,32 +45,60 @@ pub(crate) struct Others {
     pub(crate) named: Vec<Named>,
 }
 
+/// The place of the text that the record at a position has made, where it is here.
+fn place_of(texts: &[Naming], by: u64) -> usize
+    ensures { result ≤ length texts.now }
+{
+    let mut low = 0;
+    let mut high = texts.len();
+    while low < high {
+        let middle = low + (high - low) / 2;
+        if texts[middle].by < by {
+            low = middle + 1;
+        } else {
+            high = middle;
+        }
+    }
+    low
+}
+
 impl Named {
-    /// Whether a text names it, or has named it that was replaced later than after the first `n` records.
-    fn is_since(&self, n: u64) -> bool
-        ensures { result ≡ is_since n (Some self.now) }
+    /// Whether it was noted last that the text of the record at a position names it.
+    fn is_noted(&self, position: u64) -> bool
+        ensures { result ≡ true → names_now position (Some self.now) ≡ true }
     {
-        self.by.len() != 0 || n < self.until
+        match self.texts.last() {
+            Some(last) => last.by == position && last.until == 0,
+            None => false,
+        }
     }
 
-    /// A record's text names it.
+    /// The text of the record at a position names it.
     fn note(&mut self, position: u64) -> Result<(), AllocError>
-        ensures kept { (p : ℕ) → has_record p (Some self.old) ≡ true → has_record p (Some self.new) ≡ true }
-        ensures since { (n : ℕ) → is_since n (Some self.old) ≡ true → is_since n (Some self.new) ≡ true }
-        ensures noted { OnOk result (has_record position (Some self.new) ≡ true) }
+        ensures kept { (p : ℕ) → names_now p (Some self.old) ≡ true → names_now p (Some self.new) ≡ true }
+        ensures was { (n p : ℕ) → named_then n p (Some self.old) ≡ true → named_then n p (Some self.new) ≡ true }
+        ensures noted { OnOk result (names_now position (Some self.new) ≡ true) }
     {
-        self.by.reserve_one()?;
-        self.by.put_reserved(position, ());
+        if self.is_noted(position) {
+            return Ok(());
+        }
+        self.texts.reserve(1)?;
+        self.texts.push_reserved(Naming {
+            by: position,
+            until: 0,
+        });
         Ok(())
     }
 
-    /// The text of the record at `gone` is replaced.
+    /// The text of the record at `gone` is replaced by the record at `position`.
     fn release(&mut self, gone: u64, position: u64)
-        ensures kept { (p : ℕ) → p ≢ gone → has_record p (Some self.old) ≡ true → has_record p (Some self.new) ≡ true }
-        ensures since { (n : ℕ) → n < position → is_since n (Some self.new) ≡ true }
+        ensures kept { (p : ℕ) → p ≢ gone → names_now p (Some self.old) ≡ true → names_now p (Some self.new) ≡ true }
+        ensures was { (n p : ℕ) → n < position → named_then n p (Some self.old) ≡ true → named_then n p (Some self.new) ≡ true }
     {
-        let _was = self.by.remove(&gone);
-        self.until = position;
+        let place = place_of(self.texts.as_slice(), gone);
+        if place < self.texts.len() && self.texts[place].by == gone {
+            self.texts[place].until = position;
+        }
     }
 }
 
@@ -94,17 +127,12 @@ impl Others {
         }
     }
 
-    /// Whether a text names a group, or has named it that was replaced later than after the first `n` records, as far as is known.
-    pub(crate) fn is_named_since(&self, group: &Path, n: u64) -> bool
-        ensures { result ≡ is_since n (kept_of self.now group.now) }
+    /// What is kept of a group.
+    pub(crate) fn kept_of(&self, group: &Path) -> Option<&Named>
+        ensures { option_copied result ≡ kept_of self.now group.now }
     {
-        match self.numbers.get(group) {
-            Some(id) => match self.named.get(*id) {
-                Some(named) => named.is_since(n),
-                None => false,
-            },
-            None => false,
-        }
+        let id = *self.numbers.get(group)?;
+        self.named.get(id)
     }
 
     /// The record at a position names the group with that number.
@@ -113,7 +141,7 @@ impl Others {
         ensures kept { Grows self.old self.new }
         ensures noted { OnOk result ((group : PathName)
             → find path_cmp group self.old.numbers.entries ≡ Some id
-            → has_record position (kept_of self.new group) ≡ true) }
+            → names_now position (kept_of self.new group) ≡ true) }
     {
         self.named[id].note(position)
     }
@@ -132,8 +160,7 @@ impl Others {
         self.named.reserve(1)?;
         self.numbers.put_reserved(group, id);
         self.named.push_reserved(Named {
-            by: OrderedMap::new(alloc),
-            until: 0,
+            texts: Vec::new(alloc),
         });
         Ok(id)
     }

@@ -1,13 +1,12 @@
-use Rattle.std.specs.Map.{keys_of}
-use Rattle.std.proofs.Common.{◌∷◌, []}
-use Rattle.up_foreign.proofs.ReachLemmas.{named_no_more, named_tested}
+use Rattle.up_foreign.proofs.LeftLemmas.{met_from, met_nowhere}
 use Rattle.up_foreign.proofs.left.add_other.Goals as goal
 
--- no text has named it since
-pub returns-then-not-is_named_since-clause-added : goal.returns-then-not-is_named_since-clause-added
-returns-then-not-is_named_since-clause-added c =
-    named_no_more c.args.tree.now c.args.loaded.now c.args.since (keys_of c.args.groups.now.entries) c.args.group.now (c.is_named_since.ensures c.if-not-is_named_since.true)
+-- it can be met at none of the changes
+pub returns-in_default-clause-added : goal.returns-in_default-clause-added
+returns-in_default-clause-added c =
+    met_nowhere c.args.tree.now c.args.loaded.now c.args.range.path.now c.args.range.above c.args.groups.now.entries c.args.group.now c.first_naming.result c.in_default.is c.first_naming.ensures
 
 pub returns-clause-added : goal.returns-clause-added
 returns-clause-added c =
-    named_tested c.args.tree.now c.args.loaded.now c.args.since c.add_group.result c.owner.result.now (keys_of c.add_group.new.groups.entries) (c.args.group.now ∷ []) c.owner.ensures c.add_group.ensures.added
+    met_from c.args.tree.now c.args.loaded.now c.args.range.path.now c.args.range.above c.add_path.result c.add_path.new.groups.entries c.in_ok-copy.copy c.args.group.now c.first_naming.result c.in-Some.first
+    c.in_ok-copy.ensures.cases c.in-Some.is c.first_naming.ensures c.add_path.ensures.added

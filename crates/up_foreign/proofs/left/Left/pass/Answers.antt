@@ -1,14 +1,7 @@
-use Rattle.std.proofs.Common.{refl, ◌∙◌}
+use Rattle.std.proofs.Common.{refl}
+use Rattle.up_foreign.proofs.LeftLemmas.{soon_anew}
 use Rattle.up_foreign.proofs.left.Left.pass.Goals as goal
 
-pub loop-i-init : goal.loop-i-init
-loop-i-init c = (λ tree loaded since covers. covers, refl)
-
-pub loop-i-preserved : goal.loop-i-preserved
-loop-i-preserved c = (λ tree loaded since covers. c.take_out.ensures.covered tree loaded since (c.loop-i.invariant.0 tree loaded since covers), c.take_out.ensures.whole ∙ c.loop-i.invariant.1)
-
-pub returns-clause-covered : goal.returns-clause-covered
-returns-clause-covered c = c.loop-i.invariant.0
-
-pub returns-clause-whole : goal.returns-clause-whole
-returns-clause-whole c = c.loop-i.invariant.1
+pub returns-then-len-before-clause-kept : goal.returns-then-len-before-clause-kept
+returns-then-len-before-clause-kept c = λ tree loaded path above may.
+    soon_anew tree loaded path above c.take_found.new.self (record c.take_found.new.self { soon = c.soonest-self.result }) c.args.names.now refl refl c.soonest-self.ensures (c.take_found.ensures.kept tree loaded path above may)

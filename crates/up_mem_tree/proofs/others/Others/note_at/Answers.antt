@@ -7,7 +7,7 @@ use Rattle.up_mem_tree.proofs.others.Others.note_at.Goals as goal
 pub returns-clause-kept : goal.returns-clause-kept
 returns-clause-kept c =
     noted_at c.args.self.now _ c.args.id c.index_mut.result.now c.note.new.self refl refl
-    (slice_get-get_or c.args.self.now.named.items c.args.id c.index_mut.result.now c.requires ∙ ap Some (sym c.index_mut.ensures.value)) c.note.ensures.kept c.note.ensures.since
+    (slice_get-get_or c.args.self.now.named.items c.args.id c.index_mut.result.now c.requires ∙ ap Some (sym c.index_mut.ensures.value)) c.note.ensures.kept c.note.ensures.was
 
 pub returns-clause-noted : goal.returns-clause-noted
 returns-clause-noted c =
