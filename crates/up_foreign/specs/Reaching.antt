@@ -35,7 +35,7 @@ pub record IsNeededBy (tree : TreeLog) (loaded : Loading) (path : PathName) (abo
   pub later : n ≤ m
   pub needed : Contains (needed_in tree.owner loaded (tree_at tree.log m, changed)) group
 
--- the group is left, and can be needed from this position on
+-- the group is left at this position: from it on, or from an earlier one on
 abbrev pub IsLeftAt : List (PathName × ℕ) → ℕ → PathName → Type 0
 IsLeftAt left n group = IsFrom (find path_cmp group left) n
 
@@ -43,36 +43,44 @@ IsLeftAt left n group = IsFrom (find path_cmp group left) n
 pub record KeepsLeft (old new : List (PathName × ℕ)) : Type 0 where
   pub each : (n : ℕ) (group : PathName) → IsLeftAt old n group → IsLeftAt new n group
 
--- the group, where it has no answer yet, is left wherever it can be met at a change
-pub record IsLeftWhereMet (tree : TreeLog) (loaded : Loading) (path : PathName) (above : ℕ) (left : List (PathName × ℕ)) (group : PathName) : Type 0 where
-  pub each : is_unanswered tree.owner loaded group ≡ true → (n m : ℕ) (changed : PathName) → above < n → n ≤ m → ChangesPath tree.log n changed
-      → is_under changed path ≡ true → CanMeet tree.owner tree.log m changed group → IsLeftAt left n group
+-- the group, where it is another owner's without an answer yet, is left wherever it can be met at a change
+pub record IsLeftWhereMet (tree : TreeLog) (loaded : Loading) (path : PathName) (above : ℕ)
+    (left : List (PathName × ℕ)) (group : PathName) : Type 0 where
+  pub each : is_unanswered tree.owner loaded group ≡ true → (n m : ℕ) (changed : PathName) → above < n → n ≤ m
+      → ChangesPath tree.log n changed → is_under changed path ≡ true → CanMeet tree.owner tree.log m changed group → IsLeftAt left n group
 
 -- each of these groups is
 abbrev pub AreLeftWhereMet : TreeLog → Loading → PathName → ℕ → List (PathName × ℕ) → List PathName → Type 0
-AreLeftWhereMet tree loaded path above left groups = (group : PathName) → Contains groups group → IsLeftWhereMet tree loaded path above left group
+AreLeftWhereMet tree loaded path above left groups =
+    (group : PathName) → Contains groups group → IsLeftWhereMet tree loaded path above left group
 
--- those of these groups that have no answer yet are left everywhere
+-- those of these groups that are another owner's without an answer yet are left everywhere
 abbrev pub AreLeft : UserName → Loading → List (PathName × ℕ) → List PathName → Type 0
-AreLeft owner loaded left groups = (group : PathName) → Contains groups group → is_unanswered owner loaded group ≡ true → (n : ℕ) → IsLeftAt left n group
+AreLeft owner loaded left groups =
+    (group : PathName) → Contains groups group → is_unanswered owner loaded group ≡ true → (n : ℕ) → IsLeftAt left n group
 
--- those that a loaded text names are
+-- those that a loaded text names are, where they have no answer yet
 abbrev pub HasReadOnes : UserName → Loading → PathName → List (PathName × ℕ) → Type 0
-HasReadOnes owner loaded name left = (items : List Item) → loaded_text loaded name ≡ Some items → AreLeft owner loaded left (groups_in items)
+HasReadOnes owner loaded name left =
+    (items : List Item) → loaded_text loaded name ≡ Some items → AreLeft owner loaded left (groups_in items)
 
 -- each group that is needed at a change is among the names, or left at it
-pub record CoversNeeds (tree : TreeLog) (loaded : Loading) (path : PathName) (above : ℕ) (left : List (PathName × ℕ)) (names : List PathName) : Type 0 where
-  pub each : (n : ℕ) (group : PathName) → IsNeededBy tree loaded path above n group → IsLeftAt left n group ⊎ Contains names group
+pub record CoversNeeds (tree : TreeLog) (loaded : Loading) (path : PathName) (above : ℕ)
+    (left : List (PathName × ℕ)) (names : List PathName) : Type 0 where
+  pub each : (n : ℕ) (group : PathName) → IsNeededBy tree loaded path above n group
+      → IsLeftAt left n group ⊎ Contains names group
 
 -- none of those that are left can be needed before this position
 abbrev pub IsSoon : List (PathName × ℕ) → ℕ → Type 0
 IsSoon left soon = (n : ℕ) (group : PathName) → IsLeftAt left n group → soon ≤ n
 
--- where all that is left was gathered, this is so
-pub record MayCover (tree : TreeLog) (loaded : Loading) (path : PathName) (above : ℕ) (left : Left) (names : List PathName) : Type 0 where
+-- Where all that is left was gathered, each group that is needed at a change is among the names or left at it; and none is left before
+-- `soon`.
+pub record MayCover (tree : TreeLog) (loaded : Loading) (path : PathName) (above : ℕ)
+    (left : Left) (names : List PathName) : Type 0 where
   pub covers : left.whole ≡ true → CoversNeeds tree loaded path above left.groups.entries names
   pub soon : IsSoon left.groups.entries left.soon
 
--- the positions rise
+-- the positions never fall
 pub record IsRising (positions : List ℕ) : Type 0 where
   pub each : (i j m n : ℕ) → i ≤ j → slice_get positions i ≡ Some m → slice_get positions j ≡ Some n → m ≤ n

@@ -1,5 +1,5 @@
 //! What can still be needed, and from which change on: a search passes over changes at which nothing can be, and ends once all was found.
-ghost use Rattle.std.specs.Prelude.{◌≡◌, ◌≤◌, ◌<◌, ◌∷◌, [], ℕ, true, IfOk, OnOk, Some, length, slice_get, Contains};
+ghost use Rattle.std.specs.Prelude.{◌≡◌, ◌≤◌, ◌<◌, ◌∷◌, [], ℕ, List, true, IfOk, OnOk, Some, length, slice_get, Contains};
 ghost use Rattle.std.specs.FinMap.Entries.{find};
 ghost use Rattle.std.specs.Map.{keys_of};
 ghost use Rattle.up_foreign.specs.Reaching.{AreLeft, AreLeftWhereMet, HasReadOnes, IsLeftAt, IsNeededBy, IsRising, IsSoon, KeepsLeft, MayCover, is_unanswered};
@@ -10,13 +10,18 @@ ghost use Rattle.up_policy.specs.Loadings.{Loading};
 ghost use Rattle.up_policy.specs.Members.{groups_in};
 
 use std::alloc::{AllocError, Global};
+use std::mem::replace;
 use up_maps::OrderedMap;
 use up_mem_tree::MemTree;
 use up_names::{Item, Path, User};
 use up_policy::{Loaded, Names};
 
-/// With more groups left than this, the first position at which one of them can be needed is not looked for anew.
+/// With more groups left than this, the first position at which one of them can be needed is not looked for anew when one is found.
 const FEW: u64 = 256;
+
+/// Once so many changes were looked at, and again each time their number has doubled, it is looked for from which change on each group can
+/// be met, among as many texts as changes were looked at.
+const MANY: u64 = 256;
 
 /// The groups that can be needed and are not among the names yet, each with a position before which it is not; one before which none of
 /// them is; how many of the names were looked at, and whether all groups were gathered.
@@ -145,11 +150,12 @@ fn add_loaded(
     Err(AllocError)
 }
 
-/// What can be needed is looked for at the changes above a position that change a path under this one.
+/// The records above a position that change a path under this one, and how many they are.
 #[derive(Clone, Copy)]
 pub(crate) struct Range<'a> {
     pub(crate) path: &'a Path,
     pub(crate) above: u64,
+    pub(crate) changes: usize,
 }
 
 /// Adds a group that the tree's texts name, or have named, where it would have to be loaded: from the first change on at which it can be
@@ -225,30 +231,24 @@ fn from_at(groups: &OrderedMap<Path, u64>, i: u64) -> Option<u64>
     groups.get(groups.key_at(i)?).copied()
 }
 
-/// The first position at which one of these groups can be needed; the greatest number where there are none, and 0 where they are many.
-fn soonest(groups: &OrderedMap<Path, u64>) -> u64
-    ensures { IsSoon groups.now.entries result }
+/// The first position at which one of these groups can be needed, where none of them can before `was`; the greatest number where there are
+/// none. As soon as one is found that can be needed from `was` on, it ends.
+fn soonest(groups: &OrderedMap<Path, u64>, was: u64) -> u64
+    ensures { IsSoon groups.now.entries was → IsSoon groups.now.entries result }
 {
-    if groups.len() > FEW {
-        return 0;
-    }
     let mut soon = u64::MAX;
     for i in 0..groups.len() {
         match from_at(groups, i) {
-            Some(from) => soon = soon.min(from),
-            None => return 0,
+            Some(from) if from > was => soon = soon.min(from),
+            Some(_) | None => return was,
         }
     }
     soon
 }
 
-/// The share of each of some groups, where so many texts may be looked at for all of them; none where there are not fewer groups.
-fn share_of(places: usize, groups: u64) -> Option<u64> {
-    if groups < places as u64 {
-        Some(places as u64 / groups.max(1))
-    } else {
-        None
-    }
+/// Whether it is looked ahead once so many changes were looked at, where so many groups were ever named.
+fn is_turn(count: u64, groups: u64) -> bool {
+    count >= groups.max(MANY) && count.is_power_of_two()
 }
 
 /// The place of the first of some positions that is not before `soon`, from a place on.
@@ -276,29 +276,31 @@ fn place_from(positions: &[u64], i: usize, soon: u64) -> usize
 }
 
 impl Left {
-    /// All that can be needed at the changes of a range, of which there are so many. Where more groups were ever named, nothing is gathered.
+    /// All that can be needed at the changes of a range: from the first change on at which it can be met, for which at most so many texts
+    /// are looked at, or from the range's first. Where as many groups as changes were ever named, or more, nothing is gathered.
     pub(crate) fn new(
         alloc: Global,
         tree: &MemTree,
         loaded: &Loaded,
         range: Range,
-        places: usize,
+        most: u64,
     ) -> Result<Left, AllocError>
         ensures { IfOk result (λ left. MayCover tree.now loaded.now range.entry.path.now range.entry.above left []) }
     {
         let mut groups = OrderedMap::new(alloc);
         let others = tree.others();
-        let Some(most) = share_of(places, others.len()) else {
+        if others.len() >= range.changes as u64 {
             return Ok(Left {
                 groups,
                 soon: 0,
                 seen: 0,
                 whole: false,
             });
-        };
-        match add_all(tree, loaded, range, most, others, &mut groups) {
+        }
+        let share = most / others.len().max(1);
+        match add_all(tree, loaded, range, share, others, &mut groups) {
             Ok(()) => Ok(Left {
-                soon: soonest(&groups),
+                soon: soonest(&groups, 0),
                 groups,
                 seen: 0,
                 whole: true,
@@ -308,6 +310,28 @@ impl Left {
                 Err(fault)
             }
         }
+    }
+
+    /// Looks for from which change on each group can be met, once as many changes were looked at as groups were ever named, and among as
+    /// many texts as changes. Besides, it gathers anew what the loaded texts name.
+    pub(crate) fn look_ahead(
+        &mut self,
+        alloc: Global,
+        tree: &MemTree,
+        loaded: &Loaded,
+        range: Range,
+        count: u64,
+    ) -> Result<(), AllocError>
+        ensures { OnOk result ((names : List PathName)
+            → MayCover tree.now loaded.now range.entry.path.now range.entry.above self.old names
+            → MayCover tree.now loaded.now range.entry.path.now range.entry.above self.new names) }
+    {
+        if !is_turn(count, tree.others().len()) {
+            return Ok(());
+        }
+        let left = Left::new(alloc, tree, loaded, range, count)?;
+        drop(replace(self, left));
+        Ok(())
     }
 
     /// Takes a name out.
@@ -344,13 +368,14 @@ impl Left {
     {
         let before = self.groups.len();
         self.take_found(names);
-        if self.groups.len() < before {
-            self.soon = soonest(&self.groups);
+        let now = self.groups.len();
+        if now < before && now <= FEW {
+            self.soon = soonest(&self.groups, self.soon);
         }
     }
 
     /// The place, from `i` on, of the next position at which what is left can be needed; that behind the last one where nothing is. Each
-    /// name is looked at once, however often this is asked.
+    /// name is looked at once, however often this is asked, and once more after each look ahead.
     pub(crate) fn next(&mut self, names: &Names, positions: &[u64], i: usize) -> usize
         requires rising { IsRising positions.now }
         requires within { i ≤ length positions.now }

@@ -9,9 +9,10 @@
 //! A Glob looks at each item that its pattern can match, a Watch at the path of each record above its sequence that is under the watched
 //! path: in the tree as it is, and in the tree directly after the record. These records are found by their positions. A text that governs
 //! many of these places is searched once in the tree as it is, and in the trees before once, and again only where it or a Group file has
-//! changed since (`noted.rt`); each further place costs a look at the path. Where no text of the tree names a group of another owner, or has
-//! named one, nothing is looked at. A Watch passes over changes at which none can be met of the groups that the tree's texts and the loaded
-//! ones name, without a look at them, and ends its search once all of these were found (`left.rt`).
+//! changed since (`noted.rt`); each further place costs a look at the path. Where no text of the tree names a group of another owner, or
+//! has named one, nothing is looked at. A Watch looks at its first changes, then passes over those before the first at which it can meet a
+//! group that it has not found, of those that the tree's texts and the loaded ones name; and it ends its search once it has found all
+//! (`left.rt`).
 #![tactic(auto)]
 
 mod groups;

@@ -512,13 +512,17 @@ fn note_events(
 {
     tree.recall();
     let positions = tree.positions_under(path, above);
-    let range = Range { path, above };
+    let range = Range {
+        path,
+        above,
+        changes: positions.len(),
+    };
     note_positions(alloc, tree, user, positions, range, loaded, noted, names)
 }
 
 /// Adds what is needed at the paths that the records at these positions change: those above a position that change a path under this one. A
-/// text is looked at once, and again where it or a Group file has changed since; positions at which nothing that is left can be needed are
-/// passed over by bisection, and once all was found, those behind are not looked at.
+/// text is looked at once, and again where it or a Group file has changed since. From the 256th position on, those before the first at
+/// which something that is left can be needed are passed over by bisection; and once all was found, those behind are not looked at.
 fn note_positions(
     alloc: Global,
     tree: &MemTree,
@@ -537,9 +541,10 @@ fn note_positions(
         (flat_map (places_at tree.now.log) positions.now))) }
 {
     let mut times = Times::new(alloc, noted);
-    let mut left = Left::new(alloc, tree, loaded, range, positions.len())?;
+    let mut left = Left::new(alloc, tree, loaded, range, 0)?;
     let mut next = 0;
-    for _ in 0..u64::MAX {
+    for count in 0..u64::MAX {
+        left.look_ahead(alloc, tree, loaded, range, count)?;
         next = left.next(names, positions, next);
         let Some(position) = position_at(positions, next) else {
             return Ok(());

@@ -1,15 +1,16 @@
 -- What is kept of the groups of other owners: what is known stays known.
-use Rattle.std.proofs.Common.{◌≡◌, ◌≢◌, ℕ, zero, suc, ◌<◌, ◌≤◌, ◌==◌, Bool, true, false, cond, ◌&&◌, ◌||◌, List, [], ◌∷◌, ◌++◌, length, get_or, filter, refl, sym, ap, subst, ◌∙◌, arith, Option, Some, None, Result, Ok, Err, is_some}
+use Rattle.std.proofs.Common.{◌≡◌, ◌≢◌, ℕ, zero, suc, ◌+◌, ◌<◌, ◌≤◌, ◌==◌, Bool, true, false, not, cond, ◌&&◌, ◌||◌, List, [], ◌∷◌, ◌++◌, length, filter, refl, sym, ap, subst, ◌∙◌, arith, Option, Some, None, Result, Ok, Err, is_some}
 use Rattle.std.proofs.Math.ListN.{set}
 use Rattle.std.specs.Prelude.{MatchOption, OnOk, nat_lt, slice_get}
 use Rattle.std.specs.List.{list_any}
-use Rattle.std.specs.Cmp.{Equal-is, tied_itself}
-use Rattle.std.specs.FinMap.Entries.{find, find-put, put}
+use Rattle.std.specs.Cmp.{Equal-is, nat_cmp_total, tied_itself}
+use Rattle.std.specs.FinMap.Entries.{find, find-put, find-where_key, put, where_key}
 use Rattle.std.specs.Map.{keys_of}
 use Rattle.std.specs.Option.{option_and_then}
-use Rattle.std.specs.Ordering.{eq_by_cmp, is_eq}
-use Rattle.std.proofs.lemmas.Bool.{and_from, and_parts, eqb-false, eqb-true, false≢true, lt-ltb, or_right}
-use Rattle.std.proofs.lemmas.Option.{slice_get-get_or}
+use Rattle.std.specs.Ordering.{eq_by_cmp, is_eq, nat_cmp}
+use Rattle.std.specs.declared.cmp.Ordering.TheVariants.{Equal}
+use Rattle.std.proofs.lemmas.Bool.{and_from, eqb-false, eqb-true, false≢true, lt-ltb, ne_eqb, or_right}
+use Rattle.std.proofs.lemmas.List.Folds.{list_any-append}
 use Rattle.up_names.specs.PathNames.{PathName}
 use Rattle.up_names.specs.PathOrder.{path_cmp}
 use Rattle.up_names.specs.PathOrderLaws.{path_cmp_total, path_exact}
@@ -17,69 +18,121 @@ use Rattle.up_log_tree.specs.Orders.{has_path as has}
 use Rattle.up_log_tree.proofs.Paths.{some_none, some_same}
 use Rattle.up_log_tree.proofs.Rising.{has-filter}
 use Rattle.up_log_tree.proofs.Trees.{has_key}
+use Rattle.up_mem_tree.specs.declared.gone.Naming.{Naming}
 use Rattle.up_mem_tree.specs.declared.others.Named.{Named}
-use Rattle.up_mem_tree.specs.declared.others.Naming.{Naming}
 use Rattle.up_mem_tree.specs.declared.others.Others.{Others}
-use Rattle.up_mem_tree.specs.Others.{Grows, Releases, is_now, kept_of, named_at, named_by, named_then, names_now, was_then}
+use Rattle.up_mem_tree.specs.Others.{Grows, Releases, kept_of, named_at, named_by, named_then, names_now, was_then}
 use Rattle.up_mem_tree.proofs.SlotLemmas.{get-set, get_set}
+use Rattle.up_mem_tree.proofs.SnapTimes.{tied}
 
 -- ---- a group
+
+or_first : (a b : Bool) → a ≡ true → (a || b) ≡ true
+or_first true b h = refl
+or_first false b h = absurd (false≢true h)
+
+-- one of three
+one_of : (a b c x y z : Bool) → (a ≡ true → (x || y || z) ≡ true) → (b ≡ true → (x || y || z) ≡ true) → (c ≡ true → (x || y || z) ≡ true) → (a || b || c) ≡ true → (x || y || z) ≡ true
+one_of true b c x y z first second third h = first refl
+one_of false true c x y z first second third h = second refl
+one_of false false c x y z first second third h = third h
+
+first_of : (x y z : Bool) → x ≡ true → (x || y || z) ≡ true
+first_of true y z h = refl
+first_of false y z h = absurd (false≢true h)
+
+second_of : (x y z : Bool) → y ≡ true → (x || y || z) ≡ true
+second_of true y z h = refl
+second_of false true z h = refl
+second_of false false z h = absurd (false≢true h)
+
+third_of : (x y z : Bool) → z ≡ true → (x || y || z) ≡ true
+third_of true y z h = refl
+third_of false true z h = refl
+third_of false false z h = h
 
 -- a text that is in force still was in force
 pub then_by : (n position : ℕ) (o : Option Named) → names_now position o ≡ true → named_then n position o ≡ true
 then_by n position None h = absurd (false≢true h)
-then_by n position (Some named) h = go named.texts.items h
-  where
-    one : (a b c : Bool) → (a && b) ≡ true → (a && (b || c)) ≡ true
-    one true true c h = refl
-    one true false c h = absurd (false≢true h)
-    one false b c h = absurd (false≢true h)
+then_by n position (Some named) h = first_of (names_now position (Some named)) (nat_lt n named.until) (list_any (was_then n position) named.gone) h
 
-    both : (a b c d : Bool) → (a ≡ true → c ≡ true) → (b ≡ true → d ≡ true) → (a || b) ≡ true → (c || d) ≡ true
-    both true b c d first rest h = ap (λ x. x || d) (first refl)
-    both false b c d first rest h = or_right c d (rest h)
+-- one more record
+module _ (position : ℕ) (old new : List (ℕ × (Unit {0}))) (x : Unit {0}) (by : new ≡ put nat_cmp position x old) where
+  put_is : (p : ℕ) → find nat_cmp p new ≡ cond (eq_by_cmp nat_cmp p position) (Some x) (find nat_cmp p old)
+  put_is p = ap (find nat_cmp p) by ∙ find-put nat_cmp nat_cmp_total p position x old
 
-    go : (texts : List Naming) → list_any (is_now position) texts ≡ true → list_any (was_then n position) texts ≡ true
-    go [] h = absurd (false≢true h)
-    go (text ∷ texts) h = both (is_now position text) (list_any (is_now position) texts) (was_then n position text) (list_any (was_then n position) texts)
-        (one (text.by == position) (text.until == 0) (nat_lt n text.until)) (go texts) h
+  pub record_put : is_some (find nat_cmp position new) ≡ true
+  record_put = ap is_some (put_is position) ∙ ap (λ o. is_some (cond (is_eq o) (Some x) (find nat_cmp position old))) (tied_itself nat_cmp_total position)
 
--- what stands at a place does not depend on what would be read behind the end
-pub same_get : {X : Type 0} (xs : List X) (i : ℕ) (d e : X) → i < length xs → get_or xs i d ≡ get_or xs i e
-same_get xs i d e within = some_same (get_or xs i d) (get_or xs i e) (sym (slice_get-get_or xs i d within) ∙ slice_get-get_or xs i e within)
-
--- a text is replaced
-module _ (test : Naming → Bool) (texts : List Naming) (place : ℕ) (was is : Naming) (there : slice_get texts place ≡ Some was) (stays : test was ≡ true → test is ≡ true) where
-  any_set : list_any test texts ≡ true → list_any test (set texts place is) ≡ true
-  any_set h = go texts place there h
+  pub record_stays : (p : ℕ) → is_some (find nat_cmp p old) ≡ true → is_some (find nat_cmp p new) ≡ true
+  record_stays p h = ap is_some (put_is p) ∙ go (eq_by_cmp nat_cmp p position)
     where
-      first : (b : Bool) → (test was || b) ≡ true → (test is || b) ≡ true
-      first b h = by (test was) refl h
-        where
-          by : (a : Bool) → test was ≡ a → (a || b) ≡ true → (test is || b) ≡ true
-          by true passes h = ap (λ x. x || b) (stays passes)
-          by false fails h = or_right (test is) b h
+      go : (b : Bool) → is_some (cond b (Some x) (find nat_cmp p old)) ≡ true
+      go true = refl
+      go false = h
 
-      rest : (a b c : Bool) → (b ≡ true → c ≡ true) → (a || b) ≡ true → (a || c) ≡ true
-      rest true b c more h = refl
-      rest false b c more h = more h
+  pub then_stays : (texts now : List Naming) → now ≡ texts → (until n p : ℕ) → (is_some (find nat_cmp p old) || nat_lt n until || list_any (was_then n p) texts) ≡ true →
+      (is_some (find nat_cmp p new) || nat_lt n until || list_any (was_then n p) now) ≡ true
+  then_stays texts now same until n p h =
+      let x = is_some (find nat_cmp p new) in
+      let y = nat_lt n until in
+      let z = list_any (was_then n p) now in
+      one_of (is_some (find nat_cmp p old)) y (list_any (was_then n p) texts) x y z (λ there. first_of x y z (record_stays p there)) (second_of x y z) (λ one. third_of x y z (ap (list_any (was_then n p)) same ∙ one)) h
 
-      go : (ts : List Naming) (i : ℕ) → slice_get ts i ≡ Some was → list_any test ts ≡ true → list_any test (set ts i is) ≡ true
-      go [] i at h = absurd (false≢true h)
-      go (t ∷ ts) zero at h = first (list_any test ts) (ap (λ t. test t || list_any test ts) (sym (some_same t was at)) ∙ h)
-      go (t ∷ ts) (suc i) at h = rest (test t) (list_any test ts) (list_any test (set ts i is)) (go ts i at) h
+-- a record less
+module _ (gone : ℕ) (old new : List (ℕ × (Unit {0}))) (by : new ≡ where_key nat_cmp (λ other. not (eq_by_cmp nat_cmp gone other)) old) where
+  pub record_left : (p : ℕ) → p ≢ gone → is_some (find nat_cmp p old) ≡ true → is_some (find nat_cmp p new) ≡ true
+  record_left p other h =
+      ap (λ es. is_some (find nat_cmp p es)) by
+      ∙ (ap is_some (find-where_key nat_cmp (λ other. not (eq_by_cmp nat_cmp gone other)) p (λ x t. ap (λ q. not (eq_by_cmp nat_cmp gone q)) (sym (exact p x t))) old
+      ∙ ap (λ b. cond (not b) (find nat_cmp p old) None) (tied gone p ∙ ne_eqb p gone other)) ∙ h)
+    where
+      exact : (a b : ℕ) → nat_cmp a b ≡ Equal → a ≡ b
+      exact a b t = sym (eqb-true b a (sym (tied a b) ∙ ap is_eq t))
 
-pub now_left : (texts : List Naming) (place gone : ℕ) (was is : Naming) → slice_get texts place ≡ Some was → was.by ≡ gone →
-    (p : ℕ) → p ≢ gone → list_any (is_now p) texts ≡ true → list_any (is_now p) (set texts place is) ≡ true
-now_left texts place gone was is there by p other h =
-    any_set (is_now p) texts place was is there (λ passes. absurd (other (sym (sym by ∙ eqb-true was.by p (and_parts (was.by == p) (was.until == 0) passes).0)))) h
+  -- that it was there is remembered
+  module _ (position : ℕ) (texts texts_now : List Naming) (until until_now : ℕ) where
+    pub then_left : ((n : ℕ) → n < position → is_some (find nat_cmp gone old) ≡ true → (nat_lt n until_now || list_any (was_then n gone) texts_now) ≡ true) → ((n : ℕ) → n < position → nat_lt n until ≡ true → nat_lt n until_now ≡ true) →
+        ((n p : ℕ) → list_any (was_then n p) texts ≡ true → list_any (was_then n p) texts_now ≡ true) → (n p : ℕ) → n < position → (is_some (find nat_cmp p old) || nat_lt n until || list_any (was_then n p) texts) ≡ true →
+        (is_some (find nat_cmp p new) || nat_lt n until_now || list_any (was_then n p) texts_now) ≡ true
+    then_left remembered later more n p less h =
+        one_of (is_some (find nat_cmp p old)) (nat_lt n until) (list_any (was_then n p) texts) x y z (λ there. by_place (p == gone) refl there) (λ early. second_of x y z (later n less early)) (λ one. third_of x y z (more n p one)) h
+      where
+        x : Bool
+        x = is_some (find nat_cmp p new)
 
-pub then_left : (texts : List Naming) (place position : ℕ) (was is : Naming) → slice_get texts place ≡ Some was → is.by ≡ was.by → is.until ≡ position →
-    (n p : ℕ) → n < position → list_any (was_then n p) texts ≡ true → list_any (was_then n p) (set texts place is) ≡ true
-then_left texts place position was is there by until n p less h =
-    any_set (was_then n p) texts place was is there
-    (λ passes. and_from (is.by == p) (is.until == 0 || nat_lt n is.until) (ap (λ b. b == p) by ∙ (and_parts (was.by == p) (was.until == 0 || nat_lt n was.until) passes).0)
-    (or_right (is.until == 0) (nat_lt n is.until) (lt-ltb n is.until (omega (arith, less, until))))) h
+        y : Bool
+        y = nat_lt n until_now
+
+        z : Bool
+        z = list_any (was_then n p) texts_now
+
+        rest : (a b c : Bool) → (b || c) ≡ true → (a || b || c) ≡ true
+        rest true b c h = refl
+        rest false b c h = h
+
+        by_place : (b : Bool) → (p == gone) ≡ b → is_some (find nat_cmp p old) ≡ true → (x || y || z) ≡ true
+        by_place true same there =
+            let e : gone ≡ p = sym (eqb-true p gone same) in
+            rest x y z (subst (λ q. (nat_lt n until_now || list_any (was_then n q) texts_now) ≡ true) e (remembered n less (subst (λ q. is_some (find nat_cmp q old) ≡ true) (sym e) there)))
+        by_place false other there = first_of x y z (record_left p (eqb-false p gone other) there)
+
+-- a text more that was replaced
+pub text_pushed : (texts now : List Naming) (gone position : ℕ) → now ≡ texts ++ record { by = gone; until = position } ∷ [] → (n : ℕ) → n < position → list_any (was_then n gone) now ≡ true
+text_pushed texts now gone position is n less =
+    ap (list_any (was_then n gone)) is
+    ∙ (list_any-append (was_then n gone) texts (record { by = gone; until = position } ∷ [])
+    ∙ or_right (list_any (was_then n gone) texts) (((gone == gone) && nat_lt n position) || false) (or_first ((gone == gone) && nat_lt n position) false (and_from (gone == gone) (nat_lt n position) (eqb-itself gone) (lt-ltb n position less))))
+  where
+    eqb-itself : (n : ℕ) → (n == n) ≡ true
+    eqb-itself n = go (n == n) refl
+      where
+        go : (b : Bool) → (n == n) ≡ b → (n == n) ≡ true
+        go true is = is
+        go false other = absurd (eqb-false n n other refl)
+
+pub texts_more : (texts now : List Naming) (text : Naming) → now ≡ texts ++ text ∷ [] → (n p : ℕ) → list_any (was_then n p) texts ≡ true → list_any (was_then n p) now ≡ true
+texts_more texts now text is n p h = ap (list_any (was_then n p)) is ∙ (list_any-append (was_then n p) texts (text ∷ []) ∙ or_first (list_any (was_then n p) texts) (list_any (was_then n p) (text ∷ [])) h)
 
 -- ---- the groups of which something is known
 

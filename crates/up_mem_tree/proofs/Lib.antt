@@ -39,3 +39,4 @@ pub mod Othered
 pub mod Started
 pub mod Held
 pub mod Meeting
+pub mod InOrder

@@ -15,10 +15,9 @@ use Rattle.up_log_tree.specs.Rights.{access_path, facts_of, is_group}
 use Rattle.up_log_tree.specs.Trees.{tree_at}
 use Rattle.up_log_tree.proofs.Fronts.{take_next, whole_front}
 use Rattle.up_log_tree.proofs.Paths.{cut_cut, parent_extended, path_same, some_none, some_same}
-use Rattle.up_mem_tree.specs.Namings.{ChangesPath, IsFirstMet, IsFirstOf, IsFrom, IsMetBy}
+use Rattle.up_mem_tree.specs.Namings.{ChangesPath, IsFirstMet, IsFirstNow, IsFirstOf, IsFrom, IsMetBy}
 use Rattle.up_mem_tree.specs.Slots.{IsIdOf, IsParentIdOf, Known, path_in}
-use Rattle.up_mem_tree.specs.declared.others.Named.{Named}
-use Rattle.up_mem_tree.specs.declared.others.Naming.{Naming}
+use Rattle.up_mem_tree.specs.declared.gone.Naming.{Naming}
 use Rattle.up_mem_tree.proofs.Named.{last_change-none, last_change-push}
 use Rattle.up_mem_tree.proofs.Noted.{front_is, under-Decides}
 use Rattle.up_mem_tree.proofs.RecordChanges.{group_never}
@@ -60,7 +59,7 @@ module _ (test : Rec → Bool) where
       by true later = omega arith
       by false later = subst (IsFrom (slice_get (positions_of test (suc k) rest) 0)) (let e : suc k + j + 1 ≡ k + suc j + 1 = omega arith in e) later
 
-get_drop : {X : Type 0} (n : ℕ) (xs : List X) (j : ℕ) → slice_get (drop n xs) j ≡ slice_get xs (n + j)
+pub get_drop : {X : Type 0} (n : ℕ) (xs : List X) (j : ℕ) → slice_get (drop n xs) j ≡ slice_get xs (n + j)
 get_drop zero xs j = ap (slice_get xs) (let e : j ≡ 0 + j = omega arith in e)
 get_drop (suc n) [] j = refl
 get_drop (suc n) (x ∷ xs) j = get_drop n xs j ∙ ap (slice_get (x ∷ xs)) (let e : suc (n + j) ≡ suc n + j = omega arith in e)
@@ -85,9 +84,6 @@ first_under records dir above (suc n) changed less is under =
 
 -- ---- the texts, one after the other
 
-pub first_none : (records : List Rec) (path : PathName) (above : ℕ) (first : Option ℕ) → IsFirstOf records [] path above first
-first_none records path above first = λ naming there. absurd (no_member naming there)
-
 pub first_next : (records : List Rec) (texts : List Naming) (i : ℕ) (naming : Naming) (path : PathName) (above : ℕ) (old next new : Option ℕ) → slice_get texts i ≡ Some naming → ((n : ℕ) → IsFrom old n → IsFrom new n) →
     ((n : ℕ) → IsFrom next n → IsFrom new n) → IsFirstOf records (take i texts) path above old → IsFirstMet records path above next naming → IsFirstOf records (take (i + 1) texts) path above new
 first_next records texts i naming path above old next new at one other before last =
@@ -102,6 +98,26 @@ first_next records texts i naming path above old next new at one other before la
 
 pub first_all : (records : List Rec) (texts : List Naming) (i : ℕ) (path : PathName) (above : ℕ) (first : Option ℕ) → length texts ≤ i → IsFirstOf records (take i texts) path above first → IsFirstOf records texts path above first
 first_all records texts i path above first past told = subst (λ ts. IsFirstOf records ts path above first) (take_all i texts past) told
+
+pub now_next : (records : List Rec) (positions : List ℕ) (i position : ℕ) (path : PathName) (above : ℕ) (old next new : Option ℕ) → Some position ≡ slice_get positions i → ((n : ℕ) → IsFrom old n → IsFrom new n) →
+    ((n : ℕ) → IsFrom next n → IsFrom new n) → IsFirstNow records (take i positions) path above old → IsFirstMet records path above next (record { by = position; until = 0 }) → IsFirstNow records (take (i + 1) positions) path above new
+now_next records positions i position path above old next new at one other before last =
+    subst (λ ps. IsFirstNow records ps path above new) (sym (ap (λ m. take m positions) (let e : i + 1 ≡ suc i = omega arith in e) ∙ take_next i positions position (sym at)))
+    (λ p there n changed less is under met. elim (Contains-append_cases (take i positions) (position ∷ []) p there) [
+      | inl early ↦ one n (before p early n changed less is under met)
+      | inr late ↦ elim (Contains-cons position p [] late) [
+        | inl same ↦ other n (last n changed less is under (subst (λ q. IsMetBy records (record { by = q; until = 0 }) n changed) (sym same) met))
+        | inr none ↦ absurd (no_member p none)
+      ]
+    ])
+
+pub now_all : (records : List Rec) (positions : List ℕ) (i : ℕ) (path : PathName) (above : ℕ) (first : Option ℕ) → None ≡ slice_get positions i → IsFirstNow records (take i positions) path above first → IsFirstNow records positions path above first
+now_all records positions i path above first none told = subst (λ ps. IsFirstNow records ps path above first) (take_all i positions (short i positions none)) told
+  where
+    short : {X : Type 0} (n : ℕ) (xs : List X) → None ≡ slice_get xs n → length xs ≤ n
+    short n [] h = omega arith
+    short zero (x ∷ xs) h = absurd (some_none x (sym h))
+    short (suc n) (x ∷ xs) h = let e = short n xs h in omega (arith, e)
 
 -- ---- the last change of a path is a change of it
 
@@ -140,11 +156,6 @@ front_changes records m (suc p) path is = let rec = changes_rec (slice_get (take
     of_front (suc m) p [] x at = at
     of_front (suc m) zero (y ∷ xs) x at = at
     of_front (suc m) (suc p) (y ∷ xs) x at = of_front m p xs x at
-
--- the texts of what is kept of a group
-abbrev pub texts_of : Option Named → List Naming
-texts_of None = []
-texts_of (Some named) = named.texts.items
 
 -- the text of a Group file is that of a Group path
 pub group_only : (owner : List ℕ) (records : List Rec) (n : ℕ) (path : PathName) (items : List Item) → (facts_of owner (tree_at records n)).group path ≡ Some items → is_group path ≡ true

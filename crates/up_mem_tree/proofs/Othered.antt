@@ -1,10 +1,12 @@
 -- The groups of other owners that texts name, as they are kept.
-use Rattle.std.proofs.Common.{◌≡◌, ◌≢◌, ◌⊎◌, ℕ, zero, suc, ◌+◌, ◌<◌, ◌≤◌, Bool, true, false, cond, ◌||◌, List, [], ◌∷◌, ◌++◌, length, take, get_or, refl, sym, ap, subst, ◌∙◌, inl, inr, arith, Option, Some, None, Result, Ok, Err, append-nil, ltb-true, ◌==◌}
+use Rattle.std.proofs.Common.{◌≡◌, ◌≢◌, ◌⊎◌, ℕ, zero, suc, ◌+◌, ◌<◌, ◌≤◌, Bool, true, false, cond, ◌||◌, List, [], ◌∷◌, ◌++◌, length, take, get_or, refl, sym, ap, subst, ◌∙◌, inl, inr, arith, Option, Some, None, Result, Ok, Err, append-nil, ltb-true, ◌==◌, is_some}
 use Rattle.std.specs.Prelude.{Contains, IfSome, MatchOption, OnOk, nat_lt, slice_get, if◌then◌else◌}
 use Rattle.std.specs.List.{list_any}
-use Rattle.std.specs.FinMap.Entries.{find}
+use Rattle.std.specs.FinMap.Entries.{find, is_some-find}
 use Rattle.std.specs.Map.{keys_of}
 use Rattle.std.specs.Option.{option_and_then, option_map}
+use Rattle.std.specs.Ordering.{eq_by_cmp, nat_cmp}
+use Rattle.std.proofs.lemmas.Map.Views.{Contains-from_any}
 use Rattle.std.proofs.lemmas.Bool.{and_parts, cases_lt, eqb-true, false≢true}
 use Rattle.std.proofs.lemmas.Grind.{flat_map-append}
 use Rattle.std.proofs.lemmas.List.{length_push, take-append-le, take_all}
@@ -32,17 +34,18 @@ use Rattle.up_log_tree.proofs.Trees.{tree_of-push}
 use Rattle.up_mem_tree.specs.declared.history.Change.{Change}
 use Rattle.up_mem_tree.specs.declared.kept.Kept.{Kept}
 use Rattle.up_mem_tree.specs.declared.others.Named.{Named}
-use Rattle.up_mem_tree.specs.declared.others.Naming.{Naming}
+use Rattle.up_mem_tree.specs.declared.gone.Naming.{Naming}
 use Rattle.up_mem_tree.specs.declared.others.Others.{Others}
 use Rattle.up_mem_tree.specs.declared.steps.ParentStep.{ParentStep}
 use Rattle.up_mem_tree.specs.declared.steps.Step.{Step}
 use Rattle.up_mem_tree.specs.Kept.{IsStepFor, paths_of, slots_of}
-use Rattle.up_mem_tree.specs.Namings.{CanMeet, ChangesPath, IsFirstNaming, IsFirstOf, IsMetBy}
+use Rattle.up_mem_tree.specs.Namings.{ChangesPath, IsFirstNaming, IsFirstNow, IsFirstOf, IsFrom}
 use Rattle.up_mem_tree.specs.Others.{AreNamed, AreNamedAt, AreNamedBy, Grows, HasAccessOthers, HasAllOthers, HasGroupOthers, HasOthers, HasParentOthers, HasStepOthers, HasTested, HasTextsOthers, KeepsPaths, Releases, is_foreign, kept_of, named_at, named_by, named_then, names_now, was_then}
 use Rattle.up_mem_tree.specs.Slots.{Known}
 use Rattle.up_mem_tree.specs.Steps.{IsAboveOf, access_change, group_change, group_file, own_id}
 use Rattle.up_mem_tree.proofs.Held.{by_at, has_at, has_by, numbered}
-use Rattle.up_mem_tree.proofs.Meeting.{front_changes, group_only, last_changes, texts_of}
+use Rattle.up_mem_tree.proofs.Meeting.{front_changes, group_only, last_changes}
+use Rattle.up_mem_tree.proofs.SnapTimes.{tied}
 use Rattle.up_mem_tree.proofs.Named.{last_change-none, last_change-push}
 use Rattle.up_mem_tree.proofs.RecordChanges.{access_control, access_here, access_other, group_here, group_never, group_other, last_more}
 use Rattle.up_mem_tree.proofs.Texts.{access-is, group-is}
@@ -197,6 +200,13 @@ others_none owner records others none = subst (λ rs. AreNamed owner rs others) 
   groups_now = λ path items some. absurd (no_group owner 0 path items some);
 })
 
+-- a key is there
+key_there : (es : List (ℕ × (Unit {0}))) (p : ℕ) → is_some (find nat_cmp p es) ≡ true → Contains (keys_of es) p
+key_there es p h = Contains-from_any exact p (keys_of es) (sym (is_some-find nat_cmp p es) ∙ h)
+  where
+    exact : (a b : ℕ) → eq_by_cmp nat_cmp a b ≡ true → a ≡ b
+    exact a b t = sym (eqb-true b a (sym (tied a b) ∙ t))
+
 -- ---- what is known of all texts
 
 module _ (owner : List ℕ) (others : Others) where
@@ -248,57 +258,70 @@ module _ (owner : List ℕ) (others : Others) where
 
     -- ---- where a group can be met
 
-    -- a text that was in force after so many records names the group, and was made by a record that changes its path
-    module _ (group : PathName) (n m : ℕ) (le : n ≤ m) where
-      text_at : (p : ℕ) (o : Option Named) → named_then m p o ≡ true → (naming : Naming) × Contains (texts_of o) naming × (naming.by ≡ p) × ((naming.until ≡ 0) ⊎ (n < naming.until))
-      text_at p None h = absurd (false≢true h)
-      text_at p (Some named) h = go named.texts.items h
+    -- what a record's text had named after m records is one of its texts in force, or of those that were replaced later
+    module _ (group : PathName) (above n m : ℕ) (less : above < n) (le : n ≤ m) where
+      gone_after : (p : ℕ) (texts : List Naming) → list_any (was_then m p) texts ≡ true → (text : Naming) × Contains texts text × (text.by ≡ p) × (m < text.until)
+      gone_after p [] h = absurd (false≢true h)
+      gone_after p (t ∷ texts) h = by (was_then m p t) refl h (gone_after p texts)
         where
-          lasts : (a : Bool) (until : ℕ) → (until == 0) ≡ a → (a || nat_lt m until) ≡ true → (until ≡ 0) ⊎ (n < until)
-          lasts true until none h = inl (eqb-true until 0 none)
-          lasts false until some h = inr (let l : m < until = ltb-true m until h in omega (arith, le, l))
+          one : was_then m p t ≡ true → (text : Naming) × Contains (t ∷ texts) text × (text.by ≡ p) × (m < text.until)
+          one passes = let both = and_parts (t.by == p) (nat_lt m t.until) passes in (t, Contains-head t texts, eqb-true t.by p both.0, ltb-true m t.until both.1)
 
-          one : (texts : List Naming) (t : Naming) → was_then m p t ≡ true → (naming : Naming) × Contains (t ∷ texts) naming × (naming.by ≡ p) × ((naming.until ≡ 0) ⊎ (n < naming.until))
-          one texts t passes = let both = and_parts (t.by == p) (t.until == 0 || nat_lt m t.until) passes in (t, Contains-head t texts, eqb-true t.by p both.0, lasts (t.until == 0) t.until refl both.1)
+          by : (b : Bool) → was_then m p t ≡ b → (b || list_any (was_then m p) texts) ≡ true → (list_any (was_then m p) texts ≡ true → (text : Naming) × Contains texts text × (text.by ≡ p) × (m < text.until)) →
+              (text : Naming) × Contains (t ∷ texts) text × (text.by ≡ p) × (m < text.until)
+          by true passes h rest = one passes
+          by false fails h rest = let found = rest h in (found.0, Contains-behind t found.0 texts found.1, found.2, found.3)
 
-          go : (texts : List Naming) → list_any (was_then m p) texts ≡ true → (naming : Naming) × Contains texts naming × (naming.by ≡ p) × ((naming.until ≡ 0) ⊎ (n < naming.until))
-          go [] h = absurd (false≢true h)
-          go (t ∷ texts) h = by (was_then m p t) refl h (go texts)
-            where
-              by : (b : Bool) → was_then m p t ≡ b → (b || list_any (was_then m p) texts) ≡ true → (list_any (was_then m p) texts ≡ true → (naming : Naming) × Contains texts naming × (naming.by ≡ p) × ((naming.until ≡ 0) ⊎ (n < naming.until))) →
-                  (naming : Naming) × Contains (t ∷ texts) naming × (naming.by ≡ p) × ((naming.until ≡ 0) ⊎ (n < naming.until))
-              by true passes h rest = one texts t passes
-              by false fails h rest = let found = rest h in (found.0, Contains-behind t found.0 texts found.1, found.2, found.3)
-
-      -- so the group is met by one of its texts
-      met_by : (file changed : PathName) (groups : List PathName) → AreNamedAt owner others m (last_change (take m records) file) groups → Contains groups group → is_foreign owner group ≡ true →
-          ((is_group file ≡ true) ⊎ ((dir : PathName) × (file ≡ access_path dir) × (is_under changed dir ≡ true))) → (naming : Naming) × Contains (texts_of (kept_of others group)) naming × IsMetBy records naming n changed
-      met_by file changed groups told there foreign reaches =
+      -- so what is found over those is the first
+      met_by : (path file changed : PathName) (first : Option ℕ) (named : Named) (after : List Naming) (groups : List PathName) → kept_of others group ≡ Some named → named.until ≤ above →
+          ((text : Naming) → Contains named.gone text → above < text.until → Contains after text) → IsFirstNow records (keys_of named.by.entries) path above first → IsFirstOf records after path above first →
+          ChangesPath records n changed → is_under changed path ≡ true → AreNamedAt owner others m (last_change (take m records) file) groups → Contains groups group → is_foreign owner group ≡ true →
+          ((is_group file ≡ true) ⊎ ((dir : PathName) × (file ≡ access_path dir) × (is_under changed dir ≡ true))) → IsFrom first n
+      met_by path file changed first named after groups kept late of_gone of_now of_after is under told there foreign reaches =
           let known = known_at (last_change (take m records) file) groups m group told there foreign in
-          let text = text_at known.0 (kept_of others group) (sym (has_at others m known.0 group) ∙ known.2) in (
-            text.0,
-            text.1,
-            record {
-              lasts = text.3;
-              file = file;
-              is = subst (λ k. ChangesPath records k file) (sym text.2) (front_changes records m known.0 file (last_changes (take m records) file known.0 known.1));
-              reaches = reaches;
-            },
-          )
+          let changes : ChangesPath records known.0 file = front_changes records m known.0 file (last_changes (take m records) file known.0 known.1) in
+          by known.0 changes (is_some (find nat_cmp known.0 named.by.entries)) (nat_lt m named.until) (list_any (was_then m known.0) named.gone) refl refl refl
+          (sym (ap (named_then m known.0) kept) ∙ (sym (has_at others m known.0 group) ∙ known.2))
+        where
+          by : (p : ℕ) → ChangesPath records p file → (x y z : Bool) → is_some (find nat_cmp p named.by.entries) ≡ x → nat_lt m named.until ≡ y → list_any (was_then m p) named.gone ≡ z → (x || y || z) ≡ true → IsFrom first n
+          by p changes true y z now early later h =
+              of_now p (key_there named.by.entries p now) n changed less is under (record { lasts = inl refl; file = file; is = changes; reaches = reaches })
+          by p changes false true z now early later h = absurd (let l : m < named.until = ltb-true m named.until early in omega (arith, l, late, less, le))
+          by p changes false false true now early later h =
+              let text = gone_after p named.gone later in
+              let last : n < text.0.until = let l = text.3 in omega (arith, l, le) in
+              of_after text.0 (of_gone text.0 text.1 (omega (arith, last, less))) n changed less is under
+              (record { lasts = inr last; file = file; is = subst (λ k. ChangesPath records k file) (sym text.2) changes; reaches = reaches })
+          by p changes false false false now early later h = absurd (false≢true h)
 
-    pub can_meet : (n m : ℕ) (changed group : PathName) → n ≤ m → is_foreign owner group ≡ true → CanMeet owner records m changed group → (naming : Naming) × Contains (texts_of (kept_of others group)) naming × IsMetBy records naming n changed
-    can_meet n m changed group le foreign (inl above) =
-        met_by group n m le (access_path above.dir) changed (groups_named above.rules) (access_at m above.dir above.rules above.text) above.named foreign (inr (above.dir, refl, above.above))
-    can_meet n m changed group le foreign (inr inside) =
-        met_by group n m le inside.file changed (groups_in inside.items) (group_at m inside.file inside.items inside.text) inside.named foreign (inl (group_only owner records m inside.file inside.items inside.text))
-
-    -- what is found over all texts of a group is the first
-    pub first_told : (group path : PathName) (above : ℕ) (first : Option ℕ) → IsFirstOf records (texts_of (kept_of others group)) path above first → is_foreign owner group ≡ true → IsFirstNaming owner records group path above first
-    first_told group path above first told foreign = record {
-      each = λ n m changed less le is under meets.
-          let met = can_meet n m changed group le foreign meets in
-          told met.0 met.1 n changed less is under met.2;
+    -- what is found over the texts of a group is the first
+    pub first_told : (group path : PathName) (above : ℕ) (first : Option ℕ) (named : Named) (after : List Naming) → kept_of others group ≡ Some named → named.until ≤ above →
+        ((text : Naming) → Contains named.gone text → above < text.until → Contains after text) → IsFirstNow records (keys_of named.by.entries) path above first → IsFirstOf records after path above first →
+        is_foreign owner group ≡ true → IsFirstNaming owner records group path above first
+    first_told group path above first named after kept late of_gone of_now of_after foreign = record {
+      each = λ n m changed less le is under meets. elim meets [
+        | inl here ↦
+            met_by group above n m less le path (access_path here.dir) changed first named after (groups_named here.rules) kept late of_gone of_now of_after is under (access_at m here.dir here.rules here.text) here.named foreign
+            (inr (here.dir, refl, here.above))
+        | inr inside ↦
+            met_by group above n m less le path inside.file changed first named after (groups_in inside.items) kept late of_gone of_now of_after is under (group_at m inside.file inside.items inside.text) inside.named foreign
+            (inl (group_only owner records m inside.file inside.items inside.text))
+      ];
     }
+
+    -- of a group that no text names, or has named
+    pub first_nowhere : (group path : PathName) (above : ℕ) → kept_of others group ≡ None → is_foreign owner group ≡ true → IsFirstNaming owner records group path above None
+    first_nowhere group path above none foreign = record {
+      each = λ n m changed less le is under meets. elim meets [
+        | inl here ↦ unknown m (access_path here.dir) (groups_named here.rules) (access_at m here.dir here.rules here.text) here.named
+        | inr inside ↦ unknown m inside.file (groups_in inside.items) (group_at m inside.file inside.items inside.text) inside.named
+      ];
+    }
+      where
+        unknown : (m : ℕ) (file : PathName) (groups : List PathName) → AreNamedAt owner others m (last_change (take m records) file) groups → Contains groups group → ⊥
+        unknown m file groups told there =
+            let known = known_at (last_change (take m records) file) groups m group told there foreign in
+            false≢true (sym (ap (named_then m known.0) none) ∙ (sym (has_at others m known.0 group) ∙ known.2))
 
 -- ---- more is known
 

@@ -7,6 +7,7 @@ pub mod Kept
 pub mod Starts
 pub mod ChangesBelow
 pub mod Groups
+pub mod Gone
 pub mod Others
 pub mod Namings
 pub mod MemTrees

@@ -1,10 +1,11 @@
 -- The groups of other owners that the texts of a log name, and named once. This project's own.
 use Rattle.std.specs.Prelude.{◌≡◌, ◌≢◌, ◌<◌, ◌==◌, ℕ, Bool, true, false, not, ◌&&◌, ◌||◌, List, length, filter, take, nat_lt, slice_get}
-use Rattle.std.specs.Prelude.{Option, Some, None, Contains, IfSome, ⊤}
+use Rattle.std.specs.Prelude.{Option, Some, None, is_some, Contains, IfSome, ⊤}
 use Rattle.std.specs.List.{list_any}
 use Rattle.std.specs.FinMap.Entries.{find}
 use Rattle.std.specs.Map.{keys_of}
 use Rattle.std.specs.Option.{option_and_then}
+use Rattle.std.specs.Ordering.{nat_cmp}
 use Rattle.std.specs.Str.{bytes_eq}
 use Rattle.up_names.specs.Texts.{UserName}
 use Rattle.up_names.specs.PathNames.{PathName}
@@ -20,7 +21,7 @@ use Rattle.up_log_tree.specs.Rights.{access_path, facts_of}
 use Rattle.up_log_tree.specs.Trees.{tree_at}
 use Rattle.up_mem_tree.specs.declared.history.Change.{Change}
 use Rattle.up_mem_tree.specs.declared.others.Named.{Named}
-use Rattle.up_mem_tree.specs.declared.others.Naming.{Naming}
+use Rattle.up_mem_tree.specs.declared.gone.Naming.{Naming}
 use Rattle.up_mem_tree.specs.declared.others.Others.{Others}
 use Rattle.up_mem_tree.specs.declared.steps.ParentStep.{ParentStep}
 use Rattle.up_mem_tree.specs.declared.steps.Step.{Step}
@@ -54,23 +55,20 @@ pub record KeepsPaths (old new : List PathName) : Type 0 where
 abbrev pub kept_of : Others → PathName → Option Named
 kept_of others group = option_and_then (slice_get others.named.items) (find path_cmp group others.numbers.entries)
 
--- the text of the record at that position names it, and no record has replaced that text
-abbrev pub is_now : ℕ → Naming → Bool
-is_now position naming = naming.by == position && naming.until == 0
-
--- the text of the record at that position names it, and no record had replaced that text after the first n records
+-- this is the text of the record at that position, and no record had replaced it after the first n records
 abbrev pub was_then : ℕ → ℕ → Naming → Bool
-was_then n position naming = naming.by == position && (naming.until == 0 || nat_lt n naming.until)
+was_then n position naming = naming.by == position && nat_lt n naming.until
 
--- a text that names a group is known by the record at that position, and is in force still
+-- the text of the record at that position is one of those that name a group now
 abbrev pub names_now : ℕ → Option Named → Bool
 names_now position None = false
-names_now position (Some named) = list_any (is_now position) named.texts.items
+names_now position (Some named) = is_some (find nat_cmp position named.by.entries)
 
--- a text that names a group is known by the record at that position, and was in force still after the first n records
+-- the text of the record at that position is one of those that name a group, and had not been replaced after the first n records; or there
+-- was no memory to keep which texts were replaced, of which some was later than that
 abbrev pub named_then : ℕ → ℕ → Option Named → Bool
 named_then n position None = false
-named_then n position (Some named) = list_any (was_then n position) named.texts.items
+named_then n position (Some named) = names_now position (Some named) || nat_lt n named.until || list_any (was_then n position) named.gone
 
 -- the groups that the text of the record at that position is known to name
 abbrev pub named_by : Others → ℕ → List PathName
@@ -109,7 +107,8 @@ pub record Grows (old new : Others) : Type 0 where
   pub by : (position : ℕ) → KeepsPaths (named_by old position) (named_by new position)
   pub at : (n position : ℕ) → KeepsPaths (named_at old n position) (named_at new n position)
 
--- what was known is known still, but for a text that a record replaces: that was in force until that record
+-- of the tree as it is, what was known is known still but for the text of the record at `gone`; of the trees after fewer than `until`
+-- records, all of it
 pub record Releases (gone : Option ℕ) (until : ℕ) (old new : Others) : Type 0 where
   pub by : (position : ℕ) → gone ≢ Some position → KeepsPaths (named_by old position) (named_by new position)
   pub at : (n position : ℕ) → n < until → KeepsPaths (named_at old n position) (named_at new n position)

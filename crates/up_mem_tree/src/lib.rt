@@ -1,13 +1,13 @@
 //! The tree that a log gives, kept in memory.
 //!
 //! A [`MemTree`] is seen as its owner, the records of its log, and the record that was made ready to be entered next. Each entry is kept
-//! once, in its record. `node` is exactly what stands at a path, `standing` what stands nearest to it on the way up, `child` a directory's children in the order of paths,
-//! `access_at` and `group_at` the texts of control files after any number of records, `nearest_at` the one that governs a path; `fits`
-//! tells exactly whether a record fits the log. `make_ready` takes all memory that a record needs, so that `enter` takes none. Each
-//! call costs what it looks at, times a logarithm: so do `positions_under`, of the changes at and below a path, and `texts_stay`, by
-//! which what a text decided at one position is known to hold at another, whatever the records between them change. `others` has each
-//! group of another owner that a text names, or has named, and `first_naming` tells from which change on such a group can be met at all.
-//! `laws.rt` says what holds of every log.
+//! once, in its record. `node` is exactly what stands at a path, `standing` what stands nearest to it on the way up, `child` a directory's
+//! children in the order of paths, `access_at` and `group_at` the texts of control files after any number of records, `nearest_at` the one
+//! that governs a path; `fits` tells exactly whether a record fits the log. `make_ready` takes all memory that a record needs, so that
+//! `enter` takes none. Each call costs what it looks at, times a logarithm: so do `positions_under`, of the changes at and below a path,
+//! and `texts_stay`, by which what a text decided at one position is known to hold at another, whatever the records between them change.
+//! `others` has each group of another owner that a text names, or has named, and `first_naming` a position before which no change can meet
+//! such a group by the tree's own texts. `laws.rt` says what holds of every log.
 #![tactic(auto)]
 
 mod changes;
@@ -15,6 +15,7 @@ mod changes_below;
 mod edits;
 mod entering;
 mod fitting;
+mod gone;
 mod groups;
 mod guesses;
 mod history;

@@ -21,7 +21,7 @@ ghost use Rattle.up_log_tree.specs.Trees.{children, is_parent, node_at, standing
 use crate::changes_below::{Under, changes_above, make_room, note, reserve_one};
 use crate::groups::{group_change_at, note_group};
 use crate::kept::Kept;
-use crate::namings::first_met;
+use crate::namings::{earlier, first_met, first_now};
 use crate::nodes::{NodeRef, record_at};
 use crate::others::{Others, add_step};
 use crate::starts::start_of;
@@ -300,12 +300,13 @@ impl MemTree {
         &self.others.numbers
     }
 
-    /// Of the records above `above` that change a path under this one, the position before which none can need a group of another owner:
-    /// from the path that one of these changes no text can be met that names the group, neither directly after the record nor later. `None`
-    /// where this holds of all of them.
+    /// A position before which no change of a path under this one, of those above `above`, can meet a group of another owner by the tree's
+    /// own texts: as the tree is directly after the change, or later. `None` where none above `above` can. It need not be the first such
+    /// change.
     ///
-    /// It looks at the texts that name the group, or have named it, and for each at the changes below its directory, by bisection. Where
-    /// they are more than `most`, or one is that of a Group file, it is `above`. It takes no memory.
+    /// It looks at the texts that name the group, and at those that have named it and were replaced above `above`: each costs two walks
+    /// down and a bisection. It is `above` where these are more than `most`, and where one of them is a Group file's, or an Access file's
+    /// at the path or above it. It takes no memory.
     pub fn first_naming(&self, group: &Path, path: &Path, above: u64, most: u64) -> Option<u64>
         ensures { is_foreign self.now.owner group.now ≡ true
             → IsFirstNaming self.now.owner self.now.log group.now path.now above result }
@@ -313,11 +314,14 @@ impl MemTree {
         let Some(named) = self.others.kept_of(group) else {
             return None;
         };
-        if named.texts.len() as u64 > most {
+        let gone = named.gone.after(above);
+        let texts = named.by.len().saturating_add(gone.len() as u64);
+        if named.until > above || texts > most {
             return Some(above);
         }
         let below = self.changes_below.as_slice();
-        first_met(below, &self.kept, named.texts.as_slice(), path, above)
+        let now = first_now(below, &self.kept, &named.by, path, above);
+        earlier(now, first_met(below, &self.kept, gone, path, above))
     }
 
     /// The position of the snapshot of that time.

@@ -1,17 +1,19 @@
 //! From which record on a text can be met that names a group.
 ghost use Rattle.std.specs.Prelude.{◌≡◌, ◌<◌, ◌⊎◌, ℕ, true, slice_get};
+ghost use Rattle.std.specs.Map.{keys_of};
 ghost use Rattle.up_names.specs.PathNames.{PathName, is_under};
 ghost use Rattle.up_mem_tree.specs.ChangesBelow.{AreNoted, noted_all};
 ghost use Rattle.up_mem_tree.specs.Kept.{Stands, slots_of};
-ghost use Rattle.up_mem_tree.specs.Namings.{ChangesPath, IsFirstMet, IsFirstOf, IsFrom};
+ghost use Rattle.up_mem_tree.specs.Namings.{ChangesPath, IsFirstMet, IsFirstNow, IsFirstOf, IsFrom};
 ghost use Rattle.up_log_tree.specs.Changes.{changes_under};
 ghost use Rattle.up_log_tree.specs.Rights.{access_path};
 
 use crate::changes_below::{Under, changes_above, path_of_change};
+use crate::gone::Naming;
 use crate::kept::Kept;
 use crate::nodes::record_at;
-use crate::others::Naming;
 use crate::slots::path_in;
+use up_maps::OrderedMap;
 use up_names::{Control, Path};
 
 /// The first change above `above` in one directory or below it.
@@ -25,8 +27,8 @@ fn first_below(changes_below: &[Under], kept: &Kept, dir: &Path, above: u64) -> 
         .copied()
 }
 
-/// The first change above `above` in the directory of an Access file or below it, of those under a path; `above` where the path itself is
-/// in the directory or below it.
+/// The first change above `above` in the directory of an Access file or below it, where this is under a path; `above` where the path itself
+/// is in the directory or below it, or the directory has no slot; and none where neither path is above the other.
 fn first_under(
     changes_below: &[Under],
     kept: &Kept,
@@ -81,7 +83,7 @@ fn first_reached(
     }
 }
 
-/// The first change that a text lasts until, where it was replaced at `until`; it was not where that is 0.
+/// The first change, where the text still lasts directly after it; `until` is 0 where the text was not replaced.
 fn lasting(first: Option<u64>, until: u64) -> Option<u64>
     ensures { (n : ℕ) → IsFrom first n → (until ≡ 0) ⊎ (n < until) → IsFrom result n }
 {
@@ -107,8 +109,8 @@ fn first_of(
     lasting(first, naming.until)
 }
 
-/// The earlier of two positions, where there are two.
-fn earlier(one: Option<u64>, other: Option<u64>) -> Option<u64>
+/// The earlier of two positions, or the only one.
+pub(crate) fn earlier(one: Option<u64>, other: Option<u64>) -> Option<u64>
     ensures one { (n : ℕ) → IsFrom one n → IsFrom result n }
     ensures other { (n : ℕ) → IsFrom other n → IsFrom result n }
 {
@@ -117,6 +119,32 @@ fn earlier(one: Option<u64>, other: Option<u64>) -> Option<u64>
         (Some(one), None) => Some(one),
         (None, other) => other,
     }
+}
+
+/// The first change above `above` of a path under this one at which the text of one of these records can be met, none of which was
+/// replaced.
+pub(crate) fn first_now(
+    changes_below: &[Under],
+    kept: &Kept,
+    records: &OrderedMap<u64, ()>,
+    path: &Path,
+    above: u64,
+) -> Option<u64>
+    requires stands { Stands kept.now }
+    requires noted { AreNoted kept.now.log.items (slots_of kept.now) (noted_all changes_below.now) }
+    ensures { IsFirstNow kept.now.log.items (keys_of records.now.entries) path.now above result }
+{
+    let mut first = None;
+    for i in 0..u64::MAX {
+        let Some(by) = records.key_at(i) else {
+            return first;
+        };
+        let text = Naming { by: *by, until: 0 };
+        let next = first_of(changes_below, kept, text, path, above);
+        first = earlier(first, next);
+    }
+    // No memory holds so many.
+    Some(above)
 }
 
 /// The first change above `above` of a path under this one at which one of these texts can be met.

@@ -1,5 +1,6 @@
 //! The groups of other owners that texts name, or have named, each with the records that have made these texts.
-ghost use Rattle.std.specs.Prelude.{◌≡◌, ◌≢◌, ◌≤◌, ◌∷◌, ◌<◌, ◌+◌, ℕ, [], Some, true, not, length, IfOk, MatchOption, OnOk};
+ghost use Rattle.std.specs.Prelude.{◌≡◌, ◌≢◌, ◌≤◌, ◌∷◌, ◌<◌, ◌+◌, ◌||◌, ℕ, [], Some, true, not, length, nat_lt, IfOk, MatchOption, OnOk};
+ghost use Rattle.std.specs.List.{list_any};
 ghost use Rattle.std.specs.FinMap.Entries.{find};
 ghost use Rattle.std.specs.Option.{option_and_then, option_copied};
 ghost use Rattle.up_names.specs.PathNames.{PathName};
@@ -8,9 +9,10 @@ ghost use Rattle.up_policy.specs.Members.{groups_in};
 ghost use Rattle.up_policy.specs.Reached.{groups_named};
 ghost use Rattle.up_log_tree.specs.Changes.{last_change, path_of_change};
 ghost use Rattle.up_mem_tree.specs.Kept.{Stands};
-ghost use Rattle.up_mem_tree.specs.Others.{Grows, HasAccessOthers, HasGroupOthers, HasOthers, HasParentOthers, HasStepOthers, HasTextsOthers, Releases, is_foreign, kept_of, named_by, named_then, names_now};
+ghost use Rattle.up_mem_tree.specs.Others.{Grows, HasAccessOthers, HasGroupOthers, HasOthers, HasParentOthers, HasStepOthers, HasTextsOthers, Releases, is_foreign, kept_of, named_by, named_then, names_now, was_then};
 
 use crate::changes_below::path_of_change;
+use crate::gone::Gone;
 use crate::history::Change;
 use crate::kept::Kept;
 use crate::slots::{Slot, slot_at};
@@ -22,18 +24,16 @@ use up_group::GroupText;
 use up_maps::OrderedMap;
 use up_names::{Item, Path, User};
 
-/// A text that names a group, or has named it: the position of the record that made it, perhaps one that was made ready and never entered;
-/// and that of the record that replaced the text, or 0 while none has.
-#[derive(Clone, Copy)]
-pub(crate) struct Naming {
-    pub(crate) by: u64,
-    pub(crate) until: u64,
-}
-
-/// The texts that name a group of another owner, or have named it, in the order of the records that made them.
+/// The texts that name a group of another owner, or have named it.
 #[derive(Drop)]
 pub(crate) struct Named {
-    pub(crate) texts: Vec<Naming>,
+    /// The positions of the records whose texts name it now; perhaps also that of one that was made ready and never entered, where another
+    /// record may stand then.
+    pub(crate) by: OrderedMap<u64, ()>,
+    /// The texts that were replaced.
+    pub(crate) gone: Gone,
+    /// The position of the last record that replaced a text which there was no memory to keep, or 0.
+    pub(crate) until: u64,
 }
 
 /// The groups of other owners that texts name, or have named. A group that is here once stays.
@@ -45,59 +45,52 @@ pub(crate) struct Others {
     pub(crate) named: Vec<Named>,
 }
 
-/// The place of the text that the record at a position has made, where it is here.
-fn place_of(texts: &[Naming], by: u64) -> usize
-    ensures { result ≤ length texts.now }
-{
-    let mut low = 0;
-    let mut high = texts.len();
-    while low < high {
-        let middle = low + (high - low) / 2;
-        if texts[middle].by < by {
-            low = middle + 1;
-        } else {
-            high = middle;
-        }
-    }
-    low
-}
-
 impl Named {
-    /// Whether it was noted last that the text of the record at a position names it.
-    fn is_noted(&self, position: u64) -> bool
-        ensures { result ≡ true → names_now position (Some self.now) ≡ true }
-    {
-        match self.texts.last() {
-            Some(last) => last.by == position && last.until == 0,
-            None => false,
+    /// None. It takes no memory.
+    fn new(alloc: Global) -> Named {
+        Named {
+            by: OrderedMap::new(alloc),
+            gone: Gone::new(alloc),
+            until: 0,
         }
     }
 
-    /// The text of the record at a position names it.
+    /// The text of the record at a position names it. It makes room for the time when each of these texts is replaced.
     fn note(&mut self, position: u64) -> Result<(), AllocError>
         ensures kept { (p : ℕ) → names_now p (Some self.old) ≡ true → names_now p (Some self.new) ≡ true }
         ensures was { (n p : ℕ) → named_then n p (Some self.old) ≡ true → named_then n p (Some self.new) ≡ true }
         ensures noted { OnOk result (names_now position (Some self.new) ≡ true) }
     {
-        if self.is_noted(position) {
-            return Ok(());
-        }
-        self.texts.reserve(1)?;
-        self.texts.push_reserved(Naming {
-            by: position,
-            until: 0,
-        });
+        let texts = self.by.len() as usize;
+        self.gone.reserve(texts.saturating_add(1))?;
+        self.by.reserve_one()?;
+        self.by.put_reserved(position, ());
         Ok(())
     }
 
-    /// The text of the record at `gone` is replaced by the record at `position`.
+    /// Keeps that the text of the record at `gone` was replaced by the record at `position`; where there is no memory for it, that some
+    /// text was.
+    fn remember(&mut self, gone: u64, position: u64)
+        ensures by { self.new.by ≡ self.old.by }
+        ensures kept { (n : ℕ) → n < position
+            → (nat_lt n self.new.until || list_any (was_then n gone) self.new.gone) ≡ true }
+        ensures later { (n : ℕ) → n < position → nat_lt n self.old.until ≡ true
+            → nat_lt n self.new.until ≡ true }
+        ensures texts { (n p : ℕ) → list_any (was_then n p) self.old.gone ≡ true
+            → list_any (was_then n p) self.new.gone ≡ true }
+    {
+        if !self.gone.push(gone, position) {
+            self.until = position;
+        }
+    }
+
+    /// The text of the record at `gone` is replaced by the record at `position`. It takes no memory.
     fn release(&mut self, gone: u64, position: u64)
         ensures kept { (p : ℕ) → p ≢ gone → names_now p (Some self.old) ≡ true → names_now p (Some self.new) ≡ true }
         ensures was { (n p : ℕ) → n < position → named_then n p (Some self.old) ≡ true → named_then n p (Some self.new) ≡ true }
     {
-        let place = place_of(self.texts.as_slice(), gone);
-        if place < self.texts.len() && self.texts[place].by == gone {
-            self.texts[place].until = position;
+        if self.by.remove(&gone) {
+            self.remember(gone, position);
         }
     }
 }
@@ -159,9 +152,7 @@ impl Others {
         self.numbers.reserve_one()?;
         self.named.reserve(1)?;
         self.numbers.put_reserved(group, id);
-        self.named.push_reserved(Named {
-            texts: Vec::new(alloc),
-        });
+        self.named.push_reserved(Named::new(alloc));
         Ok(id)
     }
 

@@ -14,4 +14,4 @@ loop-i-preserved c =
     soon_next entries c.loop-i.i key.0 c.in-Some.from c.loop-i.soon c.min-soon.result key.1 (sym (c.from_at.ensures key.0 (sym key.1)) ∙ c.in-Some.is) (omega (arith, c.min-soon.ensures)) (omega (arith, c.min-soon.ensures)) c.loop-i.invariant
 
 pub returns : goal.returns
-returns c = soon_end c.args.groups.now.entries c.loop-i.i c.loop-i.soon (omega (arith, c.loop-i-test.false, c.len-i-end.ensures)) c.loop-i.invariant
+returns c = λ early. soon_end c.args.groups.now.entries c.loop-i.i c.loop-i.soon (omega (arith, c.loop-i-test.false, c.len-i-end.ensures)) c.loop-i.invariant
